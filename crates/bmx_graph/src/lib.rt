@@ -1,0 +1,7 @@
+//! The plain graph that all nodes share: objects by name, registers, tokens. It knows of no replica,
+//! address or collection, and is what the answers of a store are measured by.
+#![tactic(auto)]
+
+mod answers;
+
+pub use answers::Answer;
