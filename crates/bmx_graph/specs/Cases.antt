@@ -3,6 +3,7 @@ use Rattle.std.specs.Prelude.{◌≡◌, ℕ, ◌^◌, ◌-◌, pos, negsuc, Lis
 use Rattle.bmx_types.specs.declared.values.Val.TheVariants as val
 use Rattle.bmx_types.specs.declared.openings.Birth.{Birth}
 use Rattle.bmx_types.specs.declared.numbers.Mode.TheVariants as mode
+use Rattle.bmx_types.specs.declared.commands.Operand.{Operand}
 use Rattle.bmx_types.specs.declared.commands.Operand.TheVariants as operand
 use Rattle.bmx_types.specs.declared.commands.Command.{Command}
 use Rattle.bmx_types.specs.declared.commands.Command.TheVariants as command
@@ -21,10 +22,10 @@ answers_to s (c ∷ cs) = answer_of s c.0 c.1 ∷ answers_to (state_after s c.0 
 abbrev pub one_bunch : State
 one_bunch = opening_state (record { name = 1; bunch = 0; fields = replicate 32 val.Null } ∷ [])
 
-abbrev pub r0 : _
+abbrev pub r0 : Operand
 r0 = operand.Register 0
 
-abbrev pub anchor : _
+abbrev pub anchor : Operand
 anchor = operand.Anchor 0
 
 -- a field is set and shown
