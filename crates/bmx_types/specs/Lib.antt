@@ -1,2 +1,3 @@
-pub mod Words
+pub mod Integers
 pub mod Openings
+pub mod Words

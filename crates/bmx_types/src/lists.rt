@@ -1,10 +1,10 @@
-ghost use Rattle.std.specs.Prelude.{◌≡◌, ℕ, List, [], ◌∷◌, ◌++◌, ◌<◌, length, take, IsOk, IfOk, OnOk, OnErr, slice_get, insert, remove, Some, IsTrue, ◌↔◌, ◌≤◌};
+ghost use Rattle.std.specs.Prelude.{◌≡◌, ℕ, List, [], ◌∷◌, ◌++◌, ◌<◌, length, take, IsOk, IfOk, OnOk, OnErr, slice_get, slice_set, insert, remove, Some, IsTrue, ◌↔◌, ◌≤◌};
 ghost use Rattle.std.specs.Slice.Iter.{iter_rest};
 
 use crate::numbers::NoMemory;
 use std::alloc::Global;
 use std::marker::Model;
-use std::slice;
+use std::{mem, slice};
 
 /// A list that contracts see as a list.
 #[derive(Debug, Drop)]
@@ -107,6 +107,25 @@ impl<T: Drop> Items<T> {
     {
         self.items.insert(i, item)?;
         Ok(())
+    }
+
+    /// Puts an item in the place of another.
+    pub fn set(&mut self, i: usize, item: T)
+        requires { i < length self.old }
+        ensures { self.new ≡ slice_set self.old i item }
+    {
+        self.items[i] = item;
+    }
+
+    /// Takes all items out, with their memory, and leaves the empty list.
+    pub fn take(&mut self) -> Items<T>
+        ensures items { result ≡ self.old }
+        ensures rest { self.new ≡ [] }
+    {
+        let empty = Vec::new(*self.items.allocator());
+        Items {
+            items: mem::replace(&mut self.items, empty),
+        }
     }
 
     /// Takes all items out. The memory is kept for later ones.

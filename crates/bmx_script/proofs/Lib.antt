@@ -1,0 +1,6 @@
+pub mod Exact
+pub mod FieldLemmas
+pub mod LineFeeds
+pub mod OtherCounts
+pub mod Sound
+pub mod Words

@@ -1,0 +1,116 @@
+-- A reader that goes on over a line stays sound.
+use Rattle.std.proofs.Common.{◌≡◌, ℕ, ◌+◌, ◌<◌, ◌≤◌, ◌^◌, ◌==◌, Bool, true, false, not, ◌&&◌, nat_lt, List, [], ◌∷◌, ◌++◌, length, Option, Some, None, refl, ap, sym, ◌∙◌, subst, suc, zero, ⊎_elim, arith}
+use Rattle.std.specs.List.{list_any}
+use Rattle.std.proofs.lemmas.Bool.{and_parts, ltb-true, eqb-true, not-true, ltb-false, or_parts, cases_lt}
+use Rattle.std.proofs.Math.ListN.{get_or-append, length-append}
+use Rattle.std.proofs.Math.Seq.{get_or-append_seam}
+use Rattle.bmx_numerals.specs.declared.fields.Field.{Field}
+use Rattle.bmx_numerals.specs.declared.fields.Field.TheVariants.{Form, Range, Good}
+use Rattle.bmx_script.specs.declared.knowledge.Known.{Known}
+use Rattle.bmx_script.specs.declared.lines.Line.{Line}
+use Rattle.bmx_script.specs.declared.lines.LineKind.{LineKind}
+use Rattle.bmx_script.specs.declared.lines.LineKind.TheVariants as line
+use Rattle.bmx_script.specs.declared.scripts.Reader.{Reader}
+use Rattle.bmx_script.specs.Grammar.{may_follow, section_of, is_built, in_range, same_word, nothing_known, known_after, known_after_all, IsGood, AreInOrder, HasRoom, is_long, is_skipped, IsVerdict}
+use Rattle.bmx_script.specs.Spelling.{word_of}
+use Rattle.bmx_script.specs.Distinct.{AreDistinct}
+use Rattle.bmx_script.specs.Reader.{verdict_of, end_of, noted, IsSound}
+use Rattle.bmx_script.proofs.Exact.{Tells}
+
+-- the verdict on a line that was read
+pub verdict_from : (k : Known) (number end : ℕ) (text : List ℕ) (f : Field LineKind) → is_long number end ≡ false → is_skipped number text ≡ false → Tells k text f → IsVerdict k number end text (verdict_of f)
+verdict_from k number end text Form near here tells = (near, here, tells)
+verdict_from k number end text Range near here tells = (near, here, tells.0, tells.1)
+verdict_from k number end text (Good what) near here tells = (near, here, tells)
+
+none_at : (w : List ℕ) (ws : List (List ℕ)) (i : ℕ) → list_any (same_word w) ws ≡ false → i < length ws → same_word w (word_of ws i) ≡ false
+none_at w [] i h below = absurd (omega arith)
+none_at w (x ∷ xs) zero h below = (or_parts (same_word w x) (list_any (same_word w) xs) h).0
+none_at w (x ∷ xs) (suc i) h below = none_at w xs i (or_parts (same_word w x) (list_any (same_word w) xs) h).1 (omega arith)
+
+-- a new word is none of the old ones
+distinct_push : (ws : List (List ℕ)) (w : List ℕ) → AreDistinct ws → list_any (same_word w) ws ≡ false → AreDistinct (ws ++ w ∷ [])
+distinct_push ws w distinct new q b before within =
+    let long : length (ws ++ w ∷ []) ≡ length ws + 1 = length-append ws (w ∷ []) in
+    ⊎_elim
+    (λ (below : b < length ws).
+    rw (get_or-append ws (w ∷ []) [] b below, get_or-append ws (w ∷ []) [] q (omega arith)) (distinct q b before below))
+    (λ (above : length ws ≤ b).
+    let last : b ≡ length ws = omega arith in
+    rw (last, get_or-append_seam ws w [] [], get_or-append ws (w ∷ []) [] q (omega arith)) (none_at w ws q new (omega arith)))
+    (cases_lt b (length ws))
+
+-- lines in order, and one that may stand behind them
+order_push : (k : Known) (ls : List Line) (l : Line) → AreInOrder k ls → may_follow (known_after_all k ls).section (section_of l.what) ≡ true → is_built l.what ≡ true
+    → in_range (known_after_all k ls) l.what ≡ true → AreInOrder k (ls ++ l ∷ [])
+order_push k [] l order stands built range = (stands, built, range, tt)
+order_push k (m ∷ ms) l order stands built range = (order.0, order.1, order.2, order_push (known_after k m.what) ms l order.3 stands built range)
+
+known_push : (k : Known) (ls : List Line) (l : Line) → known_after_all k (ls ++ l ∷ []) ≡ known_after (known_after_all k ls) l.what
+known_push k [] l = refl
+known_push k (m ∷ ms) l = known_push (known_after k m.what) ms l
+
+distinct_after : (k : Known) (what : LineKind) → AreDistinct k.bunches → in_range k what ≡ true → AreDistinct (known_after k what).bunches
+distinct_after k line.Version d range = d
+distinct_after k (line.Nodes count) d range = d
+distinct_after k (line.Bunch w file) d range = distinct_push k.bunches w d (not-true (list_any (same_word w) k.bunches) (and_parts (not (list_any (same_word w) k.bunches)) (nat_lt (length k.bunches) 16) range).0)
+distinct_after k (line.Segments l) d range = d
+distinct_after k (line.Table f t n fate) d range = d
+distinct_after k (line.TablesLose e) d range = d
+distinct_after k (line.Save b f) d range = d
+distinct_after k line.Phase d range = d
+distinct_after k line.Quiet d range = d
+distinct_after k (line.Do n c) d range = d
+distinct_after k (line.Collect n b) d range = d
+distinct_after k (line.Sweep n) d range = d
+distinct_after k line.Settle d range = d
+
+same_room : {k l : Known} → HasRoom k → k.nodes ≡ l.nodes → length k.bunches ≡ length l.bunches → HasRoom l
+same_room {k} {l} r n b = record { few_nodes = rw (← n) r.few_nodes; few_bunches = rw (← b) r.few_bunches }
+
+room_after : (k : Known) (what : LineKind) → HasRoom k → in_range k what ≡ true → HasRoom (known_after k what)
+room_after k line.Version r range = record { few_nodes = r.few_nodes; few_bunches = r.few_bunches }
+room_after k (line.Nodes count) r range = record { few_nodes = rw (eqb-true count 1 range) (omega arith); few_bunches = r.few_bunches }
+room_after k (line.Bunch w file) r range =
+    let room : length k.bunches < 16 = ltb-true (length k.bunches) 16 (and_parts (not (list_any (same_word w) k.bunches)) (nat_lt (length k.bunches) 16) range).1 in
+    record { few_nodes = r.few_nodes; few_bunches = omega (arith, length-append k.bunches (w ∷ [])) }
+room_after k (line.Segments l) r range = record { few_nodes = r.few_nodes; few_bunches = r.few_bunches }
+room_after k (line.Table f t n fate) r range = record { few_nodes = r.few_nodes; few_bunches = r.few_bunches }
+room_after k (line.TablesLose e) r range = record { few_nodes = r.few_nodes; few_bunches = r.few_bunches }
+room_after k (line.Save b f) r range = record { few_nodes = r.few_nodes; few_bunches = r.few_bunches }
+room_after k line.Phase r range = record { few_nodes = r.few_nodes; few_bunches = r.few_bunches }
+room_after k line.Quiet r range = record { few_nodes = r.few_nodes; few_bunches = r.few_bunches }
+room_after k (line.Do n c) r range = record { few_nodes = r.few_nodes; few_bunches = r.few_bunches }
+room_after k (line.Collect n b) r range = record { few_nodes = r.few_nodes; few_bunches = r.few_bunches }
+room_after k (line.Sweep n) r range = record { few_nodes = r.few_nodes; few_bunches = r.few_bunches }
+room_after k line.Settle r range = record { few_nodes = r.few_nodes; few_bunches = r.few_bunches }
+
+-- the reader behind a line
+abbrev pub advanced : Reader → List ℕ → Reader
+advanced r text = record { known = r.known; lines = r.lines; number = r.number + 1; start = r.start + (length text + 1) }
+
+near_bounds : (number end : ℕ) → is_long number end ≡ false → (number ≤ 20000) × (end ≤ 2 ^ 20)
+near_bounds number end h =
+    let parts : (nat_lt 20000 number ≡ false) × (nat_lt (2 ^ 20) end ≡ false) = or_parts (nat_lt 20000 number) (nat_lt (2 ^ 20) end) h in
+    (ltb-false 20000 number parts.0, ltb-false (2 ^ 20) end parts.1)
+
+pub sound_skipped : (r : Reader) (text : List ℕ) → IsSound r → is_long r.number (end_of r text) ≡ false → IsSound (advanced r text)
+sound_skipped r text s near =
+    let bounds : (r.number ≤ 20000) × (end_of r text ≤ 2 ^ 20) = near_bounds r.number (end_of r text) near in
+    record { order = s.order; known = s.known; distinct = s.distinct; room = s.room; some = omega arith; few = omega (arith, bounds.0); short = bounds.1 }
+
+pub sound_noted : (r : Reader) (text : List ℕ) (what : LineKind) → IsSound r → is_long r.number (end_of r text) ≡ false → IsGood r.known what text → IsSound (advanced (noted r what) text)
+sound_noted r text what s near good =
+    let bounds : (r.number ≤ 20000) × (end_of r text ≤ 2 ^ 20) = near_bounds r.number (end_of r text) near in
+    let l : Line = record { number = r.number; what = what } in
+    let stands : may_follow (known_after_all nothing_known r.lines).section (section_of what) ≡ true = ap (λ (k : Known). may_follow k.section (section_of what)) (sym s.known) ∙ good.form.stands in
+    let range : in_range (known_after_all nothing_known r.lines) what ≡ true = ap (λ (k : Known). in_range k what) (sym s.known) ∙ good.range in
+    record {
+      order = order_push nothing_known r.lines l s.order stands good.form.built range;
+      known = ap (λ (k : Known). known_after k what) s.known ∙ sym (known_push nothing_known r.lines l);
+      distinct = distinct_after r.known what s.distinct good.range;
+      room = room_after r.known what s.room good.range;
+      some = omega arith;
+      few = omega (arith, bounds.0);
+      short = bounds.1;
+    }

@@ -1,0 +1,109 @@
+-- A line and its words: what lies between its spaces.
+use Rattle.std.proofs.Common.{◌≡◌, ℕ, ◌+◌, ◌<◌, ◌≤◌, ◌==◌, Bool, true, false, cond, not, ◌&&◌, ◌||◌, nat_lt, nat_le, List, [], ◌∷◌, ◌++◌, length, get_or, suc, zero, Option, Some, None, slice_index_or, refl, ap, sym, ◌∙◌, arith}
+use Rattle.std.specs.List.{list_any, list_all, position_from, slice_split, onto_first, join_with_byte}
+use Rattle.std.proofs.lemmas.Bool.{and_parts, and_from, eqb-true, ltb-true, lt-ltb, leb-true, not-true, false_from_ne_true}
+use Rattle.std.specs.Prelude.{IsUtf8, slice_index}
+use Rattle.std.proofs.lemmas.Str.{IsUtf8-from_ascii}
+use Rattle.bmx_script.specs.Spelling.{word_of}
+use Rattle.bmx_script.specs.Grammar.{is_within, is_letter, is_word_byte, is_bunch_word, begins_with_letter, same_word}
+use Rattle.bmx_script.proofs.FieldLemmas.{split_if}
+
+-- a word without a space
+abbrev pub is_space : ℕ → Bool
+is_space c = c == 32
+
+abbrev pub has_no_space : List ℕ → Bool
+has_no_space w = list_all (λ c. not (c == 32)) w
+
+split_last : (w : List ℕ) → has_no_space w ≡ true → slice_split is_space w ≡ w ∷ []
+split_last [] h = refl
+split_last (c ∷ w) h =
+    let parts : (not (c == 32) ≡ true) × (has_no_space w ≡ true) = and_parts (not (c == 32)) (has_no_space w) h in
+    let differs : (c == 32) ≡ false = not-true (c == 32) parts.0 in
+    rw (differs, split_last w parts.1) refl
+
+split_word : (w rest : List ℕ) → has_no_space w ≡ true → slice_split is_space (w ++ 32 ∷ rest) ≡ w ∷ slice_split is_space rest
+split_word [] rest h = refl
+split_word (c ∷ w) rest h =
+    let parts : (not (c == 32) ≡ true) × (has_no_space w ≡ true) = and_parts (not (c == 32)) (has_no_space w) h in
+    let differs : (c == 32) ≡ false = not-true (c == 32) parts.0 in
+    rw (differs, split_word w rest parts.1) refl
+
+-- words without spaces, joined and split again
+pub split-join : (w : List ℕ) (ws : List (List ℕ)) → list_all has_no_space (w ∷ ws) ≡ true → slice_split is_space (join_with_byte 32 (w ∷ ws)) ≡ w ∷ ws
+split-join w [] h = split_last w (and_parts (has_no_space w) true h).0
+split-join w (v ∷ vs) h =
+    let parts : (has_no_space w ≡ true) × (list_all has_no_space (v ∷ vs) ≡ true) = and_parts (has_no_space w) (list_all has_no_space (v ∷ vs)) h in
+    split_word w (join_with_byte 32 (v ∷ vs)) parts.0 ∙ ap (λ x. w ∷ x) (split-join v vs parts.1)
+
+-- a word byte is no space
+word_byte : (c : ℕ) → is_word_byte c ≡ true → not (c == 32) ≡ true
+word_byte c h = by_equality (c == 32) (λ t. let e : c ≡ 32 = eqb-true c 32 t in let bad : is_word_byte 32 ≡ true = rw e at h in cc)
+  where
+    by_equality : (b : Bool) → (b ≡ true → false ≡ true) → not b ≡ true
+    by_equality true f = f refl
+    by_equality false f = refl
+
+word_bytes : (w : List ℕ) → list_all is_word_byte w ≡ true → has_no_space w ≡ true
+word_bytes [] h = refl
+word_bytes (c ∷ w) h =
+    let parts : (is_word_byte c ≡ true) × (list_all is_word_byte w ≡ true) = and_parts (is_word_byte c) (list_all is_word_byte w) h in
+    and_from (not (c == 32)) (has_no_space w) (word_byte c parts.0) (word_bytes w parts.1)
+
+pub bunch_word_no_space : (w : List ℕ) → is_bunch_word w ≡ true → has_no_space w ≡ true
+bunch_word_no_space [] h = refl
+bunch_word_no_space (c ∷ w) h =
+    let parts : (is_letter c ≡ true) × ((list_all is_word_byte (c ∷ w) && nat_le (length (c ∷ w)) 16) ≡ true) = and_parts (is_letter c) (list_all is_word_byte (c ∷ w) && nat_le (length (c ∷ w)) 16) h in
+    word_bytes (c ∷ w) (and_parts (list_all is_word_byte (c ∷ w)) (nat_le (length (c ∷ w)) 16) parts.1).0
+
+-- the same word
+pub same_word-true : (a b : List ℕ) → same_word a b ≡ true → a ≡ b
+same_word-true [] [] h = refl
+same_word-true [] (d ∷ ds) h = cc
+same_word-true (c ∷ cs) [] h = cc
+same_word-true (c ∷ cs) (d ∷ ds) h =
+    let parts : ((c == d) ≡ true) × (same_word cs ds ≡ true) = and_parts (c == d) (same_word cs ds) h in
+    let head : c ≡ d = eqb-true c d parts.0 in
+    let tail : cs ≡ ds = same_word-true cs ds parts.1 in
+    cc
+
+same_number : (c : ℕ) → (c == c) ≡ true
+same_number c = grind arith
+
+pub same_word-same : (a : List ℕ) → same_word a a ≡ true
+same_word-same [] = refl
+same_word-same (c ∷ cs) = and_from (c == c) (same_word cs cs) (same_number c) (same_word-same cs)
+
+-- where a word was found
+pub position_found : {X : Type 0} (t : X → Bool) (i : ℕ) (xs : List X) (j : ℕ) (d : X) → position_from t i xs ≡ Some j → (m : ℕ) × (j ≡ i + m) × (m < length xs) × (t (get_or xs m d) ≡ true)
+position_found t i [] j d e = cc
+position_found {X} t i (x ∷ xs) j d e = split_if (t x) (Some i) (position_from t (i + 1) xs) (Some j) e
+    (λ h q. let same : i ≡ j = cc in (0, omega arith, omega arith, h))
+    (λ h q. let found : (m : ℕ) × (j ≡ i + 1 + m) × (m < length xs) × (t (get_or xs m d) ≡ true) = position_found t (i + 1) xs j d q in
+    (suc found.0, omega (arith, found.1), omega (arith, found.2), found.3))
+
+pub position_at : {X : Type 0} (t : X → Bool) (i : ℕ) (xs : List X) (m : ℕ) (d : X) → m < length xs → t (get_or xs m d) ≡ true → ((q : ℕ) → q < m → t (get_or xs q d) ≡ false) → position_from t i xs ≡ Some (i + m)
+position_at t i [] m d below here before = absurd (omega arith)
+position_at t i (x ∷ xs) zero d below here before = rw here (ap Some (omega arith))
+position_at t i (x ∷ xs) (suc m) d below here before =
+    let first : t x ≡ false = before 0 (omega arith) in
+    rw first (position_at t (i + 1) xs m d (omega arith) here (λ q h. before (suc q) (omega arith)) ∙ ap Some (omega arith))
+
+pub position_below : (t : List ℕ → Bool) (words : List (List ℕ)) (j : ℕ) → position_from t 0 words ≡ Some j → j < length words
+position_below t words j e =
+    let found : (m : ℕ) × (j ≡ 0 + m) × (m < length words) × (t (get_or words m []) ≡ true) = position_found t 0 words j [] e in
+    omega (arith, found.1, found.2)
+
+-- the bytes of a word are ASCII
+word_byte_below : (c : ℕ) → is_word_byte c ≡ true → c < 128
+word_byte_below c h = grind (arith, h)
+
+word_ascii : (w : List ℕ) → list_all is_word_byte w ≡ true → (i : ℕ) → slice_index w i < 128
+word_ascii [] h i = omega arith
+word_ascii (c ∷ w) h zero = word_byte_below c (and_parts (is_word_byte c) (list_all is_word_byte w) h).0
+word_ascii (c ∷ w) h (suc i) = word_ascii w (and_parts (is_word_byte c) (list_all is_word_byte w) h).1 i
+
+pub bunch_word_utf8 : (w : List ℕ) → is_bunch_word w ≡ true → IsUtf8 w
+bunch_word_utf8 w h =
+    let parts : (begins_with_letter w ≡ true) × ((list_all is_word_byte w && nat_le (length w) 16) ≡ true) = and_parts (begins_with_letter w) (list_all is_word_byte w && nat_le (length w) 16) h in
+    IsUtf8-from_ascii w (word_ascii w (and_parts (list_all is_word_byte w) (nat_le (length w) 16) parts.1).0)

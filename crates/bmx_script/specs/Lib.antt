@@ -1,0 +1,6 @@
+pub mod Distinct
+pub mod Grammar
+pub mod Parsing
+pub mod Printing
+pub mod Reader
+pub mod Spelling

@@ -1,0 +1,94 @@
+-- How a line is read, word by word: what the reader computes. That this is what Grammar says of
+-- spellings is proved in proofs/Exact.
+use Rattle.std.specs.Prelude.{◌≡◌, ℕ, ◌==◌, nat_lt, Bool, true, false, not, ◌&&◌, ◌||◌, if◌then◌else◌, List, [], ◌∷◌, length, Option, Some, None, codes}
+use Rattle.std.specs.List.{list_any, position_from, slice_split}
+use Rattle.bmx_types.specs.declared.commands.Operand.TheVariants as operand
+use Rattle.bmx_types.specs.declared.commands.Command.{Command}
+use Rattle.bmx_types.specs.declared.commands.Command.TheVariants as command
+use Rattle.bmx_numerals.specs.declared.fields.Field.{Field}
+use Rattle.bmx_numerals.specs.declared.fields.Field.TheVariants.{Form, Range, Good}
+use Rattle.bmx_numerals.specs.Fields.{field_below, field_within, field_integer, field_and}
+use Rattle.bmx_script.specs.declared.lines.LineKind.{LineKind}
+use Rattle.bmx_script.specs.declared.lines.LineKind.TheVariants as line
+use Rattle.bmx_script.specs.declared.knowledge.Known.{Known}
+use Rattle.bmx_script.specs.Grammar.{may_follow, is_bunch_word, same_word}
+
+-- the same reading of another value
+abbrev pub field_map : {A B : Type 0} → (A → B) → Field A → Field B
+field_map f Form = Form
+field_map f Range = Range
+field_map f (Good x) = Good (f x)
+
+-- a register's number: behind an `r`
+abbrev pub register_field : List ℕ → Field ℕ
+register_field [] = Form
+register_field (c ∷ word) = if c == 114 then field_below 16 word else Form
+
+-- the number of a bunch, by its word
+abbrev pub found_bunch : Option ℕ → Field ℕ
+found_bunch None = Range
+found_bunch (Some b) = Good b
+
+abbrev pub bunch_field : Known → List ℕ → Field ℕ
+bunch_field k word = if is_bunch_word word then found_bunch (position_from (same_word word) 0 k.bunches) else Form
+
+-- a command by its verb and the words behind it
+abbrev pub of_one : List ℕ → List ℕ → Field Command
+of_one verb on =
+    if same_word verb (codes "write") then field_map (λ r. command.Write (operand.Register r)) (register_field on)
+    else (if same_word verb (codes "done") then field_map (λ r. command.Done (operand.Register r)) (register_field on)
+    else Form)
+
+abbrev pub of_two : List ℕ → List ℕ → List ℕ → Field Command
+of_two verb on index =
+    if same_word verb (codes "show") then field_map (λ p. command.Show (operand.Register p.0) p.1) (field_and (register_field on) (field_below 256 index))
+    else Form
+
+abbrev pub of_three : Known → List ℕ → List ℕ → List ℕ → List ℕ → Field Command
+of_three k verb a b c =
+    if same_word verb (codes "new") then field_map (λ p. command.New p.0.0 p.0.1 p.1) (field_and (field_and (register_field a) (bunch_field k b)) (field_below 33 c))
+    else (if same_word verb (codes "set") then field_map (λ p. command.Set (operand.Register p.0.0) p.0.1 (operand.Int p.1)) (field_and (field_and (register_field a) (field_below 256 b)) (field_integer c))
+    else Form)
+
+abbrev pub command_field : Known → List ℕ → List (List ℕ) → Field Command
+command_field k verb [] = Form
+command_field k verb (a ∷ []) = of_one verb a
+command_field k verb (a ∷ b ∷ []) = of_two verb a b
+command_field k verb (a ∷ b ∷ c ∷ []) = of_three k verb a b c
+command_field k verb (a ∷ b ∷ c ∷ d ∷ more) = Form
+
+-- a line of a node: its number, a verb and the words behind it
+abbrev pub node_line : Known → List ℕ → List ℕ → List (List ℕ) → Field LineKind
+node_line k node verb operands = field_map (λ p. line.Do p.0 p.1) (field_and (field_below k.nodes node) (command_field k verb operands))
+
+-- a line of a node in its place, by its command
+abbrev pub placed_line : Known → List ℕ → Field Command → Field LineKind
+placed_line k node c = if may_follow k.section 5 then field_map (λ p. line.Do p.0 p.1) (field_and (field_below k.nodes node) c) else Form
+
+-- how many nodes there are
+abbrev pub nodes_field : List ℕ → Field LineKind
+nodes_field word = field_map (λ n. line.Nodes n) (field_within 1 1 word)
+
+-- a bunch with a word of its own
+abbrev pub declared_bunch : Known → List ℕ → Field LineKind
+declared_bunch k word =
+    if list_any (same_word word) k.bunches || not (nat_lt (length k.bunches) 16) then Range else Good (line.Bunch word None)
+
+-- a line of the head: a key and a word
+abbrev pub head_line : Known → List ℕ → List ℕ → Field LineKind
+head_line k key word =
+    if same_word key (codes "bmx") then (if may_follow k.section 1 && same_word word (codes "1") then Good line.Version else Form)
+    else (if same_word key (codes "nodes") then (if may_follow k.section 2 then nodes_field word else Form)
+    else (if same_word key (codes "bunch") then (if may_follow k.section 3 && is_bunch_word word then declared_bunch k word else Form)
+    else Form))
+
+-- a line, by its words
+abbrev pub line_field : Known → List (List ℕ) → Field LineKind
+line_field k [] = Form
+line_field k (a ∷ []) = Form
+line_field k (a ∷ b ∷ []) = head_line k a b
+line_field k (a ∷ b ∷ c ∷ words) = if may_follow k.section 5 then node_line k a b (c ∷ words) else Form
+
+-- a line: its words are what lies between its spaces
+abbrev pub read_line : Known → List ℕ → Field LineKind
+read_line k text = line_field k (slice_split (λ c. c == 32) text)

@@ -1,0 +1,60 @@
+-- The state of the reader between two lines, and what reading on from it comes to.
+use Rattle.std.specs.Prelude.{◌≡◌, ℕ, ◌+◌, ◌^◌, ◌<◌, ◌≤◌, List, [], ◌∷◌, ◌++◌, length, Result, Ok, Err}
+use Rattle.bmx_numerals.specs.declared.fields.Field.{Field}
+use Rattle.bmx_numerals.specs.declared.fields.Field.TheVariants.{Form, Range, Good}
+use Rattle.bmx_script.specs.declared.lines.LineKind.{LineKind}
+use Rattle.bmx_script.specs.declared.lines.BadCause.TheVariants as cause
+use Rattle.bmx_script.specs.declared.verdicts.Verdict.{Verdict}
+use Rattle.bmx_script.specs.declared.verdicts.Verdict.TheVariants as verdict
+use Rattle.bmx_script.specs.declared.knowledge.Known.{Known}
+use Rattle.bmx_script.specs.declared.lines.Line.{Line}
+use Rattle.bmx_script.specs.declared.lines.Bad.{Bad}
+use Rattle.bmx_script.specs.declared.scripts.Reader.{Reader}
+use Rattle.bmx_script.specs.declared.scripts.Script.{Script}
+use Rattle.bmx_script.specs.declared.scripts.ScriptError.{ScriptError}
+use Rattle.bmx_script.specs.declared.scripts.ScriptError.TheVariants as errors
+use Rattle.bmx_script.specs.Grammar.{Reads, IsReading, AreInOrder, HasRoom, nothing_known, known_after, known_after_all}
+use Rattle.bmx_script.specs.Distinct.{AreDistinct}
+
+-- what reading the texts from here comes to
+abbrev pub ReadsOn : Reader → List (List ℕ) → Result (List Line) Bad → Type 0
+ReadsOn r texts answer = Reads r.known r.lines r.number r.start texts answer
+
+-- how many bytes there are up to the line feed of a line that begins here
+abbrev pub end_of : Reader → List ℕ → ℕ
+end_of r text = r.start + (length text + 1)
+
+-- with a line more
+abbrev pub noted : Reader → LineKind → Reader
+noted r what = record {
+  known = known_after r.known what;
+  lines = r.lines ++ record { number = r.number; what = what } ∷ [];
+  number = r.number;
+  start = r.start;
+}
+
+-- what a line comes to that is neither too far behind nor skipped
+abbrev pub verdict_of : Field LineKind → Verdict
+verdict_of Form = verdict.Wrong cause.Form
+verdict_of Range = verdict.Wrong cause.Range
+verdict_of (Good what) = verdict.Is what
+
+-- the lines so far are in order, and what is known is what they say
+pub record IsSound (r : Reader) : Type 0 where
+  pub order : AreInOrder nothing_known r.lines
+  pub known : r.known ≡ known_after_all nothing_known r.lines
+  pub distinct : AreDistinct r.known.bunches
+  pub room : HasRoom r.known
+  pub some : 0 < r.number
+  pub few : r.number ≤ 20001
+  pub short : r.start ≤ 2 ^ 20
+
+-- a fact for a bad line; want of memory says nothing
+abbrev pub ForBad : (Bad → Type 0) → ScriptError → Type 0
+ForBad P errors.NoMemory = Unit {0}
+ForBad P (errors.Bad why) = P why
+
+-- what reading the bytes answers: the lines, or the first bad line; want of memory says nothing
+abbrev pub IsAnswer : List ℕ → Result Script ScriptError → Type 0
+IsAnswer bytes (Ok script) = IsReading bytes (Ok script)
+IsAnswer bytes (Err e) = ForBad (λ why. IsReading bytes (Err why)) e

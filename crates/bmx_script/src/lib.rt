@@ -1,0 +1,15 @@
+//! Scripts: programs of commands for the nodes of a store, read from bytes and printed.
+#![tactic(auto)]
+
+mod knowledge;
+mod lines;
+mod printing;
+mod reading;
+mod scripts;
+mod verdicts;
+
+pub use knowledge::Known;
+pub use lines::{Bad, BadCause, BunchWords, Fate, Line, LineKind, Lines};
+pub use printing::{Shown, print_line};
+pub use scripts::{Script, ScriptError, read_script};
+pub use verdicts::Verdict;

@@ -1,0 +1,3 @@
+pub mod NodeLists
+pub mod Acks
+pub mod Order
