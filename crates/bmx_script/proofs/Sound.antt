@@ -68,7 +68,7 @@ distinct_after k line.Settle d range = d
 same_room : {k l : Known} → HasRoom k → k.nodes ≡ l.nodes → length k.bunches ≡ length l.bunches → HasRoom l
 same_room {k} {l} r n b = record { few_nodes = rw (← n) r.few_nodes; few_bunches = rw (← b) r.few_bunches }
 
-room_after : (k : Known) (what : LineKind) → HasRoom k → in_range k what ≡ true → HasRoom (known_after k what)
+pub room_after : (k : Known) (what : LineKind) → HasRoom k → in_range k what ≡ true → HasRoom (known_after k what)
 room_after k line.Version r range = record { few_nodes = r.few_nodes; few_bunches = r.few_bunches }
 room_after k (line.Nodes count) r range = record { few_nodes = rw (eqb-true count 1 range) (omega arith); few_bunches = r.few_bunches }
 room_after k (line.Bunch w file) r range =

@@ -50,16 +50,18 @@ impl Model for Script {
 }
 
 impl Script {
-    /// How many nodes it has.
+    /// How many nodes it has, from 1 to 8.
     pub fn nodes(&self) -> u8
-        ensures { result ≡ nodes_of self.now }
+        ensures value { result ≡ nodes_of self.now }
+        ensures range { (0 < result) × (result ≤ 8) }
     {
         self.known.nodes
     }
 
-    /// The words of its bunches, by number.
+    /// The words of its 1 to 16 bunches, by number.
     pub fn bunches(&self) -> &BunchWords
-        ensures { result.now ≡ bunches_of self.now }
+        ensures value { result.now ≡ bunches_of self.now }
+        ensures range { (0 < length result.now) × (length result.now ≤ 16) }
     {
         &self.known.bunches
     }

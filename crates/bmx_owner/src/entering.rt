@@ -1,0 +1,263 @@
+ghost use Rattle.std.specs.Prelude.{◌≡◌, ◌+◌, ◌≤◌, ◌<◌, ◌↔◌, ◌==◌, [], length, slice_get, Some, OnOk, OnErr, IfOk, IsTrue, MatchResult};
+ghost use Rattle.std.specs.List.{list_any};
+ghost use Rattle.std.specs.List.Sorted.{IsStrictlyIncreasing};
+
+use bmx_types::{BunchNo, Items, Name, Names, NoMemory, NodeNo};
+use std::alloc::Global;
+use std::marker::Model;
+
+/// What a node keeps of one name that it has given to one other node: the object must stay while that
+/// node may refer to it by way of this one.
+#[derive(Clone, Copy, Debug, PartialEq, Eq)]
+pub struct Record {
+    pub name: Name,
+    /// The bunch of the named object.
+    pub bunch: BunchNo,
+    /// The other node, from which references enter.
+    pub from: NodeNo,
+    /// The number of the last letter to that node that gave it the name, 0 where none did.
+    pub sent: u64,
+    /// The number of the last letter from that node by which this one took the object over, 0 where
+    /// none did.
+    pub got: u64,
+}
+
+/// Records in order.
+pub type RecordList = Items<Record>;
+
+impl Record {
+    ghost use Rattle.bmx_owner.specs.Records.{is_of, is_under, is_settled, is_ahead};
+
+    /// Whether it is the record of that name and node.
+    fn is_of(&self, name: Name, node: NodeNo) -> bool
+        ensures { result ≡ is_of name node self.now }
+    {
+        self.name == name && self.from == node
+    }
+
+    /// Whether it is of that bunch and node.
+    fn is_under(&self, bunch: BunchNo, node: NodeNo) -> bool
+        ensures { result ≡ is_under bunch node self.now }
+    {
+        self.bunch == bunch && self.from == node
+    }
+
+    /// Whether no letter later than a table bears on it: one made when its maker had issued `sent`
+    /// letters to this node and taken `got` from it.
+    fn is_settled(&self, sent: u64, got: u64) -> bool
+        ensures { result ≡ is_settled sent got self.now }
+    {
+        self.sent <= got && self.got <= sent
+    }
+
+    /// Whether it stands before the record of that name and node: its name is smaller, or its name is
+    /// that one and its node is smaller.
+    fn is_ahead(&self, name: Name, node: NodeNo) -> bool
+        ensures { result ≡ is_ahead name node self.now }
+    {
+        let (word, other) = (self.name.word(), name.word());
+        word < other || word == other && self.from.get() < node.get()
+    }
+}
+
+/// Entering records by rising name, those of one name by rising node, at most one of each name and
+/// node. Contracts see the list, and `spare`: how many more records can be kept without memory.
+#[derive(Drop)]
+pub struct Records {
+    records: Vec<Record>,
+}
+
+impl Model for Records {
+    ghost use Rattle.std.specs.Prelude.{◌-◌, vec_len, vec_capacity};
+    ghost use Rattle.bmx_owner.specs.Records.{Entering, IsInOrder};
+
+    ghost Value = { Entering };
+
+    ghost view = { λ a. record { list = a.records.items; spare = vec_capacity a.records - vec_len a.records } };
+
+    ghost invariant = { λ a. IsInOrder a.records.items };
+}
+
+impl Records {
+    ghost use Rattle.bmx_owner.specs.Records.{IsInOrder, find_record, has_record, with_record, given, taken_over, cleaned, stale_count, sent_by, got_by, record_or_blank, ChangesOne};
+    ghost use Rattle.bmx_owner.specs.Search.{StandsAt, FitsAt};
+
+    /// No record, and no memory taken.
+    pub fn new(alloc: Global) -> Records
+        ensures list { result.list ≡ [] }
+        ensures spare { result.spare ≡ 0 }
+    {
+        Records {
+            records: Vec::new(alloc),
+        }
+    }
+
+    /// Makes room for so many more records. Linear in the records where it must move them.
+    pub fn reserve(&mut self, n: u32) -> Result<(), NoMemory>
+        ensures list { self.new.list ≡ self.old.list }
+        ensures ok { OnOk result (n ≤ self.new.spare) }
+        ensures err { OnErr result (self.new.spare < n) }
+        ensures spare { self.old.spare ≤ self.new.spare }
+    {
+        self.records.reserve(n as usize)?;
+        Ok(())
+    }
+
+    /// How many records there are.
+    pub fn len(&self) -> usize
+        ensures value { result ≡ length self.now.list }
+        ensures order { IsInOrder self.now.list }
+    {
+        self.records.len()
+    }
+
+    /// Whether there is none.
+    pub fn is_empty(&self) -> bool
+        ensures { IsTrue result ↔ (length self.now.list ≡ 0) }
+    {
+        self.records.is_empty()
+    }
+
+    /// The i-th record from 0, by rising name and then by rising node.
+    pub fn at(&self, i: usize) -> Record
+        requires { i < length self.now.list }
+        ensures { slice_get self.now.list i ≡ Some result }
+    {
+        self.records[i]
+    }
+
+    /// A list of all records, by rising name and then by rising node.
+    pub fn list(&self, alloc: Global) -> Result<RecordList, NoMemory>
+        ensures { IfOk result (λ records. records ≡ self.now.list) }
+    {
+        Ok(Items::from_vec(Vec::from_slice(alloc, self.records.as_slice())?))
+    }
+
+    /// Notes that letter number `seq` gives the name, of an object of that bunch, to the node: `sent`
+    /// becomes the larger of what it was and `seq`. A new record has `got` 0; one that stands keeps its
+    /// bunch. Searches in logarithmic time; a new record moves those behind it.
+    pub fn give(&mut self, name: Name, bunch: BunchNo, to: NodeNo, seq: u64)
+        requires { 0 < self.old.spare }
+        ensures list { self.new.list ≡ given self.old.list name bunch to seq }
+        ensures change { ChangesOne self.old.list self.new.list name to (sent_by seq (record_or_blank self.old.list name bunch to)) }
+        ensures spare { self.old.spare ≤ self.new.spare + 1 }
+    {
+        let mut record = self.find_or_blank(name, bunch, to);
+        record.sent = record.sent.max(seq);
+        self.put(record);
+    }
+
+    /// Notes that by letter number `seq` from the node the object of that name and bunch was taken
+    /// over: `got` becomes the larger of what it was and `seq`. A new record has `sent` 0; one that
+    /// stands keeps its bunch. Searches in logarithmic time; a new record moves those behind it.
+    pub fn take_over(&mut self, name: Name, bunch: BunchNo, from: NodeNo, seq: u64)
+        requires { 0 < self.old.spare }
+        ensures list { self.new.list ≡ taken_over self.old.list name bunch from seq }
+        ensures change { ChangesOne self.old.list self.new.list name from (got_by seq (record_or_blank self.old.list name bunch from)) }
+        ensures spare { self.old.spare ≤ self.new.spare + 1 }
+    {
+        let mut record = self.find_or_blank(name, bunch, from);
+        record.got = record.got.max(seq);
+        self.put(record);
+    }
+
+    /// Whether some record has the name. Takes logarithmic time.
+    pub fn has(&self, name: Name) -> bool
+        ensures { result ≡ has_record self.now.list name }
+    {
+        let word = name.word();
+        let i = self.records.partition_point(|r| r.name.word() < word);
+        match self.records.get(i) {
+            Some(record) => record.name.word() == word,
+            None => false,
+        }
+    }
+
+    /// The record of that name and node, None where there is none. Takes logarithmic time.
+    pub fn find(&self, name: Name, from: NodeNo) -> Option<Record>
+        ensures { result ≡ find_record self.now.list name from }
+    {
+        match self.search(name, from) {
+            Ok(i) => Some(self.records[i]),
+            Err(_) => None,
+        }
+    }
+
+    /// Ends records by a table of the bunch from that node, which lists the names that the node still
+    /// refers to by way of this one, and was made when it had issued `sent` letters to this node and
+    /// taken `got` from it. Removes each record of that bunch and node whose name isn't listed and on
+    /// which no later letter bears: its `sent` is at most `got`, and its `got` at most `sent`. Answers
+    /// how many went. One pass over the records, with a logarithmic search for each that may go.
+    pub fn clean(
+        &mut self,
+        bunch: BunchNo,
+        from: NodeNo,
+        sent: u64,
+        got: u64,
+        listed: &Names,
+    ) -> u64
+        requires { IsStrictlyIncreasing listed.now }
+        ensures list { self.new.list ≡ cleaned self.old.list bunch from sent got listed.now }
+        ensures count { result ≡ stale_count self.old.list bunch from sent got listed.now }
+        ensures spare { self.old.spare + result ≤ self.new.spare }
+    {
+        let before = self.records.len();
+        self.records.retain(|r| {
+            !(r.is_under(bunch, from) && r.is_settled(sent, got) && !is_listed(listed, r.name))
+        });
+        (before - self.records.len()) as u64
+    }
+
+    /// The record of that name and node, or else a blank one of that bunch.
+    fn find_or_blank(&self, name: Name, bunch: BunchNo, node: NodeNo) -> Record
+        ensures { result ≡ record_or_blank self.now.list name bunch node }
+    {
+        self.find(name, node).unwrap_or(Record {
+            name,
+            bunch,
+            from: node,
+            sent: 0,
+            got: 0,
+        })
+    }
+
+    /// Puts a record in its place, instead of the one of the same name and node.
+    fn put(&mut self, entry: Record)
+        requires { 0 < self.old.spare }
+        ensures list { self.new.list ≡ with_record entry self.old.list }
+        ensures spare { self.old.spare ≤ self.new.spare + 1 }
+    {
+        match self.search(entry.name, entry.from) {
+            Ok(i) => self.records[i] = entry,
+            Err(i) => {
+                let inserted = self.records.insert(i, entry).is_ok();
+                prove!(inserted);
+            }
+        }
+    }
+
+    /// Where the record of the name and the node stands, or else where it would.
+    fn search(&self, name: Name, node: NodeNo) -> Result<usize, usize>
+        ensures { MatchResult result (StandsAt self.now.list name node) (FitsAt self.now.list name node) }
+    {
+        let i = self.records.partition_point(|r| r.is_ahead(name, node));
+        match self.records.get(i) {
+            Some(record) if record.is_of(name, node) => Ok(i),
+            _ => Err(i),
+        }
+    }
+}
+
+/// Whether rising names list this one. Takes logarithmic time.
+fn is_listed(names: &Names, name: Name) -> bool
+    requires { IsStrictlyIncreasing names.now }
+    ensures { result ≡ list_any (λ x. x == name) names.now }
+{
+    names
+        .as_slice()
+        .binary_search_by_key(&name.word(), |x| x.word())
+        .is_ok()
+}
+
+#[cfg(test)]
+mod tests;
