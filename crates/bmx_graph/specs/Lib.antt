@@ -1,3 +1,5 @@
 pub mod State
 pub mod Step
 pub mod Cases
+pub mod Graphs
+pub mod Parts

@@ -1,5 +1,5 @@
 -- The plain graph and its state: what programs on all nodes share, with no replica and no address.
-use Rattle.std.specs.Prelude.{◌≡◌, ℕ, ◌==◌, Bool, true, false, if◌then◌else◌, List, [], ◌∷◌, length, Option, Some, None}
+use Rattle.std.specs.Prelude.{ℕ, ◌==◌, if◌then◌else◌, List, [], length, Option, None}
 use Rattle.std.specs.Option.{option_map, unwrap_or}
 use Rattle.std.specs.List.{find}
 use Rattle.bmx_types.specs.declared.values.Val.{Val}

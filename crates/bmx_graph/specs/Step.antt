@@ -1,7 +1,8 @@
 -- The steps of the graph: what a node's command is answered, and what it changes.
-use Rattle.std.specs.Prelude.{◌≡◌, ℕ, ◌+◌, ◌-◌, ◌^◌, ◌==◌, ℤ, pos, negsuc, ◌+ℤ◌, int_le, Bool, true, false, not, ◌&&◌, if◌then◌else◌, ◌⊎◌, List, [], ◌∷◌, length, replicate, slice_get, slice_set, Option, Some, None, is_some}
+use Rattle.std.specs.Prelude.{◌≡◌, ℕ, ◌+◌, ◌==◌, ℤ, ◌+ℤ◌, Bool, true, false, not, ◌&&◌, if◌then◌else◌, List, [], ◌∷◌, replicate, slice_get, slice_set, Option, Some, None, is_some}
 use Rattle.std.specs.Ordering.{int_eq}
 use Rattle.std.specs.List.{list_any}
+use Rattle.bmx_types.specs.Integers.{is_i64}
 use Rattle.bmx_types.specs.Words.{name_word, anchor_of}
 use Rattle.bmx_types.specs.declared.values.Val.{Val}
 use Rattle.bmx_types.specs.declared.values.Val.TheVariants as val
@@ -11,7 +12,6 @@ use Rattle.bmx_types.specs.declared.commands.Operand.{Operand}
 use Rattle.bmx_types.specs.declared.commands.Operand.TheVariants as operand
 use Rattle.bmx_types.specs.declared.commands.Command.{Command}
 use Rattle.bmx_types.specs.declared.commands.Command.TheVariants as command
-use Rattle.bmx_types.specs.declared.commands.Refusal.{Refusal}
 use Rattle.bmx_types.specs.declared.commands.Refusal.TheVariants as refusal
 use Rattle.bmx_graph.specs.declared.answers.Answer.{Answer}
 use Rattle.bmx_graph.specs.declared.answers.Answer.TheVariants as answer
@@ -63,10 +63,6 @@ other_holds s n name = list_any (λ m. not (m == n) && is_some (s.held m name)) 
 -- a node other than n holds the name for writing
 abbrev pub other_writes : State → ℕ → ℕ → Bool
 other_writes s n name = list_any (λ m. not (m == n) && is_writer (s.held m name)) all_nodes
-
--- a number that an i64 can be
-abbrev pub is_i64 : ℤ → Bool
-is_i64 k = int_le (negsuc (2 ^ 63 - 1)) k && int_le k (pos (2 ^ 63 - 1))
 
 -- the sum of a field and a number, None where the field is no number or the sum is no i64
 abbrev pub sum_of : Val → ℤ → Option ℤ
@@ -145,14 +141,20 @@ answer_of s n (command.Same left right) =
 -- a register becomes the value
 abbrev pub with_register : State → ℕ → ℕ → Val → State
 with_register s n register v = record {
-  object = s.object; register = put_at s.register n register v; held = s.held; made = s.made
+  object = s.object;
+  register = put_at s.register n register v;
+  held = s.held;
+  made = s.made;
 }
 
 -- a node's hold of a name becomes this
 abbrev pub with_held : State → ℕ → Option ℕ → Option Mode → State
 with_held s n None hold = s
 with_held s n (Some name) hold = record {
-  object = s.object; register = s.register; held = put_at s.held n name hold; made = s.made
+  object = s.object;
+  register = s.register;
+  held = put_at s.held n name hold;
+  made = s.made;
 }
 
 -- a field of an object becomes the value
@@ -160,7 +162,9 @@ abbrev pub with_field : State → Option ℕ → ℕ → Val → State
 with_field s None index v = s
 with_field s (Some name) index v = record {
   object = put s.object name (Some (slice_set (fields_of s name) index v));
-  register = s.register; held = s.held; made = s.made
+  register = s.register;
+  held = s.held;
+  made = s.made;
 }
 
 -- the next name that a node makes

@@ -3,5 +3,11 @@
 #![tactic(auto)]
 
 mod answers;
+mod graphs;
+mod rules;
 
 pub use answers::Answer;
+pub use graphs::Graph;
+
+#[cfg(test)]
+mod tests;

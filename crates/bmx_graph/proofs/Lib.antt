@@ -1,0 +1,3 @@
+pub mod States
+pub mod Excluded
+pub mod Births
