@@ -97,7 +97,7 @@ near_bounds number end h =
 pub sound_skipped : (r : Reader) (text : List ℕ) → IsSound r → is_long r.number (end_of r text) ≡ false → IsSound (advanced r text)
 sound_skipped r text s near =
     let bounds : (r.number ≤ 20000) × (end_of r text ≤ 2 ^ 20) = near_bounds r.number (end_of r text) near in
-    record { order = s.order; known = s.known; distinct = s.distinct; room = s.room; some = omega arith; few = omega (arith, bounds.0); short = bounds.1 }
+    record { order = s.order; known = s.known; distinct = s.distinct; room = s.room; some = omega (arith, s.some); few = omega (arith, bounds.0); short = bounds.1 }
 
 pub sound_noted : (r : Reader) (text : List ℕ) (what : LineKind) → IsSound r → is_long r.number (end_of r text) ≡ false → IsGood r.known what text → IsSound (advanced (noted r what) text)
 sound_noted r text what s near good =
@@ -110,7 +110,7 @@ sound_noted r text what s near good =
       known = ap (λ (k : Known). known_after k what) s.known ∙ sym (known_push nothing_known r.lines l);
       distinct = distinct_after r.known what s.distinct good.range;
       room = room_after r.known what s.room good.range;
-      some = omega arith;
+      some = omega (arith, s.some, length-append r.lines (l ∷ []));
       few = omega (arith, bounds.0);
       short = bounds.1;
     }

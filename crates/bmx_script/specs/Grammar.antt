@@ -259,10 +259,11 @@ AreInOrder k (l ∷ ls) =
     IsTrue (may_follow k.section (section_of l.what)) × IsTrue (is_built l.what) × IsTrue (in_range k l.what)
     × AreInOrder (known_after k l.what) ls
 
--- the lines of a script: they have their head and are in order
+-- the lines of a script: they have their head, are in order, and are 20,000 at most
 pub record AreScript (lines : List Line) : Type 0 where
   pub order : AreInOrder nothing_known lines
   pub head : IsTrue (nat_le 3 (known_after_all nothing_known lines).section)
+  pub few : length lines ≤ 20000
 
 -- how many nodes a script has
 abbrev pub nodes_of : List Line → ℕ

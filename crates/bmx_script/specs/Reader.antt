@@ -45,7 +45,7 @@ pub record IsSound (r : Reader) : Type 0 where
   pub known : r.known ≡ known_after_all nothing_known r.lines
   pub distinct : AreDistinct r.known.bunches
   pub room : HasRoom r.known
-  pub some : 0 < r.number
+  pub some : length r.lines < r.number
   pub few : r.number ≤ 20001
   pub short : r.start ≤ 2 ^ 20
 

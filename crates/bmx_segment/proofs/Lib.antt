@@ -1,0 +1,12 @@
+pub mod Starts
+pub mod Four
+pub mod Standing
+pub mod Fields
+pub mod Rising
+pub mod Keeping
+pub mod Stored
+pub mod Owning
+pub mod Heaping
+pub mod FieldKinds
+pub mod Apart
+pub mod HeaderWords
