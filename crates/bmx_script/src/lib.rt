@@ -6,6 +6,8 @@ mod lines;
 mod printing;
 mod reading;
 mod scripts;
+#[cfg(test)]
+mod tests;
 mod verdicts;
 
 pub use knowledge::Known;
