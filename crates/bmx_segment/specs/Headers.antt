@@ -34,13 +34,15 @@ fourth_of Dead held = held
 
 -- ---- from words to their header
 
--- the parts of a mark
+-- the state's number in a mark
 abbrev pub state_in : ℕ → ℕ
 state_in mark = mark / 2 ^ 16 % 2 ^ 8
 
+-- the size in a mark
 abbrev pub size_in : ℕ → ℕ
 size_in mark = mark / 2 ^ 8 % 2 ^ 8
 
+-- the bunch in a mark
 abbrev pub bunch_in : ℕ → ℕ
 bunch_in mark = mark % 2 ^ 8
 

@@ -26,10 +26,12 @@ made_of h = length h.own
 abbrev pub own_at : List Own → ℕ → Option Own
 own_at own number = if number == 0 then None else slice_get own (number - 1)
 
+-- the words handed out of a segment, 0 where it isn't made
 abbrev pub handed_in : Option Own → ℕ
 handed_in None = 0
 handed_in (Some o) = o.handed
 
+-- and those that weren't
 abbrev pub left_in : Option Own → ℕ
 left_in None = 0
 left_in (Some o) = 1024 - o.handed
@@ -46,6 +48,7 @@ left_of h number = left_in (own_at h.own number)
 abbrev pub current_of : Heap → ℕ → Option ℕ
 current_of h bunch = slice_index_or h.current bunch None
 
+-- the words left in the open segment of that number, if any
 abbrev pub room_in : Heap → Option ℕ → ℕ
 room_in h None = 0
 room_in h (Some number) = left_of h number
@@ -58,12 +61,13 @@ IsOpen h home number = (home ≡ h.me) × Contains h.current (Some number)
 abbrev pub room_of : Heap → ℕ → ℕ
 room_of h bunch = room_in h (current_of h bunch)
 
--- so many more words of an own segment were handed out
+-- so many more words of the i-th own segment were handed out, from 0
 abbrev pub raised : List Own → ℕ → ℕ → List Own
 raised [] i more = []
 raised (o ∷ os) zero more = record o { handed = o.handed + more } ∷ os
 raised (o ∷ os) (suc i) more = o ∷ raised os i more
 
+-- so many more words of the own segment of a number were handed out
 abbrev pub with_handed : List Own → ℕ → ℕ → List Own
 with_handed own number more = raised own (number - 1) more
 

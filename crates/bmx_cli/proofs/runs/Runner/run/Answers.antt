@@ -1,0 +1,29 @@
+use Rattle.std.proofs.Common.{◌≡◌, ℕ, ◌+◌, ◌<◌, ◌≤◌, List, [], ◌∷◌, ◌++◌, length, take, drop, get_or, subst, sym, ap, ◌∙◌, arith}
+use Rattle.std.proofs.lemmas.List.{take_more, take-append-drop, length-take-le}
+use Rattle.bmx_script.specs.declared.lines.Line.{Line}
+use Rattle.bmx_script.specs.declared.lines.LineKind.{LineKind}
+use Rattle.bmx_script.specs.Grammar.{nothing_known}
+use Rattle.bmx_cli.specs.declared.runs.Runner.{Runner}
+use Rattle.bmx_cli.specs.Progress.{IsAt, FitsLine}
+use Rattle.bmx_cli.proofs.Steps.{fits_at, names_at, goes_on, stopped}
+use Rattle.bmx_cli.proofs.runs.Runner.run.Goals as goal
+
+pub go_on-requires : goal.go_on-requires
+go_on-requires c =
+    let below : c.loop-line.line-index < length c.args.lines.now = c.loop-line-test.true in
+    let short : length (take c.loop-line.line-index c.args.lines.now) ≤ 20000 = omega (arith, length-take-le c.loop-line.line-index c.args.lines.now (omega arith), c.requires.script.few) in
+    record {
+      fits = subst (λ (l : Line). FitsLine l.what) (sym c.line-item.is) (fits_at nothing_known c.args.lines.now c.loop-line.line-index c.line-item.result c.requires.script.order below);
+      names = names_at c.args.lines.now (take c.loop-line.line-index c.args.lines.now) c.loop-line.self short c.loop-line.invariant;
+    }
+
+pub loop-line-preserved : goal.loop-line-preserved
+loop-line-preserved c =
+    let more : take (c.loop-line.line-index + 1) c.args.lines.now ≡ take c.loop-line.line-index c.args.lines.now ++ c.line-item.result ∷ [] =
+    take_more c.args.lines.now c.loop-line.line-index c.line-item.result c.loop-line-test.true ∙ ap (λ (l : Line). take c.loop-line.line-index c.args.lines.now ++ l ∷ []) (sym c.line-item.is) in
+    subst (λ (ls : List Line). IsAt c.args.lines.now ls c.go_on.new.self) (sym more)
+    (goes_on c.args.lines.now (take c.loop-line.line-index c.args.lines.now) c.loop-line.self c.go_on.new.self c.line-item.result c.loop-line.invariant c.in-Ok.ensures.ok)
+
+pub returns-in-Err : goal.returns-in-Err
+returns-in-Err c = stopped c.args.lines.now (take c.loop-line.line-index c.args.lines.now) (drop c.loop-line.line-index c.args.lines.now) c.loop-line.self c.go_on.new.self
+    (take-append-drop c.loop-line.line-index c.args.lines.now) c.loop-line.invariant c.in-Err.ensures.err

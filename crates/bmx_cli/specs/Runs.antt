@@ -1,0 +1,65 @@
+-- When a history is a run of a script: its commands, each once and in order, with the graph's answers.
+use Rattle.std.specs.Prelude.{◌≡◌, ℕ, zero, suc, ◌+◌, List, [], ◌∷◌, ◌++◌, length, map, replicate, Option, Some, None}
+use Rattle.std.specs.List.{filter_map}
+use Rattle.bmx_types.specs.Words.{anchor_of}
+use Rattle.bmx_types.specs.declared.values.Val.TheVariants as val
+use Rattle.bmx_types.specs.declared.openings.Birth.{Birth}
+use Rattle.bmx_types.specs.declared.commands.Command.{Command}
+use Rattle.bmx_graph.specs.State.{State, opening_state}
+use Rattle.bmx_graph.specs.Step.{Act, IsRun}
+use Rattle.bmx_script.specs.declared.lines.Line.{Line}
+use Rattle.bmx_script.specs.declared.lines.LineKind.{LineKind}
+use Rattle.bmx_script.specs.declared.lines.LineKind.TheVariants as line
+use Rattle.bmx_script.specs.Grammar.{bunches_of}
+use Rattle.bmx_cli.specs.declared.runs.Step.{Step}
+use Rattle.bmx_cli.specs.Texts.{step_text}
+
+-- a command of a script: whose it is and where it stands
+pub record Order : Type 0 where
+  pub node : ℕ
+  pub line : ℕ
+  pub command : Command
+
+-- the command that a line gives a node
+abbrev pub order_of : ℕ → LineKind → Option Order
+order_of number (line.Do node command) = Some (record { node = node; line = number; command = command })
+order_of number what = None
+
+-- the commands of a script, in order
+abbrev pub program : List Line → List Order
+program lines = filter_map (λ l. order_of l.number l.what) lines
+
+-- what a step of a history did
+abbrev pub done_by : Step → Order
+done_by s = record { node = s.node; line = s.line; command = s.command }
+
+-- the same with its answer, as an act on the graph
+abbrev pub act_of : Step → Act
+act_of s = record { node = s.node; command = s.command; answer = s.answer }
+
+-- the anchor of a bunch: an object of 32 null fields
+abbrev pub anchor_birth : ℕ → Birth
+anchor_birth bunch = record { name = anchor_of bunch; bunch = bunch; fields = replicate 32 val.Null }
+
+-- the anchors of n bunches from a number on
+abbrev pub anchors : ℕ → ℕ → List Birth
+anchors from zero = []
+anchors from (suc n) = anchor_birth from ∷ anchors (from + 1) n
+
+-- how the graph of a script opens: with an anchor for each bunch
+abbrev pub opening_of : List Line → State
+opening_of lines = opening_state (anchors 0 (length (bunches_of lines)))
+
+-- the history has the first commands of the script, each once and in order, answered as the graph does, each
+-- with what it prints
+pub record Follows (lines : List Line) (steps : List Step) : Type 0 where
+  pub rest : List Order
+  pub commands : map done_by steps ++ rest ≡ program lines
+  pub answers : IsRun (opening_of lines) (map act_of steps)
+  pub printed : map (λ s. s.printed) steps ≡ map step_text steps
+
+-- it has all of them
+pub record Runs (lines : List Line) (steps : List Step) : Type 0 where
+  pub commands : map done_by steps ≡ program lines
+  pub answers : IsRun (opening_of lines) (map act_of steps)
+  pub printed : map (λ s. s.printed) steps ≡ map step_text steps

@@ -1,0 +1,6 @@
+pub mod Refusals
+pub mod Prefixes
+pub mod Replayed
+pub mod Worked
+mod RunCases
+pub mod Counts

@@ -1,0 +1,71 @@
+-- What holds of the definitions themselves.
+use Rattle.std.specs.Prelude.{◌≡◌, ℕ, ◌+◌, ◌≤◌, List, [], ◌∷◌, ◌++◌, length}
+use Rattle.bmx_protocol.specs.declared.inputs.Input.{Input}
+use Rattle.bmx_protocol.specs.declared.inputs.NodeAnswer.{NodeAnswer}
+use Rattle.bmx_protocol.specs.declared.inputs.NodeAnswer.TheVariants as answer
+use Rattle.bmx_protocol.specs.declared.inputs.Done.{Done}
+use Rattle.bmx_protocol.specs.declared.events.Event.{Event}
+use Rattle.bmx_protocol.specs.Nodes.{Setting, NodeState}
+use Rattle.bmx_protocol.specs.Steps.{Node, IsStep, hint_of}
+use Rattle.bmx_protocol.specs.Histories.{AreAfter, IsLegal, issued}
+use Rattle.bmx_protocol.specs.Cases.{one_bunch, told_of_the_object}
+
+-- the answers of a step that is refused: it is stray, has nothing to serve, or may not be done
+abbrev pub IsRefusal : NodeAnswer → Type 0
+IsRefusal answer.Nil = ⊥
+IsRefusal (answer.Value v) = ⊥
+IsRefusal answer.Yes = ⊥
+IsRefusal answer.No = ⊥
+IsRefusal answer.Wait = ⊥
+IsRefusal (answer.Refused why) = Unit {0}
+IsRefusal answer.Idle = Unit {0}
+IsRefusal answer.Stray = Unit {0}
+
+-- the state with one step more counted
+abbrev pub with_step : NodeState → NodeState
+with_step s = record s { clock = s.clock + 1 }
+
+-- the state and the outcome of a step are a function of the state, the input, its stamp, and of what the
+-- places tell; with the places themselves all of the node is
+pub record StepIsDetermined : Type 0 where
+  pub states : (st : Setting) (me stamp : ℕ) (i : Input) (n m n' m' : Node) (c d : Done) →
+      n.state ≡ m.state → hint_of st me n i ≡ hint_of st me m i →
+      IsStep st me n stamp i c n' → IsStep st me m stamp i d m' → (c ≡ d) × (n'.state ≡ m'.state)
+  pub nodes : (st : Setting) (me stamp : ℕ) (i : Input) (n n' m' : Node) (c d : Done) →
+      IsStep st me n stamp i c n' → IsStep st me n stamp i d m' → (c ≡ d) × (n' ≡ m')
+
+-- a refused step issues no letter, and changes nothing of the node but that it is counted
+abbrev pub RefusalKeeps : Type 0
+RefusalKeeps =
+    (st : Setting) (me stamp : ℕ) (i : Input) (n n' : Node) (d : Done) →
+    IsStep st me n stamp i d n' → IsRefusal d.answer →
+    (d.letters ≡ []) × (n' ≡ record n { state = with_step n.state })
+
+-- the history of no event is legal
+abbrev pub EmptyIsLegal : Type 0
+EmptyIsLegal = (st : Setting) → IsLegal st []
+
+-- each prefix of a legal history is legal
+abbrev pub PrefixIsLegal : Type 0
+PrefixIsLegal = (st : Setting) (past rest : List Event) → IsLegal st (past ++ rest) → IsLegal st past
+
+-- a history leads to one world of nodes
+abbrev pub ReplayIsDetermined : Type 0
+ReplayIsDetermined =
+    (st : Setting) (history : List Event) (nodes others : ℕ → Node) →
+    AreAfter st history nodes → AreAfter st history others → nodes ≡ others
+
+-- in a legal history the stamp of an event is at most its place, counted from 1
+abbrev pub StampIsWithinPlace : Type 0
+StampIsWithinPlace =
+    (st : Setting) (past rest : List Event) (e : Event) → IsLegal st (past ++ e ∷ rest) → e.stamp ≤ length past + 1
+
+-- a run in which a node makes an object, stores it, and another is granted what it is stored in, is legal
+abbrev pub WorkedRunIsLegal : Type 0
+WorkedRunIsLegal = IsLegal (one_bunch 2) told_of_the_object.past
+
+-- a node's count of letters issued to another is how many its history issued
+abbrev pub IssuedIsCounted : Type 0
+IssuedIsCounted =
+    (st : Setting) (history : List Event) (nodes : ℕ → Node) → AreAfter st history nodes →
+    (n m : ℕ) → (nodes n).state.issued m ≡ length (issued n m history)

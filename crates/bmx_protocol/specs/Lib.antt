@@ -1,0 +1,10 @@
+pub mod Nodes
+pub mod Places
+pub mod Rows
+pub mod Strays
+pub mod Steps
+pub mod Histories
+pub mod Worlds
+pub mod Laws
+pub mod Cases
+pub mod Runs

@@ -1,0 +1,137 @@
+-- All nodes and the letters on their way, and what is said of them together: who owns an object, what
+-- its current copy is, how a node finds its owner, which objects are reached, and when all is at rest.
+use Rattle.std.specs.Prelude.{◌≡◌, ℕ, suc, ◌<◌, ◌≤◌, false, List, [], ◌∷◌, Contains, IsSome, map, Some, None}
+use Rattle.bmx_types.specs.Words.{anchor_of}
+use Rattle.bmx_types.specs.Openings.{bunches_of}
+use Rattle.bmx_types.specs.declared.values.Val.{Val}
+use Rattle.bmx_types.specs.declared.values.Val.TheVariants as val
+use Rattle.bmx_types.specs.declared.addresses.Info.{Info}
+use Rattle.bmx_graph.specs.State.{State, fields_of}
+use Rattle.bmx_msg.specs.declared.letters.Field.{Field}
+use Rattle.bmx_msg.specs.declared.letters.Letter.{Letter}
+use Rattle.bmx_msg.specs.declared.letters.Msg.{Msg}
+use Rattle.bmx_msg.specs.declared.letters.Msg.TheVariants as msg
+use Rattle.bmx_msg.specs.Letters.{targets}
+use Rattle.bmx_types.specs.declared.numbers.Mode.TheVariants as mode
+use Rattle.bmx_token.specs.declared.parts.Role.TheVariants as role
+use Rattle.bmx_protocol.specs.declared.events.Event.{Event}
+use Rattle.bmx_protocol.specs.Nodes.{Setting, Known, NodeState, fields_known, value_in}
+use Rattle.bmx_protocol.specs.Rows.{heard_field}
+use Rattle.bmx_protocol.specs.Steps.{Node}
+use Rattle.bmx_protocol.specs.Histories.{on_way}
+
+-- the states of all nodes, and the letters on their way from one to another
+pub record World : Type 0 where
+  pub state : ℕ → NodeState
+  pub way : ℕ → ℕ → List Letter
+
+-- the world of nodes after a history
+abbrev pub world_of : (ℕ → Node) → List Event → World
+world_of nodes history = record { state = λ n. (nodes n).state; way = λ n m. on_way n m history }
+
+-- ## owners
+
+-- a node has the object with the role of its owner
+pub record HasOwned (w : World) (x n : ℕ) (k : Known) : Type 0 where
+  pub known : (w.state n).known x ≡ Some k
+  pub owns : k.part.role ≡ role.Owner
+
+-- a grant of ownership is on its way
+pub record IsMoving (w : World) (x from to : ℕ) (l : Letter) (info : Info) (fields : List Field) : Type 0 where
+  pub there : Contains (w.way from to) l
+  pub grants : l.msg ≡ msg.WriteGrant info fields
+  pub named : info.name ≡ x
+
+-- node n owns x: it has the role, or the grant of ownership is on its way to it
+pub data Owns (w : World) (x n : ℕ) : Type 0 where
+  Has : (k : Known) → HasOwned w x n k → Owns w x n
+  Gets : (from : ℕ) (l : Letter) (info : Info) (fields : List Field) → IsMoving w x from n l info fields → Owns w x n
+
+-- the fields of x at its owner: those of the owner's copy, or of the grant on its way
+pub data HasCurrent (w : World) (x : ℕ) (fields : List Val) : Type 0 where
+  Kept : (n : ℕ) (k : Known) → HasOwned w x n k → fields_known (Some k) ≡ Some fields → HasCurrent w x fields
+  Sent : (from to : ℕ) (l : Letter) (info : Info) (told : List Field) → IsMoving w x from to l info told →
+      map (λ f. value_in (heard_field f)) told ≡ fields → HasCurrent w x fields
+
+-- the current copy of x is as the graph has x
+abbrev pub IsCurrent : World → State → ℕ → Type 0
+IsCurrent w g x = HasCurrent w x (fields_of g x)
+
+-- ## chains
+
+-- x has a parent at a node
+pub record HasParent (w : World) (x n parent : ℕ) (k : Known) : Type 0 where
+  pub known : (w.state n).known x ≡ Some k
+  pub asks : k.part.role ≡ role.Parent parent
+
+-- from node n, through parents, to the owner of x, in so many steps
+pub data Leads (w : World) (x : ℕ) : ℕ → ℕ → Type 0 where
+  Here : {n : ℕ} → Owns w x n → Leads w x n 0
+  On : {n parent steps : ℕ} (k : Known) → HasParent w x n parent k → Leads w x parent steps → Leads w x n (suc steps)
+
+-- the parents of x lead from a node to the owner, in at most as many steps as there are nodes
+abbrev pub HasChain : Setting → World → ℕ → ℕ → Type 0
+HasChain st w x n = (steps : ℕ) × (steps ≤ st.nodes) × Leads w x n steps
+
+-- ## what is to hold of every name in every legal history
+
+-- the names of a message: what it is about, and the targets of the fields that it tells
+abbrev pub names_in : Msg → List ℕ
+names_in (msg.ReadReq name asker) = name ∷ []
+names_in (msg.WriteReq name asker) = name ∷ []
+names_in (msg.ReadGrant info fields) = info.name ∷ targets fields
+names_in (msg.WriteGrant info fields) = info.name ∷ targets fields
+names_in (msg.Inval name) = name ∷ []
+names_in (msg.InvAck name) = name ∷ []
+
+-- a letter speaks of a name: it asks for it, tells of it, or takes it back
+abbrev pub Speaks : Letter → ℕ → Type 0
+Speaks l x = Contains (names_in l.msg) x
+
+-- a name stands somewhere: a node knows it, or a letter on its way speaks of it
+pub data IsSomewhere (st : Setting) (w : World) (x : ℕ) : Type 0 where
+  At : (n : ℕ) (k : Known) → n < st.nodes → (w.state n).known x ≡ Some k → IsSomewhere st w x
+  Between : (n m : ℕ) (l : Letter) → n < st.nodes → m < st.nodes → Contains (w.way n m) l → Speaks l x → IsSomewhere st w x
+
+-- one node owns x, and no other
+pub record HasOneOwner (w : World) (x : ℕ) : Type 0 where
+  pub owner : ℕ
+  pub owns : Owns w x owner
+  pub alone : (n : ℕ) → Owns w x n → n ≡ owner
+
+-- each name that stands somewhere has one owner
+abbrev pub EachHasOneOwner : Setting → World → Type 0
+EachHasOneOwner st w = (x : ℕ) → IsSomewhere st w x → HasOneOwner w x
+
+-- from each node that knows a name its parents lead to the owner
+abbrev pub EachHasChain : Setting → World → Type 0
+EachHasChain st w = (n x : ℕ) (k : Known) → n < st.nodes → (w.state n).known x ≡ Some k → HasChain st w x n
+
+-- while a node holds x for writing, no other node holds it
+abbrev pub WritesExclude : Setting → World → Type 0
+WritesExclude st w =
+    (n m x : ℕ) (j k : Known) → n < st.nodes → m < st.nodes →
+    (w.state n).known x ≡ Some j → (w.state m).known x ≡ Some k →
+    j.part.held ≡ Some mode.Write → IsSome k.part.held → m ≡ n
+
+-- ## rest
+
+-- nothing of a name is held, wanted or ready at a node
+pub record IsIdle (k : Known) : Type 0 where
+  pub held : k.part.held ≡ None
+  pub want : k.part.want ≡ None
+  pub ready : k.part.ready ≡ false
+
+-- no letter is on its way, and no node holds or wants a token
+pub record IsAtRest (st : Setting) (w : World) : Type 0 where
+  pub no_letter : (n m : ℕ) → n < st.nodes → m < st.nodes → w.way n m ≡ []
+  pub no_token : (n x : ℕ) (k : Known) → n < st.nodes → (w.state n).known x ≡ Some k → IsIdle k
+
+-- ## reached objects
+
+-- x is reached in the graph: from a register of a node, as an anchor, or from the fields of an object
+-- that is reached
+pub data IsReached (st : Setting) (g : State) : ℕ → Type 0 where
+  InRegister : {x : ℕ} (n r : ℕ) → n < st.nodes → r < 16 → g.register n r ≡ val.Ref x → IsReached st g x
+  Anchor : (bunch : ℕ) → bunch < bunches_of st.births → IsReached st g (anchor_of bunch)
+  InField : {y : ℕ} (x : ℕ) → IsReached st g x → Contains (fields_of g x) (val.Ref y) → IsReached st g y

@@ -1,0 +1,43 @@
+ghost use Rattle.bmx_protocol.specs.Laws.{StepIsDetermined, RefusalKeeps, EmptyIsLegal, PrefixIsLegal, ReplayIsDetermined, StampIsWithinPlace, WorkedRunIsLegal, IssuedIsCounted};
+
+/// The law that a step makes one outcome and one node of a node, an input and a stamp. It does nothing.
+pub fn step_is_determined()
+    ensures { StepIsDetermined }
+{}
+
+/// The law that a refused step issues nothing and changes nothing but the count of steps. It does
+/// nothing.
+pub fn refusal_keeps()
+    ensures { RefusalKeeps }
+{}
+
+/// The law that the history of no event is legal. It does nothing.
+pub fn empty_is_legal()
+    ensures { EmptyIsLegal }
+{}
+
+/// The law that each prefix of a legal history is legal. It does nothing.
+pub fn prefix_is_legal()
+    ensures { PrefixIsLegal }
+{}
+
+/// The law that a history leads to one world of nodes. It does nothing.
+pub fn replay_is_determined()
+    ensures { ReplayIsDetermined }
+{}
+
+/// The law that no stamp of a legal history is larger than its event's place. It does nothing.
+pub fn stamp_is_within_place()
+    ensures { StampIsWithinPlace }
+{}
+
+/// The law that a run worked by hand is legal: one node makes and stores an object, and another is
+/// granted what it is stored in. It does nothing.
+pub fn worked_run_is_legal()
+    ensures { WorkedRunIsLegal }
+{}
+
+/// The law that a node counts the letters that its history issued. It does nothing.
+pub fn issued_is_counted()
+    ensures { IssuedIsCounted }
+{}

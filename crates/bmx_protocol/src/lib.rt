@@ -1,0 +1,18 @@
+//! What nodes do to one another, in plain data: the inputs of a node's step and its outcomes, the view of
+//! a node, events and histories. Its definitions say what each step makes of a view, which histories
+//! are legal, and what owner, current copy and rest are. It has no algorithm.
+#![tactic(auto)]
+
+mod events;
+mod inputs;
+mod laws;
+mod views;
+
+pub use bmx_owner::RecordList;
+pub use events::{Event, History};
+pub use inputs::{Done, Input, NodeAnswer, Sending, Sent};
+pub use laws::{
+    empty_is_legal, issued_is_counted, prefix_is_legal, refusal_keeps, replay_is_determined,
+    stamp_is_within_place, step_is_determined, worked_run_is_legal,
+};
+pub use views::{Entries, Entry, Numbers, View, ViewField, ViewFields};
