@@ -1,9 +1,25 @@
-# The gate: every proof from nothing, each edit that must fail, each test.
+# A newcomer's two commands are `make run` and `make test`.
+
+# Proves and builds the program, runs the first example, and leaves the program as bin/bmx.
+run: build
+	./bin/bmx run < examples/first.bmx
+
+# Proves and builds the program, and leaves it as bin/bmx.
+build:
+	cd crates/bmx_cli && rt run -- run < ../../examples/first.bmx > /dev/null
+	mkdir -p bin
+	cp crates/bmx_cli/out/bmx_cli bin/bmx
+
+# The gate: every proof from nothing, each edit that must fail, each test and program.
 test:
 	./.ci/run
+
+# Runs a script before any proof, in seconds: make try SCRIPT=examples/first.bmx
+try:
+	cd crates/bmx_cli && rt try -- run < $(abspath $(SCRIPT))
 
 # Proves every crate over what earlier checks kept.
 check:
 	rt all check
 
-.PHONY: test check
+.PHONY: run build test try check
