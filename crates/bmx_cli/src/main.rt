@@ -3,8 +3,6 @@
 
 mod runs;
 mod statuses;
-#[cfg(test)]
-mod tests;
 mod top;
 mod words;
 
