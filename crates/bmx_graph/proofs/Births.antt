@@ -1,9 +1,10 @@
 -- The objects of an opening, one birth after another.
-use Rattle.std.proofs.Common.{◌≡◌, ℕ, ◌+◌, ◌<◌, true, false, cond, eqb, List, [], ◌∷◌, take, Option, Some, None, slice_get, refl, sym, ap, ◌∙◌, ⊎_elim, arith, zero, suc, add-one}
+use Rattle.std.proofs.Common.{◌≡◌, ℕ, ◌+◌, ◌<◌, true, false, cond, eqb, List, [], ◌∷◌, take, Option, Some, None, slice_get, refl, sym, ap, ◌∙◌, max, ⊎_elim, arith, zero, suc, add-one}
 use Rattle.std.specs.Option.{option_map}
 use Rattle.std.proofs.lemmas.Bool.{cases_Bool, eqb-true, ne_eqb, cond-true, cond-false}
 use Rattle.bmx_types.specs.declared.openings.Birth.{Birth}
-use Rattle.bmx_types.specs.Openings.{AreBirths}
+use Rattle.bmx_types.specs.Openings.{AreBirths, bunches_of}
+use Rattle.std.proofs.Math.Nat.{max_comm, sub-add-eq-max}
 use Rattle.bmx_types.specs.declared.values.Val.{Val}
 use Rattle.bmx_graph.specs.State.{born_as}
 use Rattle.bmx_graph.specs.Graphs.{same_name}
@@ -54,3 +55,17 @@ pub born-next : {V : Type 0} (items : V → List Val) (f g : ℕ → Option V) (
 born-next items f g births i b v are at same had put q =
     let new : option_map items (g q) ≡ cond (eqb b.name q) (Some (items v)) (option_map items (f q)) = objects-put items f g b.name v put q in
     new ∙ ap (λ l. cond (eqb b.name q) (Some l) (option_map items (f q))) same ∙ ap (cond (eqb b.name q) (Some b.fields)) (had q) ∙ sym (born_as-next births i b are at q)
+
+max_assoc : (a b c : ℕ) → max (max a b) c ≡ max a (max b c)
+max_assoc a b c = omega (arith, sub-add-eq-max a b, sub-add-eq-max (max a b) c, sub-add-eq-max b c, sub-add-eq-max a (max b c))
+
+-- one birth more may be of a bunch more
+pub bunches_of-next : (bs : List Birth) (i : ℕ) (b : Birth) → slice_get bs i ≡ Some b → bunches_of (take (i + 1) bs) ≡ max (bunches_of (take i bs)) (b.bunch + 1)
+bunches_of-next [] i b at = absurd (cc)
+bunches_of-next (a ∷ bs) zero b at =
+    let same : a ≡ b = cc in
+    ap (λ (x : Birth). max (x.bunch + 1) 0) same ∙ max_comm (b.bunch + 1) 0
+bunches_of-next (a ∷ bs) (suc i) b at =
+    let rest : bunches_of (take (i + 1) bs) ≡ max (bunches_of (take i bs)) (b.bunch + 1) = bunches_of-next bs i b at in
+    let shift : suc i + 1 ≡ suc (i + 1) = omega arith in
+    ap (λ k. bunches_of (take k (a ∷ bs))) shift ∙ ap (max (a.bunch + 1)) rest ∙ sym (max_assoc (a.bunch + 1) (bunches_of (take i bs)) (b.bunch + 1))

@@ -33,6 +33,10 @@ state_of g = record {
   made = λ n. slice_index g.made n;
 }
 
+-- how many bunches a graph opened with
+abbrev pub bunches_in : Graph → ℕ
+bunches_in g = g.bunches
+
 -- where an operand is a register, it is one of the 16
 abbrev pub IsOperand : Operand → Type 0
 IsOperand (operand.Register r) = r < 16

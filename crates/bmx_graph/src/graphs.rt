@@ -1,10 +1,14 @@
-ghost use Rattle.std.specs.Prelude.{◌≡◌, ◌+◌, ◌*◌, ◌-◌, ◌^◌, ◌<◌, Some, None, OnOk, OnErr, IfOk, IfErr, IsSome, option_and_then, slice_get};
+ghost use Rattle.std.specs.Prelude.{◌≡◌, ◌↔◌, ℕ, ◌+◌, ◌*◌, ◌-◌, ◌^◌, ◌<◌, Some, None, OnOk, OnErr, IfOk, IfErr, IsSome, Contains, option_and_then, slice_get};
+ghost use Rattle.std.specs.List.Sorted.{IsStrictlyIncreasing};
+ghost use Rattle.bmx_types.specs.Openings.{bunches_of};
+ghost use Rattle.bmx_graph.specs.Reached.{IsReached};
 ghost use Rattle.bmx_types.specs.Words.{anchor_of};
 ghost use Rattle.bmx_types.specs.declared.commands.Command.TheVariants as command;
 
 use crate::answers::Answer;
 use crate::rules::{anchor, excludes, first_counts, null_registers, permits, register_place, sum};
-use bmx_types::{BunchNo, Command, Mode, Name, NoMemory, NodeNo, Opening, Operand, Refusal, Val};
+use crate::walks::Walk;
+use bmx_types::{Command, Mode, Name, Names, NoMemory, NodeNo, Opening, Operand, Refusal, Val};
 use std::alloc::Global;
 use std::collections::HashMap;
 
@@ -15,10 +19,11 @@ const NODES: usize = 8;
 const ALL_REGISTERS: usize = 128;
 
 /// The graph that all nodes share: the fields of each object by its name, what each node has in its
-/// registers and which tokens it holds, and how many names it has made.
+/// registers and which tokens it holds, how many names it has made, and how many bunches there are.
 #[derive(Drop)]
 pub struct Graph {
     alloc: Global,
+    bunches: u8,
     objects: HashMap<Name, Vec<Val>>,
     /// Those of node 0 first.
     registers: [Val; ALL_REGISTERS],
@@ -36,21 +41,25 @@ struct Found {
 impl Graph {
     ghost use Rattle.bmx_graph.specs.State.{fields_of, opening_state};
     ghost use Rattle.bmx_graph.specs.Step.{with_register, with_held, with_field, with_new, value_of, target_of, answer_of, state_after};
-    ghost use Rattle.bmx_graph.specs.Graphs.{state_of, IsOperand, HasRegisters};
+    ghost use Rattle.bmx_graph.specs.Graphs.{state_of, bunches_in, IsOperand, HasRegisters};
     ghost use Rattle.bmx_graph.specs.Parts.{IsStep, taking, is_excluded, field_refusal, FindsField};
 
     /// The graph of a store that opens so: its births, null registers and no token held. Linear in the
     /// births and their fields.
     pub fn open(alloc: Global, opening: &Opening) -> Result<Graph, NoMemory>
-        ensures { IfOk result (λ graph. state_of graph ≡ opening_state opening.now.births) }
+        ensures state { IfOk result (λ graph. state_of graph ≡ opening_state opening.now.births) }
+        ensures bunches { IfOk result (λ graph. bunches_in graph ≡ bunches_of opening.now.births) }
     {
         let mut objects = HashMap::new(alloc);
+        let mut bunches = 0u8;
         for birth in opening.births.as_slice() {
             let fields = Vec::from_slice(alloc, birth.fields.as_slice())?;
             objects.insert(birth.name, fields)?;
+            bunches = bunches.max(birth.bunch.get() + 1);
         }
         Ok(Graph {
             alloc,
+            bunches,
             objects,
             registers: null_registers(),
             held: HashMap::new(alloc),
@@ -66,6 +75,7 @@ impl Graph {
         ensures answer { IfOk result (λ a. a ≡ answer_of (state_of self.old) node command.now) }
         ensures ok { IfOk result (λ a. state_of self.new ≡ state_after (state_of self.old) node command.now a) }
         ensures err { OnErr result (state_of self.new ≡ state_of self.old) }
+        ensures bunches { bunches_in self.new ≡ bunches_in self.old }
     {
         match *command {
             Command::New { register, size, .. } => {
@@ -124,6 +134,28 @@ impl Graph {
         self.made[node.get() as usize]
     }
 
+    /// The names that are reached, rising: those in all registers, all anchors, and, with a name, those
+    /// in the fields of its object. A name without an object is reached all the same. Each object is
+    /// looked at once: with n names reached and e references between them it takes O((n + e) log n).
+    pub fn reached(&self, alloc: Global) -> Result<Names, NoMemory>
+        ensures rising { IfOk result (λ names. IsStrictlyIncreasing names) }
+        ensures reached { IfOk result (λ names. (x : ℕ) → Contains names x ↔ IsReached 8 (bunches_in self.now) (state_of self.now) x) }
+    {
+        let mut walk = Walk::new(alloc);
+        walk.find_all(&self.registers)?;
+        for bunch in 0..self.bunches {
+            walk.find(Val::Ref(anchor(bunch)))?;
+        }
+        let mut next = 0;
+        while let Some(name) = walk.get(next) {
+            if let Some(fields) = self.objects.get(&name) {
+                walk.find_all(fields.as_slice())?;
+            }
+            next += 1;
+        }
+        walk.into_names(alloc)
+    }
+
     /// What an operand stands for at a node.
     fn meaning(&self, node: NodeNo, operand: Operand) -> Val
         requires { IsOperand operand }
@@ -131,7 +163,7 @@ impl Graph {
     {
         match operand {
             Operand::Register(register) => self.value(node, register),
-            Operand::Anchor(bunch) => Val::Ref(anchor(bunch)),
+            Operand::Anchor(bunch) => Val::Ref(anchor(bunch.get())),
             Operand::Int(number) => Val::Int(number),
             Operand::Null => Val::Null,
         }
@@ -195,6 +227,7 @@ impl Graph {
         requires { IsOperand on }
         ensures ok { IfOk result (λ a. IsStep (state_of self.old) node (taking wanted on) a (state_of self.new)) }
         ensures err { OnErr result (state_of self.new ≡ state_of self.old) }
+        ensures bunches { bunches_in self.new ≡ bunches_in self.old }
     {
         let Some(name) = self.target(node, on) else {
             return Ok(Answer::Refused(Refusal::Empty));
@@ -211,7 +244,8 @@ impl Graph {
 
     fn release(&mut self, node: NodeNo, on: Operand) -> Answer
         requires { IsOperand on }
-        ensures { IsStep (state_of self.old) node (command.Done on) result (state_of self.new) }
+        ensures step { IsStep (state_of self.old) node (command.Done on) result (state_of self.new) }
+        ensures bunches { bunches_in self.new ≡ bunches_in self.old }
     {
         let Some(name) = self.target(node, on) else {
             return Answer::Refused(Refusal::Empty);
@@ -226,7 +260,8 @@ impl Graph {
     fn set(&mut self, node: NodeNo, on: Operand, index: u8, value: Operand) -> Answer
         requires on { IsOperand on }
         requires value { IsOperand value }
-        ensures { IsStep (state_of self.old) node (command.Set on index value) result (state_of self.new) }
+        ensures step { IsStep (state_of self.old) node (command.Set on index value) result (state_of self.new) }
+        ensures bunches { bunches_in self.new ≡ bunches_in self.old }
     {
         match self.find_field(node, on, index, Mode::Write) {
             Ok(found) => {
@@ -240,7 +275,8 @@ impl Graph {
 
     fn add(&mut self, node: NodeNo, on: Operand, index: u8, by: i64) -> Answer
         requires { IsOperand on }
-        ensures { IsStep (state_of self.old) node (command.Add on index by) result (state_of self.new) }
+        ensures step { IsStep (state_of self.old) node (command.Add on index by) result (state_of self.new) }
+        ensures bunches { bunches_in self.new ≡ bunches_in self.old }
     {
         match self.find_field(node, on, index, Mode::Write) {
             Ok(found) => match sum(found.value, by) {
@@ -257,7 +293,8 @@ impl Graph {
     fn get(&mut self, node: NodeNo, register: u8, on: Operand, index: u8) -> Answer
         requires register { register < 16 }
         requires on { IsOperand on }
-        ensures { IsStep (state_of self.old) node (command.Get register on index) result (state_of self.new) }
+        ensures step { IsStep (state_of self.old) node (command.Get register on index) result (state_of self.new) }
+        ensures bunches { bunches_in self.new ≡ bunches_in self.old }
     {
         match self.find_field(node, on, index, Mode::Read) {
             Ok(found) => {
@@ -284,6 +321,7 @@ impl Graph {
         requires names { (state_of self.old).made node < 2 ^ 56 - 1 }
         ensures ok { OnOk result (state_of self.new ≡ with_new (state_of self.old) node register size) }
         ensures err { OnErr result (state_of self.new ≡ state_of self.old) }
+        ensures bunches { bunches_in self.new ≡ bunches_in self.old }
     {
         let count = self.made(node) + 1;
         let name = Name::new(node, count).unwrap();
@@ -297,7 +335,8 @@ impl Graph {
     /// A register becomes the value.
     fn set_register(&mut self, node: NodeNo, register: u8, value: Val)
         requires { register < 16 }
-        ensures { state_of self.new ≡ with_register (state_of self.old) node register value }
+        ensures state { state_of self.new ≡ with_register (state_of self.old) node register value }
+        ensures bunches { bunches_in self.new ≡ bunches_in self.old }
     {
         self.registers[register_place(node, register)] = value;
     }
@@ -306,6 +345,7 @@ impl Graph {
     fn take(&mut self, node: NodeNo, name: Name, mode: Mode) -> Result<(), NoMemory>
         ensures ok { OnOk result (state_of self.new ≡ with_held (state_of self.old) node (Some name) (Some mode)) }
         ensures err { OnErr result (state_of self.new ≡ state_of self.old) }
+        ensures bunches { bunches_in self.new ≡ bunches_in self.old }
     {
         self.held.insert((node, name), mode)?;
         Ok(())
@@ -313,7 +353,8 @@ impl Graph {
 
     /// A node holds a name no longer.
     fn give_back(&mut self, node: NodeNo, name: Name)
-        ensures { state_of self.new ≡ with_held (state_of self.old) node (Some name) None }
+        ensures state { state_of self.new ≡ with_held (state_of self.old) node (Some name) None }
+        ensures bunches { bunches_in self.new ≡ bunches_in self.old }
     {
         self.held.remove(&(node, name));
     }
@@ -321,7 +362,8 @@ impl Graph {
     /// A field that is there becomes the value.
     fn set_field(&mut self, name: Name, index: u8, value: Val)
         requires { IsSome (slice_get (fields_of (state_of self.old) name) index) }
-        ensures { state_of self.new ≡ with_field (state_of self.old) (Some name) index value }
+        ensures state { state_of self.new ≡ with_field (state_of self.old) (Some name) index value }
+        ensures bunches { bunches_in self.new ≡ bunches_in self.old }
     {
         let fields = self.objects.get_mut(&name).unwrap();
         fields[index as usize] = value;

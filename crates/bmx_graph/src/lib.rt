@@ -5,6 +5,7 @@
 mod answers;
 mod graphs;
 mod rules;
+mod walks;
 
 pub use answers::Answer;
 pub use graphs::Graph;

@@ -3,7 +3,7 @@ ghost use Rattle.bmx_types.specs.Words.{anchor_of};
 ghost use Rattle.bmx_graph.specs.Step.{sum_of};
 ghost use Rattle.bmx_graph.specs.Parts.{permits, excludes};
 
-use bmx_types::{BunchNo, Mode, Name, NodeNo, Val};
+use bmx_types::{Mode, Name, NodeNo, Val};
 
 /// Where a node's register stands among those of all nodes.
 pub fn register_place(node: NodeNo, register: u8) -> usize
@@ -28,11 +28,11 @@ pub fn first_counts(of_node_0: usize) -> [u64; 8]
     [of_node_0 as u64, 0, 0, 0, 0, 0, 0, 0]
 }
 
-/// The name of a bunch's anchor.
-pub fn anchor(bunch: BunchNo) -> Name
+/// The name of the anchor of the bunch with that number.
+pub fn anchor(bunch: u8) -> Name
     ensures { result ≡ anchor_of bunch }
 {
-    Name::from_word(bunch.get() as u64 + 1).unwrap()
+    Name::from_word(bunch as u64 + 1).unwrap()
 }
 
 /// Whether a hold gives the right to use an object so.

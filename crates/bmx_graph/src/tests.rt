@@ -1,4 +1,4 @@
-ghost use Rattle.std.specs.Prelude.{IsTrue, IfOk};
+ghost use Rattle.std.specs.Prelude.{IsTrue, IfOk, ◌<◌};
 ghost use Rattle.bmx_graph.specs.Graphs.{IsOperand, HasRegisters};
 
 use crate::{Answer, Graph};
@@ -64,11 +64,12 @@ fn after(rt: &impl Abort, alloc: Global, steps: &[(u8, Command, Answer)]) -> Res
     Ok(graph)
 }
 
-fn new(size: u8) -> Command
+fn new(register: u8, size: u8) -> Command
+    requires { register < 16 }
     ensures { HasRegisters result }
 {
     Command::New {
-        register: 0,
+        register,
         bunch: BunchNo::new(0).unwrap(),
         size,
     }
@@ -89,7 +90,7 @@ fn a_field_is_set_and_shown(rt: HostRuntime) -> Result<(), Fail> {
         &rt,
         rt.alloc(),
         &[
-            (0, new(1), Answer::Nil),
+            (0, new(0, 1), Answer::Nil),
             (0, Command::Write { on: R0 }, Answer::Nil),
             (0, set(R0, 0, Operand::Int(5)), Answer::Nil),
             (0, Command::Show { on: R0, index: 0 }, five),
@@ -112,7 +113,7 @@ fn refusals(rt: HostRuntime) -> Result<(), Fail> {
         &rt,
         rt.alloc(),
         &[
-            (0, new(1), Answer::Nil),
+            (0, new(0, 1), Answer::Nil),
             (0, set(R0, 0, Operand::Int(1)), refused(Refusal::NoToken)),
             (0, Command::Write { on: R0 }, Answer::Nil),
             (0, Command::Write { on: R0 }, refused(Refusal::Held)),
@@ -151,7 +152,7 @@ fn the_largest_object_and_the_least_number(rt: HostRuntime) -> Result<(), Fail> 
         &rt,
         rt.alloc(),
         &[
-            (0, new(32), Answer::Nil),
+            (0, new(0, 32), Answer::Nil),
             (0, Command::Write { on: R0 }, Answer::Nil),
             (0, set(R0, 31, Operand::Int(i64::MIN)), Answer::Nil),
             (
@@ -202,7 +203,7 @@ fn two_nodes_share_an_object_through_the_anchor(rt: HostRuntime) -> Result<(), F
         &rt,
         rt.alloc(),
         &[
-            (0, new(1), Answer::Nil),
+            (0, new(0, 1), Answer::Nil),
             (0, Command::Write { on: anchor }, Answer::Nil),
             (0, set(anchor, 0, R0), Answer::Nil),
             (1, Command::Read { on: anchor }, Answer::Wait),
@@ -270,5 +271,41 @@ fn two_nodes_share_an_object_through_the_anchor(rt: HostRuntime) -> Result<(), F
             ),
         ],
     )?;
+    Ok(())
+}
+
+/// A ring of two objects that share a third, a chain that nothing refers to, and an object of node 2.
+#[test]
+fn reached_names(rt: HostRuntime) -> Result<(), Fail> {
+    let r1 = Operand::Register(1);
+    let r2 = Operand::Register(2);
+    let graph = after(
+        &rt,
+        rt.alloc(),
+        &[
+            (0, new(0, 2), Answer::Nil),
+            (0, new(1, 2), Answer::Nil),
+            (0, new(2, 1), Answer::Nil),
+            (0, Command::Write { on: R0 }, Answer::Nil),
+            (0, Command::Write { on: r1 }, Answer::Nil),
+            (0, set(R0, 0, r1), Answer::Nil),
+            (0, set(R0, 1, r2), Answer::Nil),
+            (0, set(r1, 0, R0), Answer::Nil),
+            (0, set(r1, 1, r2), Answer::Nil),
+            (0, new(1, 1), Answer::Nil),
+            (0, new(2, 0), Answer::Nil),
+            (0, Command::Write { on: r1 }, Answer::Nil),
+            (0, set(r1, 0, r2), Answer::Nil),
+            (0, Command::Drop { register: 1 }, Answer::Nil),
+            (0, Command::Drop { register: 2 }, Answer::Nil),
+            (2, new(15, 0), Answer::Nil),
+        ],
+    )?;
+    let mut names = Vec::new(rt.alloc());
+    for (node, count) in [(0, 1), (0, 2), (0, 3), (0, 4), (2, 1)] {
+        let node = NodeNo::new(node).ok_or("a node")?;
+        names.push(Name::new(node, count).ok_or("a name")?)?;
+    }
+    assert_eq!(rt; graph.reached(rt.alloc())?.as_slice(), names.as_slice());
     Ok(())
 }

@@ -39,5 +39,5 @@ returns-clause-ok c =
     (record { object = put s.object name (Some fields.items); register = s.register; held = s.held; made = put s.made place count })
     (objects-put items (get same_name g.objects) (get same_name c.insert.new.self) name fields c.in_ok-insert.ensures.updates.0)
     (λ m r. refl) (λ m q. refl) (λ m. get_or-set_put g.made place count 0 m there) in
-    c.set_register.ensures ∙ ap (λ (t : State). with_register t n c.args.register (val.Ref name)) changed
+    c.set_register.ensures.state ∙ ap (λ (t : State). with_register t n c.args.register (val.Ref name)) changed
     ∙ with_new-from s n c.args.register c.args.size place name count fields.items c.get.ensures.value named counted blank

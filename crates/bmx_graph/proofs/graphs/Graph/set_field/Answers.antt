@@ -23,9 +23,9 @@ index_mut-requires c =
     let within = field-within (λ (x : Vec Val Global). x.items) (get same_name objects c.args.name) v c.args.index had c.requires in
     omega (arith, within, v.ok.0)
 
-pub returns : goal.returns
+pub returns-clause-state : goal.returns-clause-state
 unfolding state_of
-returns c =
+returns-clause-state c =
     let g = c.args.self.now in
     let v = c.unwrap-fields.result.now in
     let w = with_item v c.args.index c.args.value in

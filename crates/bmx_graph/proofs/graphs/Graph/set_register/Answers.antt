@@ -3,9 +3,9 @@ use Rattle.bmx_graph.specs.Graphs.{state_of}
 use Rattle.bmx_graph.proofs.States.{state_of-from, register_in-set}
 use Rattle.bmx_graph.proofs.graphs.Graph.set_register.Goals as goal
 
-pub returns : goal.returns
+pub returns-clause-state : goal.returns-clause-state
 unfolding state_of
-returns c =
+returns-clause-state c =
     let g = c.args.self.now in
     let at = 16 * c.args.node + c.args.register in
     let there : at < length g.registers = omega arith in
