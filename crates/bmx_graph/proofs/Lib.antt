@@ -3,3 +3,4 @@ pub mod Excluded
 pub mod Births
 pub mod Finding
 pub mod Reaching
+mod Unreached

@@ -1,4 +1,4 @@
--- How a walk from the roots comes to exactly the names that are
+-- How a walk from the roots comes to exactly the names that are reached.
 use Rattle.std.proofs.Common.{◌≡◌, ◌↔◌, ℕ, ◌+◌, ◌*◌, ◌/◌, ◌%◌, ◌<◌, ◌≤◌, List, [], ◌∷◌, length, Contains, Option, Some, None, Vec, Global, slice_get, slice_index_or, unwrap_or, refl, subst, sym, ap, ◌∙◌, ⊎_elim, below_more, arith, zero, suc}
 use Rattle.std.specs.Option.{option_map}
 use Rattle.std.specs.HashMap.{get}
@@ -17,7 +17,7 @@ use Rattle.bmx_graph.proofs.States.{register_in-there}
 use Rattle.bmx_graph.proofs.Finding.{kept-found, Contains-at, at-Contains, Contains-one, Contains_none}
 
 -- a set of names that has the roots, and the names in the fields of each of its names, has each name that is reached
-reached_in : (nodes bunches : ℕ) (s : State) (P : ℕ → Type 0)
+pub reached_in : (nodes bunches : ℕ) (s : State) (P : ℕ → Type 0)
     → ((n r x : ℕ) → n < nodes → r < 16 → s.register n r ≡ val.Ref x → P x)
     → ((b : ℕ) → b < bunches → P (anchor_of b))
     → ((x y : ℕ) → P x → Contains (fields_of s x) (val.Ref y) → P y)
