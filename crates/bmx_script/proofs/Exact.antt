@@ -1,10 +1,9 @@
 -- What the reader computes of a line is what the grammar says of it.
-use Rattle.std.proofs.Common.{◌≡◌, ℕ, ◌+◌, ◌<◌, ◌≤◌, ◌==◌, Bool, true, false, cond, not, ◌&&◌, ◌||◌, nat_lt, nat_le, List, [], ◌∷◌, ◌++◌, length, Option, Some, None, refl, ap, sym, ◌∙◌, subst, arith}
-use Rattle.std.specs.Prelude.{IsTrue, codes}
+use Rattle.std.proofs.Common.{◌≡◌, ℕ, ◌+◌, ◌<◌, ◌==◌, Bool, true, false, cond, not, ◌&&◌, ◌||◌, nat_lt, nat_le, List, [], ◌∷◌, length, Option, Some, None, refl, ap, sym, ◌∙◌, subst, arith}
+use Rattle.std.specs.Prelude.{codes}
 use Rattle.std.specs.List.{list_any, list_all, position_from, slice_split, join_with_byte}
 use Rattle.std.proofs.lemmas.List.Splits.{join_with_byte-slice_split}
-use Rattle.std.proofs.lemmas.Bool.{and_parts, and_from, ltb-true, lt-ltb, leb-true, le-leb, eq-eqb, eqb-true, or_parts, or_from, not-true, not_from_false, false_from_ne_true, or_cases}
-use Rattle.bmx_types.specs.declared.commands.Operand.{Operand}
+use Rattle.std.proofs.lemmas.Bool.{and_parts, and_from, ltb-true, lt-ltb, leb-true, le-leb, eq-eqb, eqb-true, or_parts, or_from, not-true, not_from_false}
 use Rattle.bmx_types.specs.declared.commands.Operand.TheVariants as operand
 use Rattle.bmx_types.specs.declared.commands.Command.{Command}
 use Rattle.bmx_types.specs.declared.commands.Command.TheVariants as command
@@ -16,13 +15,13 @@ use Rattle.bmx_numerals.specs.Fields.{field_below, field_within, field_integer, 
 use Rattle.bmx_script.specs.declared.knowledge.Known.{Known}
 use Rattle.bmx_script.specs.declared.lines.LineKind.{LineKind}
 use Rattle.bmx_script.specs.declared.lines.LineKind.TheVariants as line
-use Rattle.bmx_script.specs.Spelling.{word_of, register_word, operand_word, command_words, line_words, spelling}
+use Rattle.bmx_script.specs.Spelling.{word_of, register_word, command_words, line_words, spelling}
 use Rattle.bmx_script.specs.Grammar.{may_follow, section_of, is_built, is_built_command, is_bunch_word, same_word, named_on, named_in, in_range, fits_command, IsSpelled, HasForm, IsGood}
 use Rattle.bmx_script.specs.Distinct.{AreDistinct}
 use Rattle.bmx_script.specs.Parsing.{field_map, register_field, found_bunch, bunch_field, of_one, of_two, of_three, command_field, node_line, head_line, line_field, read_line}
-use Rattle.bmx_numerals.proofs.NumeralLemmas.{numeral_no_space, signed_numeral_no_space}
-use Rattle.bmx_script.proofs.FieldLemmas.{is_form, split_if, if_true, if_false, form_and, form_map, and_form, map_form, good_and, good_map, and_good, map_good, form_below, below_form, below_good, good_below, form_within, within_form, within_good, good_within, form_integer, integer_form, integer_good, good_integer, form_register, register_form, register_good, good_register}
-use Rattle.bmx_script.proofs.Words.{is_space, has_no_space, split-join, bunch_word_no_space, same_word-true, same_word-same, position_found, position_at}
+use Rattle.bmx_script.proofs.FieldLemmas.{is_form, split_if, if_false, form_and, form_map, and_form, map_form, good_and, good_map, and_good, map_good, form_below, below_form, below_good, good_below, form_within, within_form, within_good, good_within, form_integer, integer_form, integer_good, good_integer, form_register, register_form, register_good, good_register}
+use Rattle.bmx_script.proofs.Words.{is_space, same_word-true, same_word-same, position_found, position_at}
+use Rattle.bmx_script.proofs.Plain.{the_word, plain_line}
 
 -- ## bunches by their words
 
@@ -81,19 +80,6 @@ good_bunch k b distinct known proper =
     (ap found_bunch place ∙ ap (λ n. Good n) (omega arith))
 
 -- ## what a line that is spelled so comes to
-
-first_word : (w : List ℕ) (ws : List (List ℕ)) → list_all (λ b. is_bunch_word (word_of ws b)) [] ≡ true
-first_word w ws = refl
-
-the_word : (ws : List (List ℕ)) (b : ℕ) → list_all (λ c. is_bunch_word (word_of ws c)) (b ∷ []) ≡ true → is_bunch_word (word_of ws b) ≡ true
-the_word ws b h = (and_parts (is_bunch_word (word_of ws b)) true h).0
-
-form_head : (k : Known) (w : List ℕ) → is_bunch_word w ≡ true → is_form (cond (is_bunch_word w) (cond (list_any (same_word w) k.bunches || not (nat_lt (length k.bunches) 16)) Range (Good (line.Bunch w None))) Form) ≡ false
-form_head k w h = form_if (is_bunch_word w) _ h (either (list_any (same_word w) k.bunches || not (nat_lt (length k.bunches) 16)))
-  where
-    either : (b : Bool) → is_form (cond b Range (Good (line.Bunch w None))) ≡ false
-    either true = refl
-    either false = refl
 
 form_do : (k : Known) (ws : List (List ℕ)) (node : ℕ) (c : Command) → may_follow k.section 5 ≡ true → is_built_command c ≡ true
     → list_all (λ b. is_bunch_word (word_of ws b)) (named_in c) ≡ true → is_form (line_field k (numeral node ∷ command_words ws c)) ≡ false
@@ -506,67 +492,6 @@ words_good k (a ∷ b ∷ c ∷ words) what e =
     let parts : (may_follow k.section 5 ≡ true) × (node_line k a b (c ∷ words) ≡ Good what) = if_good _ _ what e in
     node_good k a b (c ∷ words) what parts.0 parts.1
 
--- ## lines and their words
-
-plain_do : (ws : List (List ℕ)) (node : ℕ) (c : Command) → is_built_command c ≡ true → list_all (λ b. is_bunch_word (word_of ws b)) (named_in c) ≡ true
-    → slice_split is_space (join_with_byte 32 (numeral node ∷ command_words ws c)) ≡ numeral node ∷ command_words ws c
-plain_do ws node (command.New r b s) built named = split-join (numeral node) (command_words ws (command.New r b s))
-    (and_from (has_no_space (numeral node)) (list_all has_no_space (register_word r ∷ word_of ws b ∷ numeral s ∷ [])) (numeral_no_space node)
-    (and_from (has_no_space (register_word r)) (list_all has_no_space (word_of ws b ∷ numeral s ∷ [])) (numeral_no_space r)
-    (and_from (has_no_space (word_of ws b)) (list_all has_no_space (numeral s ∷ [])) (bunch_word_no_space (word_of ws b) (the_word ws b named))
-    (and_from (has_no_space (numeral s)) true (numeral_no_space s) refl))))
-plain_do ws node (command.Copy r v) built named = cc
-plain_do ws node (command.Drop r) built named = cc
-plain_do ws node (command.Read on) built named = cc
-plain_do ws node (command.Write (operand.Register r)) built named = split-join (numeral node) (command_words ws (command.Write (operand.Register r)))
-    (and_from (has_no_space (numeral node)) (list_all has_no_space (register_word r ∷ [])) (numeral_no_space node) (and_from (has_no_space (register_word r)) true (numeral_no_space r) refl))
-plain_do ws node (command.Write (operand.Anchor b)) built named = cc
-plain_do ws node (command.Write (operand.Int z)) built named = cc
-plain_do ws node (command.Write operand.Null) built named = cc
-plain_do ws node (command.Done (operand.Register r)) built named = split-join (numeral node) (command_words ws (command.Done (operand.Register r)))
-    (and_from (has_no_space (numeral node)) (list_all has_no_space (register_word r ∷ [])) (numeral_no_space node) (and_from (has_no_space (register_word r)) true (numeral_no_space r) refl))
-plain_do ws node (command.Done (operand.Anchor b)) built named = cc
-plain_do ws node (command.Done (operand.Int z)) built named = cc
-plain_do ws node (command.Done operand.Null) built named = cc
-plain_do ws node (command.Set (operand.Register r) i (operand.Int z)) built named = split-join (numeral node) (command_words ws (command.Set (operand.Register r) i (operand.Int z)))
-    (and_from (has_no_space (numeral node)) (list_all has_no_space (register_word r ∷ numeral i ∷ signed_numeral z ∷ [])) (numeral_no_space node)
-    (and_from (has_no_space (register_word r)) (list_all has_no_space (numeral i ∷ signed_numeral z ∷ [])) (numeral_no_space r)
-    (and_from (has_no_space (numeral i)) (list_all has_no_space (signed_numeral z ∷ [])) (numeral_no_space i)
-    (and_from (has_no_space (signed_numeral z)) true (signed_numeral_no_space z) refl))))
-plain_do ws node (command.Set (operand.Register r) i (operand.Register q)) built named = cc
-plain_do ws node (command.Set (operand.Register r) i (operand.Anchor b)) built named = cc
-plain_do ws node (command.Set (operand.Register r) i operand.Null) built named = cc
-plain_do ws node (command.Set (operand.Anchor b) i v) built named = cc
-plain_do ws node (command.Set (operand.Int z) i v) built named = cc
-plain_do ws node (command.Set operand.Null i v) built named = cc
-plain_do ws node (command.Add on i z) built named = cc
-plain_do ws node (command.Get r on i) built named = cc
-plain_do ws node (command.Show (operand.Register r) i) built named = split-join (numeral node) (command_words ws (command.Show (operand.Register r) i))
-    (and_from (has_no_space (numeral node)) (list_all has_no_space (register_word r ∷ numeral i ∷ [])) (numeral_no_space node)
-    (and_from (has_no_space (register_word r)) (list_all has_no_space (numeral i ∷ [])) (numeral_no_space r) (and_from (has_no_space (numeral i)) true (numeral_no_space i) refl)))
-plain_do ws node (command.Show (operand.Anchor b) i) built named = cc
-plain_do ws node (command.Show (operand.Int z) i) built named = cc
-plain_do ws node (command.Show operand.Null i) built named = cc
-plain_do ws node (command.Same l r) built named = cc
-
--- between the spaces of a line's spelling lie its words
-plain_line : (ws : List (List ℕ)) (what : LineKind) → is_built what ≡ true → list_all (λ b. is_bunch_word (word_of ws b)) (named_on what) ≡ true
-    → slice_split is_space (spelling ws what) ≡ line_words ws what
-plain_line ws line.Version built named = refl
-plain_line ws (line.Nodes count) built named = split-join (codes "nodes") (numeral count ∷ []) (and_from (has_no_space (numeral count)) true (numeral_no_space count) refl)
-plain_line ws (line.Bunch w None) built named = split-join (codes "bunch") (w ∷ []) (and_from (has_no_space w) true (bunch_word_no_space w (and_parts true (is_bunch_word w) built).1) refl)
-plain_line ws (line.Bunch w (Some f)) built named = cc
-plain_line ws (line.Segments l) built named = cc
-plain_line ws (line.Table f t n fate) built named = cc
-plain_line ws (line.TablesLose e) built named = cc
-plain_line ws (line.Save b f) built named = cc
-plain_line ws line.Phase built named = cc
-plain_line ws line.Quiet built named = cc
-plain_line ws (line.Do node c) built named = plain_do ws node c built named
-plain_line ws (line.Collect n b) built named = cc
-plain_line ws (line.Sweep n) built named = cc
-plain_line ws line.Settle built named = cc
-
 -- ## the answer for a line
 
 -- what the grammar says of a text, by the field that was read from it
@@ -581,7 +506,7 @@ read_words k ws what text s = ap (slice_split is_space) (sym s.spelled) ∙ plai
 spelled_is_read : (k : Known) (ws : List (List ℕ)) (what : LineKind) (text : List ℕ) → IsSpelled k ws what text → is_form (read_line k text) ≡ false
 spelled_is_read k ws what text s = ap (λ x. is_form (line_field k x)) (read_words k ws what text s) ∙ form_line k ws what s.stands s.built s.words
 
-good_is_read : (k : Known) (what : LineKind) (text : List ℕ) → AreDistinct k.bunches → IsGood k what text → read_line k text ≡ Good what
+pub good_is_read : (k : Known) (what : LineKind) (text : List ℕ) → AreDistinct k.bunches → IsGood k what text → read_line k text ≡ Good what
 good_is_read k what text distinct g =
     ap (λ x. line_field k x) (read_words k k.bunches what text g.form) ∙ good_line k what distinct g.form.stands g.form.built g.form.words g.range
 

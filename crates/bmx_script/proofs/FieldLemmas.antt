@@ -1,15 +1,12 @@
 -- What a field tells of the word that it was read from.
-use Rattle.std.proofs.Common.{◌≡◌, ℕ, ◌+◌, ◌<◌, ◌==◌, ℤ, Bool, true, false, cond, not, ◌&&◌, ◌||◌, nat_lt, nat_le, List, [], ◌∷◌, length, Option, Some, None, slice_index_or, refl, ap, sym, ◌∙◌, arith}
-use Rattle.std.specs.List.{list_any, list_all, position_from}
-use Rattle.std.proofs.lemmas.Bool.{and_parts, and_from, eqb-true}
+use Rattle.std.proofs.Common.{◌≡◌, ℕ, ◌==◌, ℤ, Bool, true, false, cond, ◌&&◌, nat_lt, nat_le, List, [], ◌∷◌, Option, Some, None, refl, ap}
+use Rattle.std.proofs.lemmas.Bool.{eqb-true}
 use Rattle.bmx_numerals.specs.declared.fields.Field.{Field}
 use Rattle.bmx_numerals.specs.declared.fields.Field.TheVariants.{Form, Range, Good}
 use Rattle.bmx_numerals.specs.Numerals.{numeral, signed_numeral, number_in, integer_in}
 use Rattle.bmx_numerals.specs.Fields.{tested, field_below, field_within, field_integer, field_and, is_i64}
-use Rattle.bmx_script.specs.Spelling.{register_word, word_of}
-use Rattle.bmx_script.specs.declared.knowledge.Known.{Known}
-use Rattle.bmx_script.specs.Grammar.{is_bunch_word, same_word}
-use Rattle.bmx_script.specs.Parsing.{field_map, register_field, found_bunch, bunch_field}
+use Rattle.bmx_script.specs.Spelling.{register_word}
+use Rattle.bmx_script.specs.Parsing.{field_map, register_field}
 use Rattle.bmx_numerals.proofs.NumeralLemmas.{number_in-numeral, numeral-number_in, integer_in-signed_numeral, signed_numeral-integer_in}
 
 -- nothing is spelled so

@@ -1,14 +1,13 @@
 -- What the head of a script says: its nodes and its bunches.
-use Rattle.std.proofs.Common.{◌≡◌, ℕ, ◌+◌, ◌<◌, ◌≤◌, ◌==◌, Bool, true, false, cond, not, ◌&&◌, ◌||◌, nat_lt, nat_le, List, [], ◌∷◌, ◌++◌, length, refl, ap, sym, ◌∙◌, ⊎_elim, inl, inr, arith}
+use Rattle.std.proofs.Common.{◌≡◌, ℕ, ◌+◌, ◌<◌, ◌≤◌, ◌==◌, true, cond, ◌&&◌, ◌||◌, nat_lt, nat_le, List, [], ◌∷◌, length, ⊎_elim, inl, inr, arith}
 use Rattle.std.specs.Prelude.{◌⊎◌}
-use Rattle.std.specs.List.{list_any}
 use Rattle.std.proofs.lemmas.Bool.{and_parts, or_cases, eqb-true, ltb-true, ltb-false, leb-true, cases_lt, cond_both}
 use Rattle.std.proofs.Math.ListN.{length-append}
 use Rattle.bmx_script.specs.declared.knowledge.Known.{Known}
 use Rattle.bmx_script.specs.declared.lines.Line.{Line}
 use Rattle.bmx_script.specs.declared.lines.LineKind.{LineKind}
 use Rattle.bmx_script.specs.declared.lines.LineKind.TheVariants as line
-use Rattle.bmx_script.specs.Grammar.{may_follow, section_of, in_range, same_word, known_after, known_after_all, nothing_known, nodes_of, bunches_of, AreInOrder, AreScript, HasRoom}
+use Rattle.bmx_script.specs.Grammar.{may_follow, section_of, in_range, known_after, known_after_all, nothing_known, AreInOrder, AreScript, HasRoom}
 use Rattle.bmx_script.proofs.Sound.{room_after}
 
 -- behind the nodes their number is known, behind the bunches they are

@@ -2,6 +2,10 @@ pub mod Exact
 pub mod FieldLemmas
 pub mod Heads
 pub mod LineFeeds
+pub mod Named
+pub mod OneReading
 pub mod OtherCounts
+pub mod Plain
+pub mod RoundTrip
 pub mod Sound
 pub mod Words

@@ -1,6 +1,5 @@
 -- No line has fewer than two words or more than five.
-use Rattle.std.proofs.Common.{◌≡◌, ℕ, ◌<◌, ◌≤◌, List, [], ◌∷◌, length, map, Bool, true, false, cond, refl, ap, ◌∙◌, arith}
-use Rattle.bmx_types.specs.declared.commands.Command.{Command}
+use Rattle.std.proofs.Common.{◌≡◌, ℕ, ◌<◌, ◌≤◌, List, [], ◌∷◌, length, map, Bool, true, false, cond, refl, ap, arith}
 use Rattle.bmx_numerals.specs.declared.fields.Field.{Field}
 use Rattle.bmx_numerals.specs.declared.fields.Field.TheVariants.{Form, Range, Good}
 use Rattle.bmx_numerals.specs.Fields.{field_below, field_and}

@@ -1,11 +1,10 @@
 -- A line and its words: what lies between its spaces.
-use Rattle.std.proofs.Common.{◌≡◌, ℕ, ◌+◌, ◌<◌, ◌≤◌, ◌==◌, Bool, true, false, cond, not, ◌&&◌, ◌||◌, nat_lt, nat_le, List, [], ◌∷◌, ◌++◌, length, get_or, suc, zero, Option, Some, None, slice_index_or, refl, ap, sym, ◌∙◌, arith}
-use Rattle.std.specs.List.{list_any, list_all, position_from, slice_split, onto_first, join_with_byte}
-use Rattle.std.proofs.lemmas.Bool.{and_parts, and_from, eqb-true, ltb-true, lt-ltb, leb-true, not-true, false_from_ne_true}
+use Rattle.std.proofs.Common.{◌≡◌, ℕ, ◌+◌, ◌<◌, ◌==◌, Bool, true, false, not, ◌&&◌, nat_le, List, [], ◌∷◌, ◌++◌, length, get_or, suc, zero, Some, refl, ap, ◌∙◌, arith}
+use Rattle.std.specs.List.{list_all, position_from, slice_split, join_with_byte}
+use Rattle.std.proofs.lemmas.Bool.{and_parts, and_from, eqb-true, not-true}
 use Rattle.std.specs.Prelude.{IsUtf8, slice_index}
 use Rattle.std.proofs.lemmas.Str.{IsUtf8-from_ascii}
-use Rattle.bmx_script.specs.Spelling.{word_of}
-use Rattle.bmx_script.specs.Grammar.{is_within, is_letter, is_word_byte, is_bunch_word, begins_with_letter, same_word}
+use Rattle.bmx_script.specs.Grammar.{is_word_byte, is_bunch_word, begins_with_letter, same_word}
 use Rattle.bmx_script.proofs.FieldLemmas.{split_if}
 
 -- a word without a space
@@ -35,26 +34,6 @@ split-join w [] h = split_last w (and_parts (has_no_space w) true h).0
 split-join w (v ∷ vs) h =
     let parts : (has_no_space w ≡ true) × (list_all has_no_space (v ∷ vs) ≡ true) = and_parts (has_no_space w) (list_all has_no_space (v ∷ vs)) h in
     split_word w (join_with_byte 32 (v ∷ vs)) parts.0 ∙ ap (λ x. w ∷ x) (split-join v vs parts.1)
-
--- a word byte is no space
-word_byte : (c : ℕ) → is_word_byte c ≡ true → not (c == 32) ≡ true
-word_byte c h = by_equality (c == 32) (λ t. let e : c ≡ 32 = eqb-true c 32 t in let bad : is_word_byte 32 ≡ true = rw e at h in cc)
-  where
-    by_equality : (b : Bool) → (b ≡ true → false ≡ true) → not b ≡ true
-    by_equality true f = f refl
-    by_equality false f = refl
-
-word_bytes : (w : List ℕ) → list_all is_word_byte w ≡ true → has_no_space w ≡ true
-word_bytes [] h = refl
-word_bytes (c ∷ w) h =
-    let parts : (is_word_byte c ≡ true) × (list_all is_word_byte w ≡ true) = and_parts (is_word_byte c) (list_all is_word_byte w) h in
-    and_from (not (c == 32)) (has_no_space w) (word_byte c parts.0) (word_bytes w parts.1)
-
-pub bunch_word_no_space : (w : List ℕ) → is_bunch_word w ≡ true → has_no_space w ≡ true
-bunch_word_no_space [] h = refl
-bunch_word_no_space (c ∷ w) h =
-    let parts : (is_letter c ≡ true) × ((list_all is_word_byte (c ∷ w) && nat_le (length (c ∷ w)) 16) ≡ true) = and_parts (is_letter c) (list_all is_word_byte (c ∷ w) && nat_le (length (c ∷ w)) 16) h in
-    word_bytes (c ∷ w) (and_parts (list_all is_word_byte (c ∷ w)) (nat_le (length (c ∷ w)) 16) parts.1).0
 
 -- the same word
 pub same_word-true : (a b : List ℕ) → same_word a b ≡ true → a ≡ b

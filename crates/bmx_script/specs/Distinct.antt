@@ -1,5 +1,5 @@
 -- Lists of words of which no two are the same.
-use Rattle.std.specs.Prelude.{◌≡◌, ℕ, ◌<◌, Bool, false, List, length}
+use Rattle.std.specs.Prelude.{◌≡◌, ℕ, ◌<◌, false, List, length}
 use Rattle.bmx_script.specs.Spelling.{word_of}
 use Rattle.bmx_script.specs.Grammar.{same_word}
 

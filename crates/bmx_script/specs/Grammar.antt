@@ -1,5 +1,5 @@
 -- Which bytes are a script, and which line is the first bad one, with its cause.
-use Rattle.std.specs.Prelude.{◌≡◌, ℕ, ◌+◌, ◌^◌, ◌<◌, ◌≤◌, ◌==◌, nat_lt, nat_le, ℤ, pos, negsuc, ◌-◌, int_le, Bool, true, false, not, ◌&&◌, ◌||◌, if◌then◌else◌, List, [], ◌∷◌, ◌++◌, length, Option, Some, None, Result, Ok, Err, IsTrue}
+use Rattle.std.specs.Prelude.{◌≡◌, ℕ, ◌+◌, ◌^◌, ◌<◌, ◌≤◌, ◌==◌, nat_lt, nat_le, Bool, true, false, not, ◌&&◌, ◌||◌, if◌then◌else◌, List, [], ◌∷◌, ◌++◌, length, Option, Some, None, Result, Ok, Err, IsTrue}
 use Rattle.std.specs.List.{list_any, list_all, onto_first}
 use Rattle.std.specs.Str.{bytes_eq}
 use Rattle.bmx_types.specs.Integers.{is_i64}
@@ -16,7 +16,7 @@ use Rattle.bmx_script.specs.declared.lines.BadCause.TheVariants as cause
 use Rattle.bmx_script.specs.declared.knowledge.Known.{Known}
 use Rattle.bmx_script.specs.declared.verdicts.Verdict.{Verdict}
 use Rattle.bmx_script.specs.declared.verdicts.Verdict.TheVariants as verdict
-use Rattle.bmx_script.specs.Spelling.{word_of, spelling}
+use Rattle.bmx_script.specs.Spelling.{word_of, spelling, printed}
 
 -- a byte from one to another
 abbrev pub is_within : ℕ → ℕ → ℕ → Bool
@@ -259,16 +259,34 @@ AreInOrder k (l ∷ ls) =
     IsTrue (may_follow k.section (section_of l.what)) × IsTrue (is_built l.what) × IsTrue (in_range k l.what)
     × AreInOrder (known_after k l.what) ls
 
--- the lines of a script: they have their head, are in order, and are 20,000 at most
+-- the words of the bunches of a script, by number
+abbrev pub bunches_of : List Line → List (List ℕ)
+bunches_of lines = (known_after_all nothing_known lines).bunches
+
+-- the printed script: its lines at their own numbers, with the words of its bunches
+abbrev pub script_text : List Line → List ℕ
+script_text lines = printed (bunches_of lines) 1 lines
+
+-- the numbers of lines rise, and are above one number and below another
+abbrev pub AreNumbered : ℕ → ℕ → List Line → Type 0
+AreNumbered above below [] = above < below
+AreNumbered above below (l ∷ ls) = (above < l.number) × AreNumbered l.number below ls
+
+-- the number of the first line, or of the next where there is none
+abbrev pub first_number : ℕ → List Line → ℕ
+first_number next [] = next
+first_number next (l ∷ ls) = l.number
+
+-- the lines of a script: they have their head, are in order, stand at rising numbers from 1 to 20,000,
+-- and print to 2 ^ 20 bytes at most
 pub record AreScript (lines : List Line) : Type 0 where
   pub order : AreInOrder nothing_known lines
   pub head : IsTrue (nat_le 3 (known_after_all nothing_known lines).section)
   pub few : length lines ≤ 20000
+  pub first : first_number 1 lines ≡ 1
+  pub numbers : AreNumbered 0 20001 lines
+  pub short : length (script_text lines) ≤ 2 ^ 20
 
 -- how many nodes a script has
 abbrev pub nodes_of : List Line → ℕ
 nodes_of lines = (known_after_all nothing_known lines).nodes
-
--- the words of its bunches, by number
-abbrev pub bunches_of : List Line → List (List ℕ)
-bunches_of lines = (known_after_all nothing_known lines).bunches

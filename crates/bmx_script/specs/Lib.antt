@@ -1,5 +1,6 @@
 pub mod Distinct
 pub mod Grammar
+pub mod Laws
 pub mod Parsing
 pub mod Printing
 pub mod Reader

@@ -1,12 +1,13 @@
--- What each line of a script spells. A line is words with one space between two of them. Numbers and
+-- What each line of a script spells, and what lines print. A line is words with one space between two of them. Numbers and
 -- words are any here, also those out of range: which lines a script may have, Grammar says.
-use Rattle.std.specs.Prelude.{◌≡◌, ℕ, ◌==◌, ℤ, if◌then◌else◌, List, [], ◌∷◌, ◌++◌, slice_index_or, Option, Some, None, codes}
+use Rattle.std.specs.Prelude.{◌≡◌, ℕ, ◌+◌, ◌-◌, ◌==◌, if◌then◌else◌, List, [], ◌∷◌, ◌++◌, replicate, slice_index_or, Option, Some, None, codes, refl}
 use Rattle.std.specs.List.{join_with_byte}
 use Rattle.bmx_types.specs.declared.commands.Operand.{Operand}
 use Rattle.bmx_types.specs.declared.commands.Operand.TheVariants as operand
 use Rattle.bmx_types.specs.declared.commands.Command.{Command}
 use Rattle.bmx_types.specs.declared.commands.Command.TheVariants as command
 use Rattle.bmx_script.specs.declared.lines.Fate.{Fate}
+use Rattle.bmx_script.specs.declared.lines.Line.{Line}
 use Rattle.bmx_script.specs.declared.lines.LineKind.{LineKind}
 use Rattle.bmx_script.specs.declared.lines.LineKind.TheVariants as line
 use Rattle.bmx_numerals.specs.Numerals.{numeral, signed_numeral}
@@ -26,19 +27,37 @@ operand_word bunches (operand.Anchor b) = 64 ∷ word_of bunches b
 operand_word bunches (operand.Int k) = signed_numeral k
 operand_word bunches operand.Null = codes "null"
 
+-- what a command does
+abbrev pub verb_word : Command → List ℕ
+verb_word (command.New register bunch size) = codes "new"
+verb_word (command.Copy register value) = codes "copy"
+verb_word (command.Drop register) = codes "drop"
+verb_word (command.Read on) = codes "read"
+verb_word (command.Write on) = codes "write"
+verb_word (command.Done on) = codes "done"
+verb_word (command.Set on index value) = codes "set"
+verb_word (command.Add on index by) = codes "add"
+verb_word (command.Get register on index) = codes "get"
+verb_word (command.Show on index) = codes "show"
+verb_word (command.Same left right) = codes "same"
+
+-- what it does that to
+abbrev pub operand_words : List (List ℕ) → Command → List (List ℕ)
+operand_words bunches (command.New register bunch size) = register_word register ∷ word_of bunches bunch ∷ numeral size ∷ []
+operand_words bunches (command.Copy register value) = register_word register ∷ operand_word bunches value ∷ []
+operand_words bunches (command.Drop register) = register_word register ∷ []
+operand_words bunches (command.Read on) = operand_word bunches on ∷ []
+operand_words bunches (command.Write on) = operand_word bunches on ∷ []
+operand_words bunches (command.Done on) = operand_word bunches on ∷ []
+operand_words bunches (command.Set on index value) = operand_word bunches on ∷ numeral index ∷ operand_word bunches value ∷ []
+operand_words bunches (command.Add on index by) = operand_word bunches on ∷ numeral index ∷ signed_numeral by ∷ []
+operand_words bunches (command.Get register on index) = register_word register ∷ operand_word bunches on ∷ numeral index ∷ []
+operand_words bunches (command.Show on index) = operand_word bunches on ∷ numeral index ∷ []
+operand_words bunches (command.Same left right) = operand_word bunches left ∷ operand_word bunches right ∷ []
+
 -- a command without its node
 abbrev pub command_words : List (List ℕ) → Command → List (List ℕ)
-command_words bunches (command.New register bunch size) = codes "new" ∷ register_word register ∷ word_of bunches bunch ∷ numeral size ∷ []
-command_words bunches (command.Copy register value) = codes "copy" ∷ register_word register ∷ operand_word bunches value ∷ []
-command_words bunches (command.Drop register) = codes "drop" ∷ register_word register ∷ []
-command_words bunches (command.Read on) = codes "read" ∷ operand_word bunches on ∷ []
-command_words bunches (command.Write on) = codes "write" ∷ operand_word bunches on ∷ []
-command_words bunches (command.Done on) = codes "done" ∷ operand_word bunches on ∷ []
-command_words bunches (command.Set on index value) = codes "set" ∷ operand_word bunches on ∷ numeral index ∷ operand_word bunches value ∷ []
-command_words bunches (command.Add on index by) = codes "add" ∷ operand_word bunches on ∷ numeral index ∷ signed_numeral by ∷ []
-command_words bunches (command.Get register on index) = codes "get" ∷ register_word register ∷ operand_word bunches on ∷ numeral index ∷ []
-command_words bunches (command.Show on index) = codes "show" ∷ operand_word bunches on ∷ numeral index ∷ []
-command_words bunches (command.Same left right) = codes "same" ∷ operand_word bunches left ∷ operand_word bunches right ∷ []
+command_words bunches c = verb_word c ∷ operand_words bunches c
 
 -- where a bunch is loaded from
 abbrev pub from_words : Option (List ℕ) → List (List ℕ)
@@ -68,6 +87,21 @@ line_words bunches (line.Collect node bunch) = numeral node ∷ codes "collect" 
 line_words bunches (line.Sweep node) = numeral node ∷ codes "sweep" ∷ []
 line_words bunches line.Settle = codes "settle" ∷ []
 
+-- words, each behind a space (the byte 32)
+abbrev pub spaced : List (List ℕ) → List ℕ
+spaced [] = []
+spaced (w ∷ ws) = 32 ∷ (w ++ spaced ws)
+
 -- the bytes of a line, without its line feed: 32 is the space
 abbrev pub spelling : List (List ℕ) → LineKind → List ℕ
 spelling bunches what = join_with_byte 32 (line_words bunches what)
+
+-- lines from a line number on, each at its own number and with a line feed (the byte 10) behind it;
+-- what was skipped between them is empty lines
+abbrev pub printed : List (List ℕ) → ℕ → List Line → List ℕ
+printed bunches number [] = []
+printed bunches number (l ∷ ls) =
+    replicate (l.number - number) 10 ++ (spelling bunches l.what ++ 10 ∷ printed bunches (l.number + 1) ls)
+
+a_line_at_three : printed [] 2 (record { number = 3; what = line.Nodes 1 } ∷ []) ≡ 10 ∷ codes "nodes 1" ++ 10 ∷ []
+a_line_at_three = refl

@@ -2,16 +2,20 @@
 #![tactic(auto)]
 
 mod knowledge;
+mod laws;
 mod lines;
 mod printing;
 mod reading;
 mod scripts;
+mod spelling;
 #[cfg(test)]
 mod tests;
 mod verdicts;
 
 pub use knowledge::Known;
+pub use laws::reading_is_determined;
 pub use lines::{Bad, BadCause, BunchWords, Fate, Line, LineKind, Lines};
 pub use printing::{Shown, print_line};
 pub use scripts::{Script, ScriptError, read_script};
+pub use spelling::print_script;
 pub use verdicts::Verdict;

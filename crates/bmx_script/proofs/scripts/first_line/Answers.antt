@@ -1,4 +1,4 @@
-use Rattle.std.proofs.Common.{◌≡◌, ◌+◌, ◌∷◌, ap, sym, ◌∙◌, length, take, drop, [], List, ℕ, arith}
+use Rattle.std.proofs.Common.{◌+◌, ◌∷◌, ap, sym, ◌∙◌, length, take, List, ℕ, arith}
 use Rattle.bmx_script.specs.Grammar.{lines_of}
 use Rattle.bmx_script.proofs.LineFeeds.{lines_of-cut, lines_of-uncut, rest_from}
 use Rattle.std.proofs.Math.Seq.{drop-length}

@@ -1,4 +1,4 @@
-use Rattle.std.proofs.Common.{◌≡◌, length}
+use Rattle.std.proofs.Common.{length}
 use Rattle.bmx_script.specs.Grammar.{IsReading, lines_of}
 use Rattle.bmx_script.specs.Reader.{ReadsOn, IsSound}
 use Rattle.bmx_script.proofs.scripts.read_script.Given as goal

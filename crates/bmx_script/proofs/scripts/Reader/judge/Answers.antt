@@ -1,6 +1,4 @@
 use Rattle.std.proofs.Common.{◌≡◌, sym, ap, ◌∙◌, subst, false}
-use Rattle.bmx_numerals.specs.declared.fields.Field.{Field}
-use Rattle.bmx_script.specs.declared.lines.LineKind.{LineKind}
 use Rattle.bmx_script.specs.declared.verdicts.Verdict.{Verdict}
 use Rattle.bmx_script.specs.Grammar.{is_long, is_skipped, IsVerdict}
 use Rattle.bmx_script.specs.Parsing.{read_line}

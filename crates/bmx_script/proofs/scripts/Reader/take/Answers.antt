@@ -16,7 +16,7 @@ returns-clause-sound c =
     elim c.match-branch-2.branch [
       | in-Skipped w ↦
           (let said : P verdict.Skipped = subst P w.in-Skipped.is c.in_ok-judge.ensures in
-          subst Q (sym w.self-is) (sound_skipped r c.args.text.now c.requires said.0))
+          subst Q (sym w.self-is) (sound_skipped r c.args.text.now c.requires said.0 said.1))
       | in-Is+in_ok-note-in-Is w ↦
           (let said : P (verdict.Is w.in-Is.what) = subst P w.in-Is.is c.in_ok-judge.ensures in
           subst Q (sym (w.self-is ∙ w.in_ok-note-in-Is.ensures)) (sound_noted r c.args.text.now w.in-Is.what c.requires said.0 said.2))

@@ -1,6 +1,5 @@
-use Rattle.std.proofs.Common.{◌<◌, ◌≤◌, subst, sym, length}
+use Rattle.std.proofs.Common.{subst, sym}
 use Rattle.bmx_script.specs.declared.knowledge.Known.{Known}
-use Rattle.bmx_script.specs.Grammar.{known_after_all, nothing_known}
 use Rattle.bmx_script.proofs.Heads.{HasCounts, counts_of}
 use Rattle.bmx_script.proofs.scripts.Script.nodes.Goals as goal
 

@@ -1,0 +1,9 @@
+-- What is proved of reading itself.
+use Rattle.std.specs.Prelude.{◌≡◌, ℕ, List, Result}
+use Rattle.bmx_script.specs.declared.lines.Line.{Line}
+use Rattle.bmx_script.specs.declared.lines.Bad.{Bad}
+use Rattle.bmx_script.specs.Grammar.{IsReading}
+
+-- bytes have one reading at most
+abbrev pub ReadingIsDetermined : Type 0
+ReadingIsDetermined = (bytes : List ℕ) (a b : Result (List Line) Bad) → IsReading bytes a → IsReading bytes b → a ≡ b
