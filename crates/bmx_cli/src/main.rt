@@ -3,6 +3,8 @@
 
 mod runs;
 mod statuses;
+#[cfg(test)]
+mod tests;
 mod top;
 mod words;
 
