@@ -1,0 +1,67 @@
+-- What holds of one object over all nodes, whatever steps are taken.
+use Rattle.std.specs.Prelude.{◌≡◌, ℕ, ◌+◌, ◌==◌, ◌&&◌, ◌⊎◌, Bool, true, false, if◌then◌else◌, List, [], ◌∷◌, Option, Some, None, IsSome}
+use Rattle.bmx_types.specs.declared.numbers.Mode.TheVariants as mode
+use Rattle.bmx_token.specs.declared.parts.Role.{Role}
+use Rattle.bmx_token.specs.declared.parts.Role.TheVariants.{Owner, Parent}
+use Rattle.bmx_object.specs.Machine.{Holding, Slip, Note, Object, Run, IsFirst, IsNowhere, is_handover}
+
+-- ## owners
+
+-- a role is the owner's
+abbrev pub is_owner : Role → Bool
+is_owner Owner = true
+is_owner (Parent parent) = false
+
+-- 1 where a node has the object as its owner
+abbrev pub owned_at : Option Holding → ℕ
+owned_at None = 0
+owned_at (Some h) = if is_owner h.part.role then 1 else 0
+
+-- how many grants of ownership notes have
+abbrev pub handovers : List Note → ℕ
+handovers [] = 0
+handovers (n ∷ notes) = (if is_handover n then 1 else 0) + handovers notes
+
+-- how many grants of ownership are in letters
+abbrev pub handovers_in : List Slip → ℕ
+handovers_in [] = 0
+handovers_in (l ∷ letters) = handovers l.notes + handovers_in letters
+
+-- where ownership is: at a node, or on its way from one to another
+pub data Seat : Type 0 where
+  At : (n : ℕ) → Seat
+  Moving : (from to : ℕ) → Seat
+
+abbrev pub is_at : Seat → ℕ → Bool
+is_at (At n) k = k == n
+is_at (Moving from to) k = false
+
+abbrev pub is_moving : Seat → ℕ → ℕ → Bool
+is_moving (At n) j k = false
+is_moving (Moving from to) j k = (j == from) && (k == to)
+
+-- ownership is there and nowhere else: one node owns the object and no grant of it is on its way, or
+-- one grant is and no node owns it
+pub record IsOwned (o : Object) (s : Seat) : Type 0 where
+  pub nodes : (n : ℕ) → owned_at (o.holds n) ≡ (if is_at s n then 1 else 0)
+  pub letters : (n m : ℕ) → handovers_in (o.way n m) ≡ (if is_moving s n m then 1 else 0)
+
+-- the object is nowhere, or has one owner
+abbrev pub HasOneSeat : Object → Type 0
+HasOneSeat o = IsNowhere o ⊎ ((s : Seat) × IsOwned o s)
+
+-- whatever steps are taken from an opening, the object is nowhere or has one owner
+abbrev pub OwnershipIsOne : Type 0
+OwnershipIsOne = (o p : Object) → IsFirst o → Run o p → HasOneSeat p
+
+-- ## tokens
+
+-- while a node holds the object for writing no other holds it
+abbrev pub WriteExcludes : Object → Type 0
+WriteExcludes o =
+    (n m : ℕ) (h k : Holding) → o.holds n ≡ Some h → o.holds m ≡ Some k →
+    h.part.held ≡ Some mode.Write → IsSome k.part.held → m ≡ n
+
+-- whatever steps are taken from an opening, a token for writing excludes
+abbrev pub TokensExclude : Type 0
+TokensExclude = (o p : Object) → IsFirst o → Run o p → WriteExcludes p
