@@ -11,7 +11,7 @@ use Rattle.bmx_cli.proofs.runs.run_script.Goals as goal
 pub run-end-requires-clause-start : goal.run-end-requires-clause-start
 run-end-requires-clause-start c =
     let lines : c.as_slice.result.now ≡ c.args.script = c.as_slice.ensures ∙ c.lines.ensures.lines in
-    let at = started c.args.script c.in_ok-open.field-0 (counts_of c.args.script c.lines.ensures.script).few_bunches (c.in_ok-open.ensures ∙ ap opening_state c.in_ok-opening.ensures) in
+    let at = started c.args.script c.in_ok-open.field-0 (counts_of c.args.script c.lines.ensures.script).few_bunches (c.in_ok-open.ensures.state ∙ ap opening_state c.in_ok-opening.ensures) in
     subst (λ (ls : List Line). IsAt ls [] (record { graph = c.in_ok-open.field-0; history = c.new.result; text = c.new-2.result })) (sym lines)
     (subst (λ (h : _). IsAt c.args.script [] (record { graph = c.in_ok-open.field-0; history = h; text = c.new-2.result })) (sym c.new.ensures)
     (subst (λ (t : List ℕ). IsAt c.args.script [] (record { graph = c.in_ok-open.field-0; history = []; text = t })) (sym c.new-2.ensures) at))
