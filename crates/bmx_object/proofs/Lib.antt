@@ -5,3 +5,8 @@ pub mod Acts
 pub mod Handlers
 pub mod Moves
 pub mod Owners
+pub mod Times
+pub mod Pairs
+pub mod Sound
+pub mod Views
+pub mod Shared

@@ -48,7 +48,7 @@ came-apart from me taken n k (inl h) = by_test (k == me) (n == from) (apart_fals
     by_test true u e = rw e refl
     by_test false u e = refl
 
-none_moves : (w : World) (me from : ℕ) (m : Move) → Moves w (after_move w me m) me from [] m
+pub none_moves : (w : World) (me from : ℕ) (m : Move) → Moves w (after_move w me m) me from [] m
 none_moves w me from m = record {
   left = w.mail;
   before = λ n k. ap (λ (x : List Note). x ++ w.mail n k) (sym (came-none from me n k));

@@ -34,7 +34,7 @@ role_kept copy p q (Readies rest role readers e) = ap (λ (x : Part). x.role) e
 owns_same : (taken u : List Note) (h g : Option Holding) (m a : Move) → taken ≡ u → h ≡ g → m ≡ a → Owns u g a → Owns taken h m
 owns_same taken u h g m a t e f o = rw (t, e, f) o
 
-abbrev owned_as : Role → ℕ
+abbrev pub owned_as : Role → ℕ
 owned_as r = if is_owner r then 1 else 0
 
 one_send : (k to : ℕ) (note : Note) → handover note ≡ 0 → tally handover (notes_to k (send to (note ∷ []) ∷ [])) ≡ 0
@@ -117,7 +117,7 @@ keeps_seat w v me from taken m s moves at same t none = record {
 one_not_zero : {A : Type 0} (x : ℕ) → x ≡ 1 → x ≡ 0 → A
 one_not_zero x h z = absurd (omega arith)
 
-seat_at : (w : World) (me : ℕ) (s : Seat) → IsAt w s → owned_at (w.holds me) ≡ 1 → s ≡ At me
+pub seat_at : (w : World) (me : ℕ) (s : Seat) → IsAt w s → owned_at (w.holds me) ≡ 1 → s ≡ At me
 seat_at w me (At n) at h = by_test (me == n) refl (sym (at.nodes me) ∙ h)
   where
     by_test : (t : Bool) → (me == n) ≡ t → cond {A = ℕ} t 1 0 ≡ 1 → At n ≡ At me

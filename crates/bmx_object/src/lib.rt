@@ -5,4 +5,4 @@
 
 mod laws;
 
-pub use laws::ownership_is_one;
+pub use laws::{ownership_is_one, tokens_exclude};

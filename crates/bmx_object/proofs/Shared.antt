@@ -1,0 +1,301 @@
+-- Readers and writers: each turn of the world keeps what holds of each node, and of each owner and reader.
+use Rattle.std.proofs.Common.{◌≡◌, inl, inr, ℕ, ◌+◌, ◌*◌, ◌≤◌, arith, List, [], refl, ap, sym, subst, ◌∙◌, Bool, true, false, cond}
+use Rattle.std.specs.Prelude.{◌==◌, Option, Some, None, IsSome}
+use Rattle.bmx_types.specs.declared.numbers.Mode.{Mode}
+use Rattle.bmx_types.specs.declared.numbers.Mode.TheVariants.{Write}
+use Rattle.bmx_token.specs.declared.parts.Role.{Role}
+use Rattle.bmx_token.specs.declared.parts.Role.TheVariants.{Owner, Parent}
+use Rattle.bmx_object.specs.Machine.{Note, Holding, Object, Move, IsFirst, Absent, Born, IsFirstElsewhere, Unknown, Heard, made_holding, heard_from}
+use Rattle.bmx_object.specs.Laws.{owned_at, Seat, At, TokensExclude}
+use Rattle.bmx_object.proofs.Tallies.{tally, read_grant, recall, return, behind, behind-append, behind_no_recall, behind_no_grant, Cases, Same, Apart, cases, same_true, flat}
+use Rattle.bmx_object.proofs.Flat.{World, seen, notes_to, sent, Turn}
+use Rattle.bmx_object.proofs.Runs.{IsKept, kept_run}
+use Rattle.bmx_object.proofs.Moves.{came, Moves, Acted, none_moves, does_acted, takes_acted, writes_acted, tally-before, tally-after}
+use Rattle.bmx_object.proofs.Owners.{IsSeated, IsAt, owned_as, seat_at, seated_run}
+use Rattle.bmx_object.proofs.Times.{times}
+use Rattle.bmx_object.proofs.Sound.{IsSound, IsSoundIf, sound_when_made, sound_when_heard, sound_after}
+use Rattle.bmx_object.proofs.Pairs.{IsFine, IsChange, OwnerRests, OwnerActs, ReaderRests, ReaderActs, owner_keeps, reader_keeps}
+use Rattle.bmx_object.proofs.Views.{reads_of, waits_of, copied_as, copy_from, due_to, taken_of, AsOwner, AsReader, View, ByOwner, ByReader, view, view_new}
+
+-- ## the ways between two nodes
+
+with_none : (x y b u v : ℕ) → b ≡ u + x * y + v → x ≡ 0 → b ≡ u + v
+with_none x y b u v e z = let e' : b ≡ u + 0 * y + v = rw z at e in omega arith
+
+with_one : (x y b u v : ℕ) → b ≡ u + x * y + v → x ≡ 1 → b ≡ u + y + v
+with_one x y b u v e z = let e' : b ≡ u + 1 * y + v = rw z at e in omega arith
+
+with_zero : (x y b u v : ℕ) → b ≡ u + x * y + v → y ≡ 0 → b ≡ u + v
+with_zero x y b u v e z = let e' : b ≡ u + x * 0 + v = rw z at e in omega arith
+
+change : (w v : World) (me from : ℕ) (taken : List Note) (m : Move) → Moves w v me from taken m → (n k : ℕ) →
+    IsChange (tally read_grant (w.mail n k)) (tally recall (w.mail n k)) (behind (w.mail n k)) (tally return (w.mail k n))
+    (tally read_grant (v.mail n k)) (tally recall (v.mail n k)) (behind (v.mail n k)) (tally return (v.mail k n))
+    (tally read_grant (sent me m.sends n k)) (tally recall (sent me m.sends n k)) (tally return (came from me taken k n))
+    (tally read_grant (came from me taken n k)) (tally recall (came from me taken n k)) (tally return (sent me m.sends k n))
+change w v me from taken m h n k =
+    let before : behind (w.mail n k) ≡ behind (came from me taken n k) + tally recall (came from me taken n k) * tally read_grant (h.left n k) + behind (h.left n k) =
+    ap behind (h.before n k) ∙ behind-append (came from me taken n k) (h.left n k) in
+    let after : behind (v.mail n k) ≡ behind (h.left n k) + tally recall (h.left n k) * tally read_grant (sent me m.sends n k) + behind (sent me m.sends n k) =
+    ap behind (h.after n k) ∙ behind-append (h.left n k) (sent me m.sends n k) in
+    record {
+      gm = tally read_grant (h.left n k);
+      cm = tally recall (h.left n k);
+      bm = behind (h.left n k);
+      tm = tally return (h.left k n);
+      bt = behind (came from me taken n k);
+      bs = behind (sent me m.sends n k);
+      g_before = tally-before read_grant w v me from taken m h n k;
+      g_after = tally-after read_grant w v me from taken m h n k;
+      c_before = tally-before recall w v me from taken m h n k;
+      c_after = tally-after recall w v me from taken m h n k;
+      t_before = tally-before return w v me from taken m h k n;
+      t_after = tally-after return w v me from taken m h k n;
+      b_kept = λ z. with_none _ _ _ _ _ before z;
+      b_called = λ z. with_one _ _ _ _ _ before z;
+      b_none = λ z. with_zero _ _ _ _ _ after z;
+      b_free = λ z. with_none _ _ _ _ _ after z;
+      bs_none = λ z. behind_no_grant (sent me m.sends n k) z;
+      bs_free = λ z. behind_no_recall (sent me m.sends n k) z;
+    }
+
+-- ## the two sides
+
+holds_here : (w v : World) (me from : ℕ) (taken : List Note) (m : Move) → Moves w v me from taken m → (n : ℕ) → (n == me) ≡ true → v.holds n ≡ m.after
+holds_here w v me from taken m h n t = h.holds n ∙ ap (λ (u : Bool). cond u m.after (w.holds n)) t
+
+holds_there : (w v : World) (me from : ℕ) (taken : List Note) (m : Move) → Moves w v me from taken m → (n : ℕ) → (n == me) ≡ false → v.holds n ≡ w.holds n
+holds_there w v me from taken m h n t = h.holds n ∙ ap (λ (u : Bool). cond u m.after (w.holds n)) t
+
+owner_at : (F : ℕ → ℕ → ℕ → ℕ → ℕ → ℕ → ℕ → Type 0) → ((r q : ℕ) → F r q r q 0 0 0) →
+    (w v : World) (me from : ℕ) (taken : List Note) (m : Move) → Moves w v me from taken m →
+    ((x : ℕ) → AsOwner F from taken (w.holds me) m x) → (n k : ℕ) →
+    F (times k (reads_of (w.holds n))) (times k (waits_of (w.holds n))) (times k (reads_of (v.holds n))) (times k (waits_of (v.holds n)))
+    (tally read_grant (sent me m.sends n k)) (tally recall (sent me m.sends n k)) (tally return (came from me taken k n))
+owner_at F rest w v me from taken m h given n k = by_case (cases n me)
+  where
+    by_case : Cases n me →
+        F (times k (reads_of (w.holds n))) (times k (waits_of (w.holds n))) (times k (reads_of (v.holds n))) (times k (waits_of (v.holds n)))
+        (tally read_grant (sent me m.sends n k)) (tally recall (sent me m.sends n k)) (tally return (came from me taken k n))
+    by_case (Same e t) =
+        let after : v.holds n ≡ m.after = holds_here w v me from taken m h n t in
+        let before : w.holds n ≡ w.holds me = ap w.holds e in
+        let out : sent me m.sends n k ≡ notes_to k m.sends = ap (λ (u : Bool). cond u (notes_to k m.sends) []) t in
+        let into : came from me taken k n ≡ taken_of from taken k = ap (λ (u : Bool). cond u (taken_of from taken k) []) t in
+        rw (after, before, out, into) (given k)
+    by_case (Apart e t) =
+        let after : v.holds n ≡ w.holds n = holds_there w v me from taken m h n t in
+        let out : sent me m.sends n k ≡ [] = ap (λ (u : Bool). cond u (notes_to k m.sends) []) t in
+        let into : came from me taken k n ≡ [] = ap (λ (u : Bool). cond u (taken_of from taken k) []) t in
+        rw (after, out, into) (rest (times k (reads_of (w.holds n))) (times k (waits_of (w.holds n))))
+
+reader_at : (F : ℕ → ℕ → ℕ → ℕ → ℕ → ℕ → ℕ → Type 0) → ((r q : ℕ) → F r q r q 0 0 0) →
+    (w v : World) (me from : ℕ) (taken : List Note) (m : Move) → Moves w v me from taken m →
+    ((x : ℕ) → AsReader F from taken (w.holds me) m x) → (n k : ℕ) →
+    F (copy_from n (w.holds k)) (due_to n (w.holds k)) (copy_from n (v.holds k)) (due_to n (v.holds k))
+    (tally read_grant (came from me taken n k)) (tally recall (came from me taken n k)) (tally return (sent me m.sends k n))
+reader_at F rest w v me from taken m h given n k = by_case (cases k me)
+  where
+    by_case : Cases k me →
+        F (copy_from n (w.holds k)) (due_to n (w.holds k)) (copy_from n (v.holds k)) (due_to n (v.holds k))
+        (tally read_grant (came from me taken n k)) (tally recall (came from me taken n k)) (tally return (sent me m.sends k n))
+    by_case (Same e t) =
+        let after : v.holds k ≡ m.after = holds_here w v me from taken m h k t in
+        let before : w.holds k ≡ w.holds me = ap w.holds e in
+        let out : sent me m.sends k n ≡ notes_to n m.sends = ap (λ (u : Bool). cond u (notes_to n m.sends) []) t in
+        let into : came from me taken n k ≡ taken_of from taken n = ap (λ (u : Bool). cond u (taken_of from taken n) []) t in
+        rw (after, before, out, into) (given n)
+    by_case (Apart e t) =
+        let after : v.holds k ≡ w.holds k = holds_there w v me from taken m h k t in
+        let out : sent me m.sends k n ≡ [] = ap (λ (u : Bool). cond u (notes_to n m.sends) []) t in
+        let into : came from me taken n k ≡ [] = ap (λ (u : Bool). cond u (taken_of from taken n) []) t in
+        rw (after, out, into) (rest (copy_from n (w.holds k)) (due_to n (w.holds k)))
+
+owner_still : (r q : ℕ) → OwnerRests r q r q 0 0 0
+owner_still r q = record { more = omega arith; same = refl; no_grant = refl; no_recall = refl; no_return = refl }
+
+reader_still : (r q : ℕ) → ReaderRests r q r q 0 0 0
+reader_still r q = record { less = omega arith; same = refl; no_grant = refl; no_recall = refl; no_return = refl }
+
+-- ## what is kept
+
+-- of an owner n and a reader k
+abbrev pub IsFineAt : World → ℕ → ℕ → Type 0
+IsFineAt w n k =
+    IsFine (times k (reads_of (w.holds n))) (times k (waits_of (w.holds n)))
+    (tally read_grant (w.mail n k)) (tally recall (w.mail n k)) (behind (w.mail n k)) (tally return (w.mail k n))
+    (copy_from n (w.holds k)) (due_to n (w.holds k))
+
+pub record IsShared (w : World) : Type 0 where
+  pub sound : (n : ℕ) → IsSoundIf (w.holds n)
+  pub pairs : (n k : ℕ) → IsFineAt w n k
+
+fine_after : (w v : World) (me from : ℕ) (taken : List Note) (m : Move) → Moves w v me from taken m → View from taken (w.holds me) m →
+    (n k : ℕ) → IsFineAt w n k → IsFineAt v n k
+fine_after w v me from taken m h (ByOwner o r) n k f =
+    owner_keeps _ _ _ _ _ _ _ _ _ _ _ _ _ _ _ _ _ _ _ _ _ _ f (change w v me from taken m h n k)
+    (owner_at OwnerActs (λ r q. OwnerActs.Nothing (owner_still r q)) w v me from taken m h o n k)
+    (reader_at ReaderRests reader_still w v me from taken m h r n k)
+fine_after w v me from taken m h (ByReader o r) n k f =
+    reader_keeps _ _ _ _ _ _ _ _ _ _ _ _ _ _ _ _ _ _ _ _ _ _ f (change w v me from taken m h n k)
+    (owner_at OwnerRests owner_still w v me from taken m h o n k)
+    (reader_at ReaderActs (λ r q. ReaderActs.Nothing (reader_still r q)) w v me from taken m h r n k)
+
+shared_after : (w v : World) (me from : ℕ) (taken : List Note) (m : Move) → Moves w v me from taken m → View from taken (w.holds me) m →
+    IsSoundIf m.after → IsShared w → IsShared v
+shared_after w v me from taken m h seen sound s = record {
+  sound = λ n. by_case n (cases n me);
+  pairs = λ n k. fine_after w v me from taken m h seen n k (s.pairs n k);
+}
+  where
+    by_case : (n : ℕ) → Cases n me → IsSoundIf (v.holds n)
+    by_case n (Same e t) = subst IsSoundIf (sym (holds_here w v me from taken m h n t)) sound
+    by_case n (Apart e t) = subst IsSoundIf (sym (holds_there w v me from taken m h n t)) (s.sound n)
+
+shared_acted : (w v : World) → Acted w v → IsShared w → IsShared v
+shared_acted w v a s =
+    shared_after w v a.me a.from a.taken a.move a.moves (view a.from a.taken (w.holds a.me) a.move a.acts (s.sound a.me))
+    (sound_after a.from a.taken (w.holds a.me) a.move a.acts (s.sound a.me)) s
+
+pub shared_kept : IsKept IsShared
+shared_kept w v s (Turn.Makes me empty e) =
+    let m : Move = record { after = Some made_holding; sends = [] } in
+    let moves : Moves w v me me [] m = subst (λ x. Moves w x me me [] m) (sym e) (none_moves w me me m) in
+    shared_after w v me me [] m moves
+    (view_new me [] (w.holds me) m made_holding (empty.unknown me) refl refl refl (λ x. refl) refl
+    record { read_grants = refl; recalls = refl; returns = refl } (λ k. record { read_grants = refl; recalls = refl; returns = refl }))
+    sound_when_made s
+shared_kept w v s (Turn.Does me selves a h has e) = shared_acted w v (does_acted w v me selves a h has e) s
+shared_kept w v s (Turn.Takes from me note rest m way t e) = shared_acted w v (takes_acted w v from me note rest m way t e) s
+shared_kept w v s (Turn.Writes me to tells told e) = shared_acted w v (writes_acted w v me to tells e) s
+
+-- ## at first
+
+fine_first : (r q g c b t p d : ℕ) → g ≡ 0 → c ≡ 0 → b ≡ 0 → t ≡ 0 → p ≡ 0 → d ≡ 0 → IsFine r q g c b t p d
+fine_first r q g c b t p d g0 c0 b0 t0 p0 d0 = record {
+  granted = omega arith;
+  copied = omega arith;
+  waited = omega arith;
+  ordered = b0;
+  due = omega arith;
+  returned = omega arith;
+  silent = omega arith;
+}
+
+-- what a node has at first: nothing, an object that it owns, or one that it heard of
+data IsFresh (h : Option Holding) : Type 0 where
+  Nowhere : h ≡ None → IsFresh h
+  Owned : h ≡ Some made_holding → IsFresh h
+  Known : h ≡ Some (heard_from 0) → IsFresh h
+
+fresh_sound : (h : Option Holding) → IsFresh h → IsSoundIf h
+fresh_sound h (Nowhere e) = subst IsSoundIf (sym e) tt
+fresh_sound h (Owned e) = subst IsSoundIf (sym e) sound_when_made
+fresh_sound h (Known e) = subst IsSoundIf (sym e) (sound_when_heard 0)
+
+fresh_copy : (n : ℕ) (h : Option Holding) → IsFresh h → copy_from n h ≡ 0
+fresh_copy n h (Nowhere e) = ap (copy_from n) e
+fresh_copy n h (Owned e) = ap (copy_from n) e
+fresh_copy n h (Known e) = ap (copy_from n) e
+
+fresh_due : (n : ℕ) (h : Option Holding) → IsFresh h → due_to n h ≡ 0
+fresh_due n h (Nowhere e) = ap (due_to n) e
+fresh_due n h (Owned e) = ap (due_to n) e
+fresh_due n h (Known e) = ap (due_to n) e
+
+shared_fresh : (w : World) → ((n k : ℕ) → w.mail n k ≡ []) → ((n : ℕ) → IsFresh (w.holds n)) → IsShared w
+shared_fresh w way fresh = record {
+  sound = λ n. fresh_sound (w.holds n) (fresh n);
+  pairs = λ n k.
+      fine_first _ _ _ _ _ _ _ _ (ap (tally read_grant) (way n k)) (ap (tally recall) (way n k)) (ap behind (way n k)) (ap (tally return) (way k n))
+      (fresh_copy n (w.holds k) (fresh k)) (fresh_due n (w.holds k) (fresh k));
+}
+
+shared_first : (o : Object) → IsFirst o → IsShared (seen o)
+shared_first o (Absent way holds) = shared_fresh (seen o) (λ n k. ap flat (way n k)) (λ n. Nowhere (holds n))
+shared_first o (Born way born) = shared_fresh (seen o) (λ n k. ap flat (way n k)) (λ n. by_node n (cases n 0))
+  where
+    elsewhere : (h : Option Holding) → IsFirstElsewhere h → IsFresh h
+    elsewhere h (Unknown e) = Nowhere e
+    elsewhere h (Heard e) = Known e
+
+    by_node : (n : ℕ) → Cases n 0 → IsFresh (o.holds n)
+    by_node n (Same e t) = Owned (ap o.holds e ∙ born.owner)
+    by_node n (Apart e t) = elsewhere (o.holds n) (born.others n e)
+
+-- ## the law
+
+one_seat : (w : World) (s : Seat) (n m : ℕ) → IsAt w s → owned_at (w.holds n) ≡ 1 → owned_at (w.holds m) ≡ 1 → m ≡ n
+one_seat w s n m at a b =
+    let here : At m ≡ At n = sym (seat_at w m s at b) ∙ seat_at w n s at a in
+    cc
+
+-- who has a reader is the owner
+read_is_owner : (h : Option Holding) (x : ℕ) → IsSoundIf h → 1 ≤ times x (reads_of h) → owned_at h ≡ 1
+read_is_owner None x s r = absurd (omega arith)
+read_is_owner (Some b) x s r = by_role b.part.role refl
+  where
+    by_role : (role : Role) → b.part.role ≡ role → owned_as b.part.role ≡ 1
+    by_role Owner e = ap owned_as e
+    by_role (Parent y) e =
+        let none : times x b.part.readers ≡ 0 = ap (times x) (s.child_alone y e) in
+        absurd (omega arith)
+
+owner_is : (h : Option Holding) (b : Holding) → h ≡ Some b → b.part.role ≡ Owner → owned_at h ≡ 1
+owner_is h b e r = ap owned_at e ∙ ap owned_as r
+
+writer_is_owner : (b : Holding) → IsSound b → b.part.held ≡ Some Write → b.part.role ≡ Owner
+writer_is_owner b s w = by_role b.part.role refl
+  where
+    by_role : (role : Role) → b.part.role ≡ role → b.part.role ≡ Owner
+    by_role Owner e = e
+    by_role (Parent x) e = absurd (s.child_holds x e w)
+
+-- one that has a copy beside the owner is among its readers
+exclude : (w : World) (s : Seat) → IsShared w → IsAt w s → (n m : ℕ) (h k : Holding) → w.holds n ≡ Some h → w.holds m ≡ Some k →
+    h.part.held ≡ Some Write → (held : Mode) → k.part.held ≡ Some held → m ≡ n
+exclude w s shared at n m h k en em writes held holds = by_role k.part.role refl
+  where
+    sound_n : IsSound h
+    sound_n = subst IsSoundIf en (shared.sound n)
+
+    sound_m : IsSound k
+    sound_m = subst IsSoundIf em (shared.sound m)
+
+    role_n : h.part.role ≡ Owner
+    role_n = writer_is_owner h sound_n writes
+
+    owned_n : owned_at (w.holds n) ≡ 1
+    owned_n = owner_is (w.holds n) h en role_n
+
+    alone : (x : ℕ) → times x (reads_of (w.holds n)) ≡ 0
+    alone x = ap (λ o. times x (reads_of o)) en ∙ ap (times x) (sound_n.owner_writes role_n writes)
+
+    by_role : (role : Role) → k.part.role ≡ role → m ≡ n
+    by_role Owner e = one_seat w s n m at owned_n (owner_is (w.holds m) k em e)
+    by_role (Parent x) e =
+        let has : copy_from x (w.holds m) ≡ 1 =
+        ap (copy_from x) em ∙ ap (λ c. copied_as x c k.part.role) (sound_m.holder_has held holds) ∙ ap (copied_as x true) e
+        ∙ ap (λ (u : Bool). cond u 1 0) (same_true x) in
+        let most : copy_from x (w.holds m) ≤ times m (reads_of (w.holds x)) = (shared.pairs x m).copied in
+        let some : 1 ≤ times m (reads_of (w.holds x)) = omega arith in
+        let same : x ≡ n = one_seat w s n x at owned_n (read_is_owner (w.holds x) m (shared.sound x) some) in
+        let none : times m (reads_of (w.holds x)) ≡ 0 = ap (λ y. times m (reads_of (w.holds y))) same ∙ alone m in
+        absurd (omega arith)
+
+nobody : {A : Type 0} (h : Option Holding) (b : Holding) → h ≡ None → h ≡ Some b → A
+nobody h b e f = absurd cc
+
+pub tokens_exclude : TokensExclude
+tokens_exclude o p first run n m h k en em writes some = by_place (seated_run o p first run)
+  where
+    shared : IsShared (seen p)
+    shared = kept_run IsShared shared_kept o p (shared_first o first) run
+
+    by_held : (s : Seat) → IsAt (seen p) s → (held : Option Mode) → k.part.held ≡ held → IsSome held → m ≡ n
+    by_held s at None e is = absurd cc
+    by_held s at (Some held) e is = exclude (seen p) s shared at n m h k en em writes held e
+
+    by_place : IsSeated (seen p) → m ≡ n
+    by_place (inl none) = nobody (p.holds n) h (none.unknown n) en
+    by_place (inr at) = by_held at.0 at.1 k.part.held refl some
