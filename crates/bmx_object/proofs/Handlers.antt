@@ -9,12 +9,8 @@ use Rattle.bmx_token.specs.declared.parts.Role.{Role}
 use Rattle.bmx_token.specs.declared.parts.Role.TheVariants.{Owner, Parent}
 use Rattle.bmx_token.specs.declared.parts.Part.{Part}
 use Rattle.bmx_token.specs.declared.answers.Served.{Served}
-use Rattle.bmx_token.specs.declared.answers.Served.TheVariants as served_is
 use Rattle.bmx_token.specs.declared.answers.Requested.{Requested}
-use Rattle.bmx_token.specs.declared.answers.Requested.TheVariants as requested_is
 use Rattle.bmx_token.specs.declared.answers.Revoked.{Revoked}
-use Rattle.bmx_token.specs.declared.answers.Revoked.TheVariants as revoked_is
-use Rattle.bmx_token.specs.Nodes.{nodes_with, nodes_without}
 use Rattle.bmx_token.specs.Tokens.{take_wanted, want_read, want_write, acquire_by, release_by, is_write, revoke, serve_alone, serve_write, serve_head, serve_by, request_by, granted_by, inval_by, ack_by}
 use Rattle.bmx_object.specs.Machine.{Note, Asks, Grants, Recalls, Returns, Tells, Send, send, Holding, Move, Act, Acquires, Releases, Serves, acquired, released, served, move_of, requested, grant_taken, recalled, returned, take_note}
 use Rattle.bmx_object.proofs.Tallies.{tally, tally-append, weight, tells_weigh_nothing}
@@ -47,6 +43,11 @@ light_ask to asker m k = nothing-send weight k to (Asks m asker ∷ []) [] refl 
 
 pub light_tells : (to tells : ℕ) → IsLight (send to (replicate tells Tells) ∷ [])
 light_tells to tells k = nothing-send weight k to (replicate tells Tells) [] (tells_weigh_nothing weight refl tells) refl
+
+-- one answer of two, by a test
+either : {A : Type 0} (F : Part × A → Type 0) (t : Bool) (x y : Part × A) → (t ≡ true → F x) → (t ≡ false → F y) → F (cond t x y)
+either F true x y h k = h refl
+either F false x y h k = k refl
 
 -- ## what a node does by itself
 
@@ -89,26 +90,19 @@ release_acts from me b (Some held) (Some owner) h d = Answers b owner held refl 
 read_head_acts : (from me selves : ℕ) (b : Holding) (asker : ℕ) (rest : List Ask) → b.part.role ≡ Owner →
     b.part.queue ≡ record { asker = asker; mode = Read } ∷ rest →
     Acts from [] (Some b) (served selves b (serve_head me b.part asker rest Read).0 (serve_head me b.part asker rest Read).1)
-read_head_acts from me selves b asker rest role queue = by_test (is_write b.part.held || b.part.ready) refl
-  where
-    by_test : (t : Bool) → (is_write b.part.held || b.part.ready) ≡ t →
-        Acts from [] (Some b) (served selves b (cond {A = Part × Served} t (b.part, served_is.Idle) (record b.part { queue = rest; readers = nodes_with asker b.part.readers }, served_is.Read asker)).0 (cond {A = Part × Served} t (b.part, served_is.Idle) (record b.part { queue = rest; readers = nodes_with asker b.part.readers }, served_is.Read asker)).1)
-    by_test true e = Rests refl refl light_none
-    by_test false e = GrantsRead b asker selves rest refl role queue e refl refl
+read_head_acts from me selves b asker rest role queue =
+    either (λ (r : Part × Served). Acts from [] (Some b) (served selves b r.0 r.1)) (is_write b.part.held || b.part.ready) _ _
+    (λ e. Rests refl refl light_none)
+    (λ e. GrantsRead b asker selves rest refl role queue e refl refl)
 
 alone_acts : (from me selves : ℕ) (b : Holding) (asker : ℕ) (rest : List Ask) → b.part.role ≡ Owner → b.part.readers ≡ [] →
     Acts from [] (Some b) (served selves b (serve_alone me b.part asker rest).0 (serve_alone me b.part asker rest).1)
-alone_acts from me selves b asker rest role readers = by_test (is_some b.part.held || b.part.ready) refl
-  where
-    by_asker : (t : Bool) → (is_some b.part.held || b.part.ready) ≡ false →
-        Acts from [] (Some b) (served selves b (cond {A = Part × Served} t (record b.part { queue = rest; ready = true }, served_is.Ready) (record b.part { role = Parent asker; queue = [] }, served_is.Moves asker rest)).0 (cond {A = Part × Served} t (record b.part { queue = rest; ready = true }, served_is.Ready) (record b.part { role = Parent asker; queue = [] }, served_is.Moves asker rest)).1)
-    by_asker true e = AltersTo b _ refl (Readies rest role readers refl) refl refl light_none
-    by_asker false e = HandsOver b asker selves rest refl role readers e refl refl
-
-    by_test : (t : Bool) → (is_some b.part.held || b.part.ready) ≡ t →
-        Acts from [] (Some b) (served selves b (cond {A = Part × Served} t (b.part, served_is.Idle) (cond (asker == me) (record b.part { queue = rest; ready = true }, served_is.Ready) (record b.part { role = Parent asker; queue = [] }, served_is.Moves asker rest))).0 (cond {A = Part × Served} t (b.part, served_is.Idle) (cond (asker == me) (record b.part { queue = rest; ready = true }, served_is.Ready) (record b.part { role = Parent asker; queue = [] }, served_is.Moves asker rest))).1)
-    by_test true e = Rests refl refl light_none
-    by_test false e = by_asker (asker == me) e
+alone_acts from me selves b asker rest role readers =
+    either (λ (r : Part × Served). Acts from [] (Some b) (served selves b r.0 r.1)) (is_some b.part.held || b.part.ready) _ _
+    (λ e. Rests refl refl light_none)
+    (λ e. either (λ (r : Part × Served). Acts from [] (Some b) (served selves b r.0 r.1)) (asker == me) _ _
+    (λ mine. AltersTo b _ refl (Readies rest role readers refl) refl refl light_none)
+    (λ other. HandsOver b asker selves rest refl role readers e refl refl))
 
 revoke_acts : (from selves : ℕ) (b : Holding) (asker : ℕ) (rest : List Ask) (waiting : List ℕ) → b.part.role ≡ Owner →
     b.part.queue ≡ record { asker = asker; mode = Write } ∷ rest → b.part.waiting ≡ waiting →
@@ -156,12 +150,11 @@ some_acts from taken h a acts m e =
 request_acts : (me from : ℕ) (m : Mode) (asker : ℕ) (b : Holding) (role : Role) → b.part.role ≡ role →
     MayAct from (Asks m asker ∷ []) (Some b) (requested me m asker b (request_by me b.part asker m role).0 (request_by me b.part asker m role).1)
 request_acts me from m asker b (Parent parent) r = some_acts _ _ _ _ (Rests refl refl (light_ask parent asker m))
-request_acts me from m asker b Owner r = by_test (asker == me)
-  where
-    by_test : (t : Bool) → MayAct from (Asks m asker ∷ []) (Some b)
-        (requested me m asker b (cond {A = Part × Requested} t (b.part, requested_is.Stray) (record b.part { queue = b.part.queue ++ record { asker = asker; mode = m } ∷ [] }, requested_is.Queued)).0 (cond {A = Part × Requested} t (b.part, requested_is.Stray) (record b.part { queue = b.part.queue ++ record { asker = asker; mode = m } ∷ [] }, requested_is.Queued)).1)
-    by_test true = none_acts _ _ _
-    by_test false = some_acts _ _ _ _ (AltersTo b _ refl (Queues b.part.want record { asker = asker; mode = m } r refl) refl refl light_none)
+request_acts me from m asker b Owner r =
+    either (λ (x : Part × Requested). MayAct from (Asks m asker ∷ []) (Some b) (requested me m asker b x.0 x.1)) (asker == me) _ _
+    (λ mine. none_acts _ _ _)
+    (λ other. some_acts _ _ _ _
+    (AltersTo b _ refl (Queues b.part.want record { asker = asker; mode = m } r refl) refl refl light_none))
 
 granted_acts : (from : ℕ) (b : Holding) (m : Mode) (role : Role) (want : Option Mode) (ready : Bool) →
     b.part.role ≡ role → b.part.want ≡ want → b.part.ready ≡ ready →
@@ -176,22 +169,18 @@ inval_acts : (from : ℕ) (b : Holding) (role : Role) (due : Option ℕ) (copy :
 inval_acts from b Owner due copy r d c = none_acts _ _ _
 inval_acts from b (Parent parent) (Some owner) copy r d c = none_acts _ _ _
 inval_acts from b (Parent parent) None false r d c = some_acts _ _ _ _ (ReturnsNow b parent refl r d (inl c) refl refl)
-inval_acts from b (Parent parent) None true r d c = by_test (is_some b.part.held || b.part.ready) refl
-  where
-    by_test : (t : Bool) → (is_some b.part.held || b.part.ready) ≡ t →
-        MayAct from (Recalls ∷ []) (Some b) (recalled from b (cond {A = Part × Option Revoked} t (record b.part { due = Some from }, Some revoked_is.AtRelease) (b.part, Some revoked_is.Now)).0 (cond {A = Part × Option Revoked} t (record b.part { due = Some from }, Some revoked_is.AtRelease) (b.part, Some revoked_is.Now)).1)
-    by_test true e = some_acts _ _ _ _ (ReturnsLater b parent refl r d c e refl refl)
-    by_test false e = some_acts _ _ _ _ (ReturnsNow b parent refl r d (inr e) refl refl)
+inval_acts from b (Parent parent) None true r d c =
+    either (λ (x : Part × Option Revoked). MayAct from (Recalls ∷ []) (Some b) (recalled from b x.0 x.1)) (is_some b.part.held || b.part.ready) _ _
+    (λ e. some_acts _ _ _ _ (ReturnsLater b parent refl r d c e refl refl))
+    (λ e. some_acts _ _ _ _ (ReturnsNow b parent refl r d (inr e) refl refl))
 
 ack_acts : (from : ℕ) (b : Holding) (role : Role) → b.part.role ≡ role →
     MayAct from (Returns ∷ []) (Some b) (returned b (ack_by b.part from role).0 (ack_by b.part from role).1)
 ack_acts from b (Parent parent) r = none_acts _ _ _
-ack_acts from b Owner r = by_test (list_any (λ node. node == from) b.part.waiting) refl
-  where
-    by_test : (t : Bool) → list_any (λ node. node == from) b.part.waiting ≡ t →
-        MayAct from (Returns ∷ []) (Some b) (returned b (cond {A = Part × Bool} t (record b.part { waiting = nodes_without from b.part.waiting; readers = nodes_without from b.part.readers }, true) (b.part, false)).0 (cond {A = Part × Bool} t (record b.part { waiting = nodes_without from b.part.waiting; readers = nodes_without from b.part.readers }, true) (b.part, false)).1)
-    by_test true e = some_acts _ _ _ _ (GetsBack b refl r e refl refl)
-    by_test false e = none_acts _ _ _
+ack_acts from b Owner r =
+    either (λ (x : Part × Bool). MayAct from (Returns ∷ []) (Some b) (returned b x.0 x.1)) (list_any (λ node. node == from) b.part.waiting) _ _
+    (λ e. some_acts _ _ _ _ (GetsBack b refl r e refl refl))
+    (λ e. none_acts _ _ _)
 
 pub note_acts : (me from : ℕ) (n : Note) (h : Option Holding) → MayAct from (n ∷ []) h (take_note me from n h)
 note_acts me from (Asks m asker) None = none_acts _ _ _

@@ -69,88 +69,16 @@ pub data ReaderActs (p d p' d' tg tc st : ℕ) : Type 0 where
 pub owner_keeps : (r w g c b t p d r' w' g' c' b' t' p' d' sg sc tt tg tc st : ℕ) →
     IsFine r w g c b t p d → IsChange g c b t g' c' b' t' sg sc tt tg tc st →
     OwnerActs r w r' w' sg sc tt → ReaderRests p d p' d' tg tc st → IsFine r' w' g' c' b' t' p' d'
-owner_keeps r w g c b t p d r' w' g' c' b' t' p' d' sg sc tt tg tc st f h (Nothing o) i = record {
-  granted = omega arith;
-  copied = omega arith;
-  waited = omega arith;
-  ordered = omega arith;
-  due = omega arith;
-  returned = omega arith;
-  silent = omega arith;
-}
-owner_keeps r w g c b t p d r' w' g' c' b' t' p' d' sg sc tt tg tc st f h (Grants w0 w1 more some sg1 sc0 tt0) i = record {
-  granted = omega arith;
-  copied = omega arith;
-  waited = omega arith;
-  ordered = omega arith;
-  due = omega arith;
-  returned = omega arith;
-  silent = omega arith;
-}
-owner_keeps r w g c b t p d r' w' g' c' b' t' p' d' sg sc tt tg tc st f h (Recalls w0 same w1 sg0 scr tt0) i = record {
-  granted = omega arith;
-  copied = omega arith;
-  waited = omega arith;
-  ordered = omega arith;
-  due = omega arith;
-  returned = omega arith;
-  silent = omega arith;
-}
-owner_keeps r w g c b t p d r' w' g' c' b' t' p' d' sg sc tt tg tc st f h (GetsBack w1 r0 w0 sg0 sc0 tt1) i = record {
-  granted = omega arith;
-  copied = omega arith;
-  waited = omega arith;
-  ordered = omega arith;
-  due = omega arith;
-  returned = omega arith;
-  silent = omega arith;
-}
+owner_keeps r w g c b t p d r' w' g' c' b' t' p' d' sg sc tt tg tc st f h (Nothing o) i = omega arith
+owner_keeps r w g c b t p d r' w' g' c' b' t' p' d' sg sc tt tg tc st f h (Grants w0 w1 more some sg1 sc0 tt0) i = omega arith
+owner_keeps r w g c b t p d r' w' g' c' b' t' p' d' sg sc tt tg tc st f h (Recalls w0 same w1 sg0 scr tt0) i = omega arith
+owner_keeps r w g c b t p d r' w' g' c' b' t' p' d' sg sc tt tg tc st f h (GetsBack w1 r0 w0 sg0 sc0 tt1) i = omega arith
 
 pub reader_keeps : (r w g c b t p d r' w' g' c' b' t' p' d' sg sc tt tg tc st : ℕ) →
     IsFine r w g c b t p d → IsChange g c b t g' c' b' t' sg sc tt tg tc st →
     OwnerRests r w r' w' sg sc tt → ReaderActs p d p' d' tg tc st → IsFine r' w' g' c' b' t' p' d'
-reader_keeps r w g c b t p d r' w' g' c' b' t' p' d' sg sc tt tg tc st f h o (Nothing i) = record {
-  granted = omega arith;
-  copied = omega arith;
-  waited = omega arith;
-  ordered = omega arith;
-  due = omega arith;
-  returned = omega arith;
-  silent = omega arith;
-}
-reader_keeps r w g c b t p d r' w' g' c' b' t' p' d' sg sc tt tg tc st f h o (Copies p1 same tg1 tc0 st0) = record {
-  granted = omega arith;
-  copied = omega arith;
-  waited = omega arith;
-  ordered = omega arith;
-  due = omega arith;
-  returned = omega arith;
-  silent = omega arith;
-}
-reader_keeps r w g c b t p d r' w' g' c' b' t' p' d' sg sc tt tg tc st f h o (Delays less more tg0 tc1 st0) = record {
-  granted = omega arith;
-  copied = omega arith;
-  waited = omega arith;
-  ordered = omega arith;
-  due = omega arith;
-  returned = omega arith;
-  silent = omega arith;
-}
-reader_keeps r w g c b t p d r' w' g' c' b' t' p' d' sg sc tt tg tc st f h o (Answers p0 same tg0 tc1 st1) = record {
-  granted = omega arith;
-  copied = omega arith;
-  waited = omega arith;
-  ordered = omega arith;
-  due = omega arith;
-  returned = omega arith;
-  silent = omega arith;
-}
-reader_keeps r w g c b t p d r' w' g' c' b' t' p' d' sg sc tt tg tc st f h o (Releases p0 less tg0 tc0 st1) = record {
-  granted = omega arith;
-  copied = omega arith;
-  waited = omega arith;
-  ordered = omega arith;
-  due = omega arith;
-  returned = omega arith;
-  silent = omega arith;
-}
+reader_keeps r w g c b t p d r' w' g' c' b' t' p' d' sg sc tt tg tc st f h o (Nothing i) = omega arith
+reader_keeps r w g c b t p d r' w' g' c' b' t' p' d' sg sc tt tg tc st f h o (Copies p1 same tg1 tc0 st0) = omega arith
+reader_keeps r w g c b t p d r' w' g' c' b' t' p' d' sg sc tt tg tc st f h o (Delays less more tg0 tc1 st0) = omega arith
+reader_keeps r w g c b t p d r' w' g' c' b' t' p' d' sg sc tt tg tc st f h o (Answers p0 same tg0 tc1 st1) = omega arith
+reader_keeps r w g c b t p d r' w' g' c' b' t' p' d' sg sc tt tg tc st f h o (Releases p0 less tg0 tc0 st1) = omega arith

@@ -146,6 +146,10 @@ taken_none w from me rest e =
     same : (n k : ℕ) → at_two w.mail from me rest n k ≡ w.mail n k
     same n k = ap (λ (r : List Note). at_two w.mail from me r n k) (sym e) ∙ at_two-same w.mail from me n k
 
+-- the ways after a move of which only the front was taken
+abbrev first_ways : World → ℕ → ℕ → List Note → Move → ℕ → ℕ → List Note
+first_ways w from me front a n k = at_two w.mail from me front n k ++ sent me a.sends n k
+
 -- two moves one after another are one
 taken_twice : (w : World) (from me : ℕ) (front rest : List Note) (a b : Move) →
     after_move (with_rest (after_move (with_rest w from me front) me a) from me (rest ++ sent me a.sends from me)) me b
@@ -164,17 +168,17 @@ taken_twice w from me front rest a b = world_path _ _ holds mail
         append_assoc x (sent me a.sends n k) (sent me b.sends n k)
         ∙ ap (λ (y : List Note). x ++ y) (sym (sent-append me a.sends b.sends n k))
 
-    mail : (n k : ℕ) → at_two (λ n k. at_two w.mail from me front n k ++ sent me a.sends n k) from me (rest ++ sent me a.sends from me) n k ++ sent me b.sends n k
+    mail : (n k : ℕ) → at_two (first_ways w from me front a) from me (rest ++ sent me a.sends from me) n k ++ sent me b.sends n k
         ≡ at_two w.mail from me rest n k ++ sent me (a.sends ++ b.sends) n k
     mail n k = elim (pair_cases from me n k) [
       | Both e f ↦ subst₂
-          (λ x y. at_two (λ n k. at_two w.mail from me front n k ++ sent me a.sends n k) from me (rest ++ sent me a.sends from me) x y ++ sent me b.sends x y ≡ at_two w.mail from me rest x y ++ sent me (a.sends ++ b.sends) x y)
+          (λ x y. at_two (first_ways w from me front a) from me (rest ++ sent me a.sends from me) x y ++ sent me b.sends x y ≡ at_two w.mail from me rest x y ++ sent me (a.sends ++ b.sends) x y)
           (sym e) (sym f)
-          (ap (λ (x : List Note). x ++ sent me b.sends from me) (at_two-here (λ n k. at_two w.mail from me front n k ++ sent me a.sends n k) from me (rest ++ sent me a.sends from me))
+          (ap (λ (x : List Note). x ++ sent me b.sends from me) (at_two-here (first_ways w from me front a) from me (rest ++ sent me a.sends from me))
           ∙ join from me rest
           ∙ ap (λ (x : List Note). x ++ sent me (a.sends ++ b.sends) from me) (sym (at_two-here w.mail from me rest)))
       | Other h ↦
-          ap (λ (x : List Note). x ++ sent me b.sends n k) (at_two-apart (λ n k. at_two w.mail from me front n k ++ sent me a.sends n k) from me (rest ++ sent me a.sends from me) n k h)
+          ap (λ (x : List Note). x ++ sent me b.sends n k) (at_two-apart (first_ways w from me front a) from me (rest ++ sent me a.sends from me) n k h)
           ∙ ap (λ (x : List Note). (x ++ sent me a.sends n k) ++ sent me b.sends n k) (at_two-apart w.mail from me front n k h)
           ∙ join n k (w.mail n k)
           ∙ ap (λ (x : List Note). x ++ sent me (a.sends ++ b.sends) n k) (sym (at_two-apart w.mail from me rest n k h))
@@ -186,18 +190,22 @@ none_is_not a h = absurd cc
 some_is : (a b : Move) → Some a ≡ Some b → a ≡ b
 some_is a b h = cc
 
+-- what taking notes keeps, from any world on
+abbrev KeepsTaking : (World → Type 0) → ℕ → ℕ → List Note → Type 0
+KeepsTaking P from me notes =
+    (w : World) (rest : List Note) (m : Move) → P w → w.mail from me ≡ notes ++ rest →
+    take_notes me from notes (w.holds me) ≡ Some m → P (after_move (with_rest w from me rest) me m)
+
 -- taking all notes of a letter
-pub kept_takes : (P : World → Type 0) → IsKept P → (from me : ℕ) (notes : List Note) (w : World) (rest : List Note) (m : Move) →
-    P w → w.mail from me ≡ notes ++ rest → take_notes me from notes (w.holds me) ≡ Some m →
-    P (after_move (with_rest w from me rest) me m)
+pub kept_takes : (P : World → Type 0) → IsKept P → (from me : ℕ) (notes : List Note) → KeepsTaking P from me notes
 kept_takes P kept from me [] w rest m h e t =
     subst (λ x. P (after_move (with_rest w from me rest) me x)) (some_is _ _ t) (subst P (taken_none w from me rest e) h)
 kept_takes P kept from me (note ∷ notes) w rest m h e t =
-    after_first (take_note me from note (w.holds me)) refl t (λ v r b. kept_takes P kept from me notes v r b)
+    after_first (take_note me from note (w.holds me)) refl t (kept_takes P kept from me notes)
   where
     after_rest : (a : Move) → take_note me from note (w.holds me) ≡ Some a → (x : Option Move) → take_notes me from notes a.after ≡ x →
         take_more a x ≡ Some m →
-        ((v : World) (r : List Note) (b : Move) → P v → v.mail from me ≡ notes ++ r → take_notes me from notes (v.holds me) ≡ Some b → P (after_move (with_rest v from me r) me b)) →
+        KeepsTaking P from me notes →
         P (after_move (with_rest w from me rest) me m)
     after_rest a first None more u ih = none_is_not m u
     after_rest a first (Some b) more u ih =
@@ -214,7 +222,7 @@ kept_takes P kept from me (note ∷ notes) w rest m h e t =
         (subst P (taken_twice w from me (notes ++ rest) rest a b) done)
 
     after_first : (x : Option Move) → take_note me from note (w.holds me) ≡ x → and_then x (λ k. take_notes me from notes k) ≡ Some m →
-        ((v : World) (r : List Note) (b : Move) → P v → v.mail from me ≡ notes ++ r → take_notes me from notes (v.holds me) ≡ Some b → P (after_move (with_rest v from me r) me b)) →
+        KeepsTaking P from me notes →
         P (after_move (with_rest w from me rest) me m)
     after_first None first u ih = none_is_not m u
     after_first (Some a) first u ih = after_rest a first (take_notes me from notes a.after) refl u ih

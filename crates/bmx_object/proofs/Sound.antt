@@ -109,25 +109,11 @@ sound_owner_writes b s r h e = search arith
 
 sound_queues : (b : Holding) (want : Option Mode) (a : Ask) → IsSound b → b.part.role ≡ Owner →
     IsSound (with_token b record b.part { want = want; queue = b.part.queue ++ a ∷ [] })
-sound_queues b want a s r = record {
-  child_wants = grind arith;
-  child_readies = grind arith;
-  child_reads = grind arith;
-  child_holds = grind arith;
-  child_alone = grind arith;
-  owner_has = s.owner_has;
-  owner_owes = s.owner_owes;
-  owner_writes = s.owner_writes;
-  owner_readies = s.owner_readies;
-  holder_has = s.holder_has;
-  ready_has = s.ready_has;
-  due_holds = s.due_holds;
-  read_waits = longer_waits b.part.queue a b.part.waiting s.read_waits s.none_waits;
-  none_waits = λ e. longer_is_not_empty b.part.queue a e;
-  waiting_reads = s.waiting_reads;
-  readers_rise = s.readers_rise;
-  waiting_rises = s.waiting_rises;
-}
+sound_queues b want a s r =
+    let reads : (asker : ℕ) (rest : List Ask) → b.part.queue ++ a ∷ [] ≡ record { asker = asker; mode = Read } ∷ rest → b.part.waiting ≡ [] =
+    longer_waits b.part.queue a b.part.waiting s.read_waits s.none_waits in
+    let none : b.part.queue ++ a ∷ [] ≡ [] → b.part.waiting ≡ [] = λ e. longer_is_not_empty b.part.queue a e in
+    search arith
 
 sound_frees : (b : Holding) (m : Mode) → IsSound b → b.part.held ≡ Some m → b.part.due ≡ None →
     IsSound (with_token b record b.part { held = None })
@@ -148,25 +134,10 @@ sound_grants_read b asker rest s r q test =
     let none : b.part.waiting ≡ [] = s.read_waits asker rest q in
     let idle : b.part.ready ≡ false = idle_ready (is_write b.part.held) b.part.ready test in
     let unwritten : b.part.held ≢ Some Write = unwritten_held b.part.held b.part.ready test in
-    record {
-      child_wants = grind arith;
-      child_readies = grind arith;
-      child_reads = grind arith;
-      child_holds = grind arith;
-      child_alone = grind arith;
-      owner_has = s.owner_has;
-      owner_owes = s.owner_owes;
-      owner_writes = λ o h. absurd (unwritten h);
-      owner_readies = grind arith;
-      holder_has = s.holder_has;
-      ready_has = s.ready_has;
-      due_holds = s.due_holds;
-      read_waits = λ x rs e. none;
-      none_waits = λ e. none;
-      waiting_reads = λ x. omega (arith, s.waiting_reads x, times_with-more x asker b.part.readers);
-      readers_rise = nodes_with-increases asker b.part.readers s.readers_rise;
-      waiting_rises = s.waiting_rises;
-    }
+    let more : (x : ℕ) → times x b.part.waiting ≤ times x (nodes_with asker b.part.readers) =
+    λ x. omega (arith, s.waiting_reads x, times_with-more x asker b.part.readers) in
+    let rises : IsStrictlyIncreasing (nodes_with asker b.part.readers) = nodes_with-increases asker b.part.readers s.readers_rise in
+    search arith
 
 sound_hands_over : (b : Holding) (asker : ℕ) → IsSound b → b.part.role ≡ Owner → b.part.readers ≡ [] → (is_some b.part.held || b.part.ready) ≡ false →
     IsSound (without_it b record b.part { role = Parent asker; queue = [] })
@@ -179,25 +150,7 @@ sound_hands_over b asker s r e test =
 
 sound_revokes : (b : Holding) (asker : ℕ) (rest : List Ask) → IsSound b → b.part.queue ≡ record { asker = asker; mode = Write } ∷ rest →
     IsSound (with_token b record b.part { waiting = b.part.readers })
-sound_revokes b asker rest s q = record {
-  child_wants = s.child_wants;
-  child_readies = s.child_readies;
-  child_reads = s.child_reads;
-  child_holds = s.child_holds;
-  child_alone = s.child_alone;
-  owner_has = s.owner_has;
-  owner_owes = s.owner_owes;
-  owner_writes = s.owner_writes;
-  owner_readies = s.owner_readies;
-  holder_has = s.holder_has;
-  ready_has = s.ready_has;
-  due_holds = s.due_holds;
-  read_waits = λ x rs e. grind arith;
-  none_waits = λ e. grind arith;
-  waiting_reads = λ x. omega arith;
-  readers_rise = s.readers_rise;
-  waiting_rises = s.readers_rise;
-}
+sound_revokes b asker rest s q = search arith
 
 sound_gets_read : (b : Holding) (parent from : ℕ) → IsSound b → b.part.role ≡ Parent parent → b.part.want ≡ Some Read → b.part.ready ≡ false →
     IsSound (with_it b record b.part { role = Parent from; ready = true })
@@ -226,25 +179,14 @@ sound_returns_later b parent from s r test =
 
 sound_gets_back : (b : Holding) (from : ℕ) → IsSound b → b.part.role ≡ Owner →
     IsSound (with_token b record b.part { waiting = nodes_without from b.part.waiting; readers = nodes_without from b.part.readers })
-sound_gets_back b from s r = record {
-  child_wants = s.child_wants;
-  child_readies = s.child_readies;
-  child_reads = s.child_reads;
-  child_holds = s.child_holds;
-  child_alone = λ x e. without_is_empty from b.part.readers (s.child_alone x e);
-  owner_has = s.owner_has;
-  owner_owes = s.owner_owes;
-  owner_writes = λ o e. without_is_empty from b.part.readers (s.owner_writes o e);
-  owner_readies = λ o e. without_is_empty from b.part.readers (s.owner_readies o e);
-  holder_has = s.holder_has;
-  ready_has = s.ready_has;
-  due_holds = s.due_holds;
-  read_waits = λ x rs e. without_is_empty from b.part.waiting (s.read_waits x rs e);
-  none_waits = λ e. without_is_empty from b.part.waiting (s.none_waits e);
-  waiting_reads = λ x. without_keeps_most from x b.part.waiting b.part.readers (s.waiting_reads x);
-  readers_rise = nodes_without-increases from b.part.readers s.readers_rise;
-  waiting_rises = nodes_without-increases from b.part.waiting s.waiting_rises;
-}
+sound_gets_back b from s r =
+    let readers : b.part.readers ≡ [] → nodes_without from b.part.readers ≡ [] = without_is_empty from b.part.readers in
+    let waiting : b.part.waiting ≡ [] → nodes_without from b.part.waiting ≡ [] = without_is_empty from b.part.waiting in
+    let most : (x : ℕ) → times x (nodes_without from b.part.waiting) ≤ times x (nodes_without from b.part.readers) =
+    λ x. without_keeps_most from x b.part.waiting b.part.readers (s.waiting_reads x) in
+    let readers_rise : IsStrictlyIncreasing (nodes_without from b.part.readers) = nodes_without-increases from b.part.readers s.readers_rise in
+    let waiting_rises : IsStrictlyIncreasing (nodes_without from b.part.waiting) = nodes_without-increases from b.part.waiting s.waiting_rises in
+    search arith
 
 sound_child : (parent : ℕ) → IsSound (heard_from parent)
 sound_child parent = search (arith, nil_rises)

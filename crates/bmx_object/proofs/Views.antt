@@ -182,7 +182,8 @@ view_answers : (from : ℕ) (b : Holding) (owner : ℕ) → b.part.due ≡ Some 
     View from [] (Some b) record { after = Some (without_it b record b.part { held = None; due = None }); sends = send owner (Returns ∷ []) ∷ [] }
 view_answers from b owner d =
     ByReader
-    (λ x. owner_rests from [] (Some b) (Some (without_it b record b.part { held = None; due = None })) (send owner (Returns ∷ []) ∷ []) x refl refl (nothing-send read_grant x owner (Returns ∷ []) [] refl refl)
+    (λ x. owner_rests from [] (Some b) (Some (without_it b record b.part { held = None; due = None })) (send owner (Returns ∷ []) ∷ []) x refl refl
+    (nothing-send read_grant x owner (Returns ∷ []) [] refl refl)
     (nothing-send recall x owner (Returns ∷ []) [] refl refl) refl)
     (λ x. by_test x (x == owner) refl)
   where

@@ -1,12 +1,10 @@
 -- Runs of the machine worked by hand, each closed by computing: node 0 owns an object, and node 1 has
 -- heard of it.
-use Rattle.std.specs.Prelude.{◌≡◌, ℕ, ◌==◌, true, false, if◌then◌else◌, List, [], ◌∷◌, Option, Some, None, refl}
-use Rattle.bmx_types.specs.declared.numbers.Mode.{Mode}
+use Rattle.std.specs.Prelude.{◌≡◌, ℕ, ◌==◌, true, if◌then◌else◌, List, [], ◌∷◌, Option, Some, None, refl}
 use Rattle.bmx_types.specs.declared.numbers.Mode.TheVariants.{Read, Write}
-use Rattle.bmx_token.specs.declared.parts.Role.TheVariants.{Parent}
-use Rattle.bmx_token.specs.declared.parts.Ask.{Ask}
 use Rattle.bmx_token.specs.Tokens.{owner_part, child_part}
-use Rattle.bmx_object.specs.Machine.{Holding, Note, Asks, Grants, Recalls, Returns, Tells, Slip, Numbers, Object, Act, Acquires, Releases, Serves, Move, Step, Does, Takes, Run, Stays, Goes, moved, move_of, popped, take_note, take_notes, stays, made_holding, heard_from}
+use Rattle.bmx_object.specs.Laws.{owned_at, handovers_in}
+use Rattle.bmx_object.specs.Machine.{Holding, Note, Asks, Grants, Recalls, Tells, Slip, Object, Act, Acquires, Releases, Serves, Move, Does, Takes, Run, Stays, Goes, moved, move_of, popped, take_note, take_notes, stays, made_holding, heard_from}
 
 -- ## running
 
@@ -139,11 +137,20 @@ ownership_is_on_its_way = refl
 and_left_where_it_was : handed_over.holds 0 ≡ Some (heard_from 1)
 and_left_where_it_was = refl
 
+nobody_owns_it_meanwhile : owned_at (handed_over.holds 0) ≡ 0
+nobody_owns_it_meanwhile = refl
+
+one_handover_is_on_its_way : handovers_in (handed_over.way 0 1) ≡ 1
+one_handover_is_on_its_way = refl
+
 abbrev writes : Object
 writes = after handed_over (Take 0 1 ∷ Do 1 (Acquires Write) ∷ [])
 
 it_writes : writes.holds 1 ≡ Some record { copy = true; part = record owner_part { held = Some Write } }
 it_writes = refl
+
+then_it_owns_it : owned_at (writes.holds 1) ≡ 1
+then_it_owns_it = refl
 
 the_taker_records_who_brought_it : writes.entering 1 0 ≡ Some record { sent = 0; got = 3 }
 the_taker_records_who_brought_it = refl
