@@ -1,9 +1,11 @@
+pub mod Commands
 pub mod Exact
 pub mod FieldLemmas
 pub mod Heads
 pub mod LineFeeds
 pub mod Named
 pub mod OneReading
+pub mod Operands
 pub mod OtherCounts
 pub mod Plain
 pub mod RoundTrip

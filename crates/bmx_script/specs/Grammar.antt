@@ -1,5 +1,5 @@
 -- Which bytes are a script, and which line is the first bad one, with its cause.
-use Rattle.std.specs.Prelude.{◌≡◌, ℕ, ◌+◌, ◌^◌, ◌<◌, ◌≤◌, ◌==◌, nat_lt, nat_le, Bool, true, false, not, ◌&&◌, ◌||◌, if◌then◌else◌, List, [], ◌∷◌, ◌++◌, length, Option, Some, None, Result, Ok, Err, IsTrue}
+use Rattle.std.specs.Prelude.{◌≡◌, ℕ, ◌+◌, ◌^◌, ◌<◌, ◌≤◌, ◌==◌, nat_lt, nat_le, Bool, true, false, not, ◌&&◌, ◌||◌, if◌then◌else◌, List, [], ◌∷◌, ◌++◌, length, Option, Some, None, is_none, Result, Ok, Err, IsTrue}
 use Rattle.std.specs.List.{list_any, list_all, onto_first}
 use Rattle.std.specs.Str.{bytes_eq}
 use Rattle.bmx_types.specs.Integers.{is_i64}
@@ -44,7 +44,7 @@ same_word = bytes_eq
 
 -- before the first line
 abbrev pub nothing_known : Known
-nothing_known = record { section = 0; nodes = 0; bunches = [] }
+nothing_known = record { section = 0; nodes = 0; bunches = []; limit = None }
 
 -- there are at most 8 nodes and 16 bunches
 pub record HasRoom (k : Known) : Type 0 where
@@ -69,9 +69,10 @@ section_of line.Settle = 6
 
 -- what is known behind a line
 abbrev pub known_after : Known → LineKind → Known
-known_after k (line.Nodes count) = record { section = 2; nodes = count; bunches = k.bunches }
-known_after k (line.Bunch word file) = record { section = 3; nodes = k.nodes; bunches = k.bunches ++ word ∷ [] }
-known_after k what = record { section = section_of what; nodes = k.nodes; bunches = k.bunches }
+known_after k (line.Nodes count) = record { section = 2; nodes = count; bunches = k.bunches; limit = k.limit }
+known_after k (line.Bunch word file) = record { section = 3; nodes = k.nodes; bunches = k.bunches ++ word ∷ []; limit = k.limit }
+known_after k (line.Segments limit) = record { section = 4; nodes = k.nodes; bunches = k.bunches; limit = Some limit }
+known_after k what = record { section = section_of what; nodes = k.nodes; bunches = k.bunches; limit = k.limit }
 
 -- a line of that section may stand behind one of this section: the version, the nodes and one bunch
 -- in a row, then plan lines, then body lines, and the end once
@@ -80,27 +81,26 @@ may_follow before section =
     (nat_lt before section && nat_le section (if nat_lt before 3 then before + 1 else 6))
     || ((before == section) && ((before == 4) || (before == 5)))
 
--- the operands that a line may have so far
-abbrev pub is_register : Operand → Bool
-is_register (operand.Register r) = true
-is_register (operand.Anchor b) = false
-is_register (operand.Int k) = false
-is_register operand.Null = false
+-- a source: a register or an anchor
+abbrev pub is_source : Operand → Bool
+is_source (operand.Register r) = true
+is_source (operand.Anchor b) = true
+is_source (operand.Int k) = false
+is_source operand.Null = false
 
-abbrev pub is_integer : Operand → Bool
-is_integer (operand.Register r) = false
-is_integer (operand.Anchor b) = false
-is_integer (operand.Int k) = true
-is_integer operand.Null = false
-
--- the commands that a script may have so far
+-- what a command is on is a source
 abbrev pub is_built_command : Command → Bool
 is_built_command (command.New register bunch size) = true
-is_built_command (command.Write on) = is_register on
-is_built_command (command.Done on) = is_register on
-is_built_command (command.Set on index value) = is_register on && is_integer value
-is_built_command (command.Show on index) = is_register on
-is_built_command c = false
+is_built_command (command.Copy register value) = true
+is_built_command (command.Drop register) = true
+is_built_command (command.Read on) = is_source on
+is_built_command (command.Write on) = is_source on
+is_built_command (command.Done on) = is_source on
+is_built_command (command.Set on index value) = is_source on
+is_built_command (command.Add on index by) = is_source on
+is_built_command (command.Get register on index) = is_source on
+is_built_command (command.Show on index) = is_source on
+is_built_command (command.Same left right) = true
 
 abbrev pub is_no_file : Option (List ℕ) → Bool
 is_no_file None = true
@@ -111,6 +111,7 @@ abbrev pub is_built : LineKind → Bool
 is_built line.Version = true
 is_built (line.Nodes count) = true
 is_built (line.Bunch word file) = is_no_file file && is_bunch_word word
+is_built (line.Segments limit) = true
 is_built (line.Do node c) = is_built_command c
 is_built what = false
 
@@ -162,13 +163,13 @@ fits_command bunches (command.Get register on index) = nat_lt register 16 && (fi
 fits_command bunches (command.Show on index) = fits_operand bunches on && nat_lt index 256
 fits_command bunches (command.Same left right) = fits_operand bunches left && fits_operand bunches right
 
--- a line's numbers are in their ranges, and its words are known or new as they have to be. A script
--- has one node so far
+-- a line's numbers are in their ranges, its words are known or new as they have to be, and it isn't said
+-- twice how many segments there are. A script has one node so far
 abbrev pub in_range : Known → LineKind → Bool
 in_range k line.Version = true
 in_range k (line.Nodes count) = count == 1
 in_range k (line.Bunch word file) = not (list_any (same_word word) k.bunches) && nat_lt (length k.bunches) 16
-in_range k (line.Segments limit) = is_within 1 65535 limit
+in_range k (line.Segments limit) = is_within 1 65535 limit && is_none k.limit
 in_range k (line.Table from to number fate) = nat_lt from k.nodes && (nat_lt to k.nodes && (is_within 1 1000000 number && is_within 1 20000 fate.phase))
 in_range k (line.TablesLose every) = is_within 2 1000 every
 in_range k (line.Save bunch file) = nat_lt bunch (length k.bunches)
@@ -290,3 +291,11 @@ pub record AreScript (lines : List Line) : Type 0 where
 -- how many nodes a script has
 abbrev pub nodes_of : List Line → ℕ
 nodes_of lines = (known_after_all nothing_known lines).nodes
+
+-- how many segments a node may make: 4,096 unless a line says another number
+abbrev pub limit_in : Option ℕ → ℕ
+limit_in None = 4096
+limit_in (Some limit) = limit
+
+abbrev pub limit_of : List Line → ℕ
+limit_of lines = limit_in (known_after_all nothing_known lines).limit

@@ -1,8 +1,10 @@
 ghost use Rattle.std.specs.Prelude.{◌≡◌, ◌++◌, OnOk, OnErr};
 ghost use Rattle.std.specs.List.{list_any, position_from};
 ghost use Rattle.bmx_script.specs.Grammar.{same_word, nothing_known, known_after, may_follow, section_of};
+ghost use Rattle.bmx_script.specs.Parsing.{first_limit};
 
 use crate::lines::{BunchWords, LineKind};
+use bmx_numerals::Field;
 use bmx_types::{Items, NoMemory};
 use std::alloc::Global;
 
@@ -16,6 +18,8 @@ pub struct Known {
     pub nodes: u8,
     /// The words of the bunches so far, by number.
     pub bunches: BunchWords,
+    /// How many segments a node may make, where a line has said it.
+    pub limit: Option<u32>,
 }
 
 impl Known {
@@ -27,6 +31,7 @@ impl Known {
             section: 0,
             nodes: 0,
             bunches: Items::new(alloc),
+            limit: None,
         }
     }
 
@@ -59,6 +64,16 @@ impl Known {
         words.iter().any(|known| is_word(word, known.as_str()))
     }
 
+    /// Whether a line may say how many segments there are, since none has said it.
+    pub(crate) fn first_limit(&self) -> Field<()>
+        ensures { result ≡ first_limit self.now.limit }
+    {
+        match self.limit {
+            None => Field::Good(()),
+            Some(_) => Field::Range,
+        }
+    }
+
     /// Learns what a line says.
     pub(crate) fn learn(&mut self, alloc: Global, what: &LineKind) -> Result<(), NoMemory>
         ensures ok { OnOk result (self.new ≡ known_after self.old what.now) }
@@ -67,6 +82,7 @@ impl Known {
         match what {
             LineKind::Nodes { count } => self.nodes = *count,
             LineKind::Bunch { word, .. } => self.bunches.push(word.copy(alloc)?)?,
+            LineKind::Segments { limit } => self.limit = Some(*limit),
             _ => {}
         }
         self.section = section_number(what);

@@ -1,6 +1,6 @@
 ghost use Rattle.std.specs.Prelude.{◌≡◌, ◌==◌, ◌≢◌, ◌+◌, ◌^◌, ◌<◌, ◌≤◌, [], ◌∷◌, length, IfOk, IfErr, IfSome, OnOk, Ok, Err};
 ghost use Rattle.std.specs.List.{position_from};
-ghost use Rattle.bmx_script.specs.Grammar.{AreScript, nodes_of, bunches_of, lines_of, IsVerdict, is_comment as is_comment_lem, is_long as is_long_lem, is_skipped as is_skipped_lem};
+ghost use Rattle.bmx_script.specs.Grammar.{AreScript, nodes_of, bunches_of, limit_of, lines_of, IsVerdict, is_comment as is_comment_lem, is_long as is_long_lem, is_skipped as is_skipped_lem};
 ghost use Rattle.bmx_script.specs.Reader.{ReadsOn, IsSound, IsAnswer, ForBad, end_of, noted, verdict_of as verdict_of_lem};
 
 use crate::knowledge::Known;
@@ -64,6 +64,14 @@ impl Script {
         ensures range { (0 < length result.now) × (length result.now ≤ 16) }
     {
         &self.known.bunches
+    }
+
+    /// How many segments a node may make, from 1 to 65,535: 4,096 unless a line says another number.
+    pub fn limit(&self) -> u32
+        ensures value { result ≡ limit_of self.now }
+        ensures range { (0 < result) × (result ≤ 65535) }
+    {
+        self.known.limit.unwrap_or(4096)
     }
 
     /// Its lines in order, without those that are skipped.

@@ -6,7 +6,7 @@ ghost use Rattle.bmx_script.specs.Grammar.{AreNumbered, IsReading, script_text};
 use crate::lines::{BunchWords, Fate, Line, LineKind};
 use crate::scripts::Script;
 use bmx_numerals::{push_integer, push_number};
-use bmx_types::{BunchNo, Command, NoMemory, Operand, Text};
+use bmx_types::{BunchNo, Command, NoMemory, NodeNo, Operand, Text};
 use std::alloc::{AllocError, Global};
 
 /// Prints a script: its lines at their own numbers, each with a line feed, and empty lines for those
@@ -78,21 +78,24 @@ fn push_line(text: &mut String, bunches: &BunchWords, what: &LineKind) -> Result
         LineKind::Phase => text.push_str("phase"),
         LineKind::Quiet => text.push_str("quiet"),
         LineKind::Do { node, command } => {
-            push_number(text, u64::from(node.get()))?;
-            push_word(text, verb(command))?;
+            push_node(text, *node, verb(command))?;
             push_operands(text, bunches, command)
         }
         LineKind::Collect { node, bunch } => {
-            push_number(text, u64::from(node.get()))?;
-            push_word(text, "collect")?;
+            push_node(text, *node, "collect")?;
             push_word(text, word_of(bunches, *bunch))
         }
-        LineKind::Sweep { node } => {
-            push_number(text, u64::from(node.get()))?;
-            push_word(text, "sweep")
-        }
+        LineKind::Sweep { node } => push_node(text, *node, "sweep"),
         LineKind::Settle => text.push_str("settle"),
     }
+}
+
+/// Adds a node and what it does.
+fn push_node(text: &mut String, node: NodeNo, verb: &str) -> Result<(), AllocError>
+    ensures { OnOk result (string_bytes text.new ≡ string_bytes text.old ++ (numeral node ++ 32 ∷ verb.now)) }
+{
+    push_number(text, u64::from(node.get()))?;
+    push_word(text, verb)
 }
 
 /// Adds a bunch line.
