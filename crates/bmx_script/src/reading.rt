@@ -249,6 +249,7 @@ fn value(known: &Known, word: &[u8]) -> Field<Operand>
     }
 }
 
+/// Whether a word begins as a source does.
 fn begins_as_source(word: &[u8]) -> bool
     ensures { result ≡ begins_as_source_lem word.now }
 {
@@ -301,11 +302,7 @@ fn small_number(word: &[u8], limit: u16) -> Field<u8>
     requires { limit ≤ 256 }
     ensures { result ≡ field_below limit word.now }
 {
-    match number_below(word, limit as u64) {
-        Field::Form => Field::Form,
-        Field::Range => Field::Range,
-        Field::Good(number) => Field::Good(number as u8),
-    }
+    made_of!(number_below(word, u64::from(limit)), number => number as u8)
 }
 
 /// Whether a word may be that of a bunch.

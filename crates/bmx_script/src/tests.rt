@@ -1,5 +1,5 @@
-use crate::{Bad, BadCause, LineKind, ScriptError, Shown, print_line, read_script};
-use bmx_types::{Name, NodeNo, Refusal, Val};
+use crate::{Bad, BadCause, LineKind, ScriptError, Shown, print_line, print_script, read_script};
+use bmx_types::{Name, NodeNo, Refusal, Text, Val};
 use std::test::Fail;
 
 const HEAD: &str = "bmx 1\nnodes 1\nbunch main\n";
@@ -15,11 +15,14 @@ fn bad_line(rt: &HostRuntime, text: &[u8]) -> Result<Option<Bad>, Fail> {
 
 #[test]
 fn a_first_script(rt: HostRuntime) -> Result<(), Fail> {
-    let text =
-        "bmx 1\nnodes 1\nbunch main\n0 new r0 main 1\n0 write r0\n0 set r0 0 5\n# shown\n\n0 show r0 0\n0 done r0";
+    let text = behind_head(
+        &rt,
+        "0 new r0 main 1\n0 write r0\n0 set r0 0 5\n# shown\n\n0 show r0 0\n0 done r0",
+    )?;
     let Ok(script) = read_script(rt.alloc(), text.as_bytes()) else {
         return Err("it is a script")?;
     };
+    assert_eq!(rt; script.limit(), 4096);
     assert_eq!(rt; script.nodes(), 1);
     assert_eq!(rt; script.bunches().len(), 1);
     let lines = script.lines().as_slice();
@@ -29,81 +32,134 @@ fn a_first_script(rt: HostRuntime) -> Result<(), Fail> {
     Ok(())
 }
 
+/// A script's head, and lines behind it.
+fn behind_head(rt: &HostRuntime, lines: &str) -> Result<String, Fail> {
+    let mut text = String::from_str(rt.alloc(), HEAD)?;
+    text.push_str(lines)?;
+    Ok(text)
+}
+
 #[test]
-fn first_bad_lines(rt: HostRuntime) -> Result<(), Fail> {
-    let start = "bmx 1\nnodes 1\nbunch main\n0 new r0 main 1\n0 write r0\n";
-    for (first, rest, line, cause) in [
-        ("", "", 1, BadCause::End),
-        ("bmx 1\n", "nodes 1\n", 3, BadCause::End),
-        ("bmx 2\n", "nodes 1\n", 1, BadCause::Form),
-        ("\n", "bmx 1\n", 1, BadCause::Form),
-        ("bmx 1\n", "nodes 9\n", 2, BadCause::Range),
-        ("bmx 1\n", "nodes 2\n", 2, BadCause::Range),
-        (
-            start,
-            "0 set r0 0 9223372036854775808\n",
-            6,
-            BadCause::Range,
-        ),
-        (start, "0 sett r0 0 1\n", 6, BadCause::Form),
-        (start, "0  write r0\n", 6, BadCause::Form),
-        (start, "0 write r0 \n", 6, BadCause::Form),
-        (start, "0 write r16\n", 6, BadCause::Range),
-        (start, "0 write r01\n", 6, BadCause::Form),
-        (start, "1 write r0\n", 6, BadCause::Range),
-        (start, "0 new r0 other 1\n", 6, BadCause::Range),
-        (start, "0 new r0 main 33\n", 6, BadCause::Range),
-        (start, "0 new r99 Main 33\n", 6, BadCause::Form),
-        (start, "0 set r0 0 -0\n", 6, BadCause::Form),
-        (start, "# and then\n0 read r0\n", 7, BadCause::Form),
+fn bad_heads(rt: HostRuntime) -> Result<(), Fail> {
+    for (text, line, cause) in [
+        ("", 1, BadCause::End),
+        ("bmx 1\nnodes 1\n", 3, BadCause::End),
+        ("bmx 2\nnodes 1\n", 1, BadCause::Form),
+        ("\nbmx 1\n", 1, BadCause::Form),
+        ("bmx 1\nnodes 9\n", 2, BadCause::Range),
+        ("bmx 1\nnodes 2\n", 2, BadCause::Range),
     ] {
-        let mut text = String::from_str(rt.alloc(), first)?;
-        text.push_str(rest)?;
-        assert_eq!(rt;
-            bad_line(&rt, text.as_bytes())?,
-            Some(Bad { line, cause }),
-            "{text}"
-        );
+        let bad = bad_line(&rt, text.as_bytes())?;
+        assert_eq!(rt; bad, Some(Bad { line, cause }), "{text}");
     }
     assert_eq!(rt; bad_line(&rt, HEAD.as_bytes())?, None);
     Ok(())
 }
 
 #[test]
-fn the_largest_scripts(rt: HostRuntime) -> Result<(), Fail> {
-    for (empty_lines, bad) in [
-        (19_997, None),
-        (
-            19_998,
-            Some(Bad {
-                line: 20_001,
-                cause: BadCause::Long,
-            }),
-        ),
+fn bad_forms(rt: HostRuntime) -> Result<(), Fail> {
+    for line in [
+        "0 sett r0 0 1",
+        "0  write r0",
+        "0 write r0 ",
+        "0 write r01",
+        "0 write 5",
+        "0 set r0 0 -0",
+        "0 same r0 @Main",
+        "0 new r99 Main 33",
+        "settle",
     ] {
-        let mut text = String::from_str(rt.alloc(), HEAD)?;
-        for _ in 0..empty_lines {
-            text.push_str("\n")?;
-        }
-        assert_eq!(rt; bad_line(&rt, text.as_bytes())?, bad);
+        let text = behind_head(&rt, line)?;
+        let bad = bad_line(&rt, text.as_bytes())?;
+        let cause = BadCause::Form;
+        assert_eq!(rt; bad, Some(Bad { line: 4, cause }), "{line}");
     }
-    for (letters, bad) in [
-        (1_048_549, None),
-        (
-            1_048_550,
-            Some(Bad {
-                line: 4,
-                cause: BadCause::Long,
-            }),
-        ),
+    Ok(())
+}
+
+#[test]
+fn bad_ranges(rt: HostRuntime) -> Result<(), Fail> {
+    for line in [
+        "0 set r0 0 9223372036854775808",
+        "1 drop r0",
+        "0 write r16",
+        "0 read @other",
+        "0 get r0 @main 256",
+        "0 new r0 main 33",
+        "segments 65536",
     ] {
-        let mut text = Vec::from_slice(rt.alloc(), HEAD.as_bytes())?;
-        text.push(b'#')?;
-        for _ in 0..letters {
-            text.push(b'a')?;
-        }
-        assert_eq!(rt; bad_line(&rt, text.as_slice())?, bad);
+        let text = behind_head(&rt, line)?;
+        let bad = bad_line(&rt, text.as_bytes())?;
+        let cause = BadCause::Range;
+        assert_eq!(rt; bad, Some(Bad { line: 4, cause }), "{line}");
     }
+    Ok(())
+}
+
+#[test]
+fn a_limit_is_said_once(rt: HostRuntime) -> Result<(), Fail> {
+    let text = behind_head(&rt, "segments 2\nsegments 2\n")?;
+    let (line, cause) = (5, BadCause::Range);
+    assert_eq!(rt; bad_line(&rt, text.as_bytes())?, Some(Bad { line, cause }));
+    let text = behind_head(&rt, "segments 2\n0 drop r0\nsegments 2\n")?;
+    let (line, cause) = (6, BadCause::Form);
+    assert_eq!(rt; bad_line(&rt, text.as_bytes())?, Some(Bad { line, cause }));
+    Ok(())
+}
+
+#[test]
+fn a_printed_script(rt: HostRuntime) -> Result<(), Fail> {
+    let text = behind_head(
+        &rt,
+        "# a limit\n\nsegments 9\n0 copy r1 @main\n0 same r1 null # no\n",
+    )?;
+    let (line, cause) = (8, BadCause::Form);
+    assert_eq!(rt; bad_line(&rt, text.as_bytes())?, Some(Bad { line, cause }));
+    let text = behind_head(
+        &rt,
+        "# a limit\n\nsegments 9\n0 copy r1 @main\n#\n0 same r1 null\n# end",
+    )?;
+    let printed = printed_again(&rt, text.as_bytes())?;
+    assert_eq!(rt;
+        printed.as_str(),
+        "bmx 1\nnodes 1\nbunch main\n\n\nsegments 9\n0 copy r1 @main\n\n0 same r1 null\n"
+    );
+    let again = printed_again(&rt, printed.as_bytes())?;
+    assert_eq!(rt; again.as_str(), printed.as_str());
+    Ok(())
+}
+
+/// What a script prints.
+fn printed_again(rt: &HostRuntime, text: &[u8]) -> Result<Text, Fail> {
+    let Ok(script) = read_script(rt.alloc(), text) else {
+        return Err("it is a script")?;
+    };
+    Ok(print_script(rt.alloc(), &script)?)
+}
+
+#[test]
+fn the_most_lines(rt: HostRuntime) -> Result<(), Fail> {
+    let mut text = String::from_str(rt.alloc(), HEAD)?;
+    for _ in 0..19_997 {
+        text.push_str("\n")?;
+    }
+    assert_eq!(rt; bad_line(&rt, text.as_bytes())?, None);
+    text.push_str("\n")?;
+    let (line, cause) = (20_001, BadCause::Long);
+    assert_eq!(rt; bad_line(&rt, text.as_bytes())?, Some(Bad { line, cause }));
+    Ok(())
+}
+
+#[test]
+fn the_most_bytes(rt: HostRuntime) -> Result<(), Fail> {
+    let mut text = behind_head(&rt, "#")?;
+    for _ in 0..1_048_549 {
+        text.push_str("a")?;
+    }
+    assert_eq!(rt; bad_line(&rt, text.as_bytes())?, None);
+    text.push_str("a")?;
+    let (line, cause) = (4, BadCause::Long);
+    assert_eq!(rt; bad_line(&rt, text.as_bytes())?, Some(Bad { line, cause }));
     Ok(())
 }
 
