@@ -136,7 +136,7 @@ impl Graph {
 
     /// The names that are reached, rising: those in all registers, all anchors, and, with a name, those
     /// in the fields of its object. A name without an object is reached all the same. Each object is
-    /// looked at once: with n names reached and e references between them it takes O((n + e) log n).
+    /// looked at once: O((n + e) log n) for n names reached, whose objects have e fields together.
     pub fn reached(&self, alloc: Global) -> Result<Names, NoMemory>
         ensures rising { IfOk result (λ names. IsStrictlyIncreasing names) }
         ensures reached { IfOk result (λ names. (x : ℕ) → Contains names x ↔ IsReached 8 (bunches_in self.now) (state_of self.now) x) }
