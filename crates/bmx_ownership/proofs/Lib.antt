@@ -1,0 +1,5 @@
+pub mod Basics
+pub mod Sends
+pub mod Rows
+pub mod Serves
+pub mod Commands

@@ -1,0 +1,5 @@
+//! One owner for each object, and a write that excludes, in every legal history: each name of a store, with
+//! the letters that speak of it, is a run of the machine of one object. It has definitions and laws alone.
+#![tactic(auto)]
+
+mod laws;
