@@ -3,3 +3,4 @@ pub mod Sends
 pub mod Rows
 pub mod Serves
 pub mod Commands
+pub mod Takes

@@ -99,7 +99,7 @@ given_twice true false seq old at now h = refl
 given_twice false false seq old at now h = refl
 
 -- the records of x where the record of a name and a node is another
-record_at : (s : NodeState) (y to x m : ℕ) (r : Record) →
+pub record_at : (s : NodeState) (y to x m : ℕ) (r : Record) →
     seen_record (put_at s.entering y to (Some r) x m)
     ≡ cond (y == x) (cond (m == to) (Some (seen_numbers r)) (records_of x s m)) (records_of x s m)
 record_at s y to x m r = by_two (two y x)
