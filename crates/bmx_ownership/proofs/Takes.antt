@@ -22,7 +22,7 @@ use Rattle.bmx_token.specs.Tokens.{request, granted, inval, ack}
 use Rattle.bmx_protocol.specs.declared.inputs.NodeAnswer.TheVariants as answer
 use Rattle.bmx_protocol.specs.Nodes.{NodeState, Known, with_known, with_part, without_copy}
 use Rattle.bmx_protocol.specs.Rows.{Post, post, Row, stray, ask_for, info_in, infos, heard_of, hear, hear_all, with_copy, requested, take_request, read_granted, take_read_grant, write_granted, take_write_grant, invalidated, take_inval, acknowledged, take_ack, take_row}
-use Rattle.bmx_object.specs.Machine.{Holding, Note, Asks, Grants, Recalls, Returns, Tells, Numbers, Send, send, Move, got_in, heard_from, take_note, take_notes, take_no_note, take_more, and_then, is_brought, with_it}
+use Rattle.bmx_object.specs.Machine.{Holding, Note, Asks, Grants, Recalls, Returns, Tells, Numbers, Send, send, Move, got_in, heard_from, take_note, take_notes, take_no_note, take_more, and_then, is_brought, with_it, stays}
 use Rattle.bmx_object.specs.Machine.{requested as requested_move, grant_taken, recalled, returned}
 use Rattle.bmx_ownership.specs.Seen.{note_if, tells, seen_notes, seen_holding, seen_numbers}
 use Rattle.bmx_ownership.proofs.Basics.{eqb_is, eqb_same, Two, Same, Apart, two, put_same, put_apart, note_same, note_apart}
@@ -271,3 +271,129 @@ heard me from x (told.Ref info ∷ fields) known =
         ap (λ (b : Bool). take_notes me from (cond b (Tells ∷ rest) rest) (seen_known (known x))) h
         ∙ ap (λ (k : Option Known). take_notes me from rest (seen_known k)) (sym (hear_apart x from known info h))
         ∙ more
+
+-- ## grants
+
+-- the name that is granted is known again, and with a copy
+copied : (x from : ℕ) (s : NodeState) (info : Info) (fields : List Field) (k : Known) (p : Part) →
+    seen_known (put (hear_all from s.known (info ∷ filter_map info_in fields)) info.name (Some (with_copy (with_part k p) fields)) info.name)
+    ≡ Some (with_it (seen_holding k) p)
+copied x from s info fields k p =
+    ap seen_known (put_same (hear_all from s.known (info ∷ filter_map info_in fields)) info.name (Some (with_copy (with_part k p) fields)))
+
+-- another is heard of
+heard_apart : (me from x : ℕ) (s : NodeState) (info : Info) (fields : List Field) → (info.name == x) ≡ false →
+    take_notes me from (tells x (targets fields)) (seen_known (s.known x))
+    ≡ Some (take_no_note (seen_known (hear_all from s.known (info ∷ filter_map info_in fields) x)))
+heard_apart me from x s info fields h =
+    ap (λ (k : Option Known). take_notes me from (tells x (targets fields)) (seen_known k)) (sym (hear_apart x from s.known info h))
+    ∙ heard me from x fields (hear from s.known info)
+
+read_same : (me from seq : ℕ) (s : NodeState) (info : Info) (fields : List Field) (k : Known) (p : Part) (b : Bool) →
+    Taken info.name from seq s (is_brought (tells info.name (targets fields)))
+    (and_then (grant_taken (seen_holding k) p b) (λ h. take_notes me from (tells info.name (targets fields)) h)) (read_granted s from info fields k p b)
+read_same me from seq s info fields k p false = Strayed refl
+read_same me from seq s info fields k p true = Taking refl (record {
+  move = stays (with_it (seen_holding k) p);
+  makes = ap (take_more (stays (with_it (seen_holding k) p))) (tells_kept me from info.name (targets fields) (with_it (seen_holding k) p));
+  after = copied info.name from s info fields k p;
+  sends = Own refl;
+  entering = λ n. ap (λ (b : Bool). got_records b (records_of info.name s) from seq n) (sym (tells_bring info.name (targets fields)));
+  issued = refl;
+  taken = refl;
+})
+
+read_apart : (x me from seq : ℕ) (s : NodeState) (info : Info) (fields : List Field) (k : Known) (p : Part) (b : Bool) → (info.name == x) ≡ false →
+    Noted x me from seq s (tells x (targets fields)) (read_granted s from info fields k p b)
+read_apart x me from seq s info fields k p false h = Strayed refl
+read_apart x me from seq s info fields k p true h = Taking refl (record {
+  move = take_no_note (seen_known (hear_all from s.known (info ∷ filter_map info_in fields) x));
+  makes = heard_apart me from x s info fields h;
+  after = ap seen_known (put_apart (hear_all from s.known (info ∷ filter_map info_in fields)) info.name x (Some (with_copy (with_part k p) fields)) h);
+  sends = Own refl;
+  entering = λ n. ap (λ (b : Bool). got_records b (records_of x s) from seq n) (sym (tells_bring x (targets fields)));
+  issued = refl;
+  taken = refl;
+})
+
+read_grant_taken : (x me from seq : ℕ) (s : NodeState) (info : Info) (fields : List Field) (k : Option Known) → s.known info.name ≡ k →
+    Noted x me from seq s (note_if x info.name (Grants mode.Read) (tells x (targets fields))) (take_read_grant s from info fields k)
+read_grant_taken x me from seq s info fields None is = Strayed refl
+read_grant_taken x me from seq s info fields (Some k) is =
+    let r : Part × Bool = granted k.part from mode.Read in
+    by_name x me from seq s info.name k (Grants mode.Read) (tells x (targets fields)) (read_granted s from info fields k r.0 r.1) is
+    (λ e known. subst (λ (z : ℕ). Taken z from seq s (is_brought (tells z (targets fields)))
+        (and_then (grant_taken (seen_holding k) r.0 r.1) (λ h. take_notes me from (tells z (targets fields)) h)) (read_granted s from info fields k r.0 r.1))
+        e (read_same me from seq s info fields k r.0 r.1))
+    (λ h. read_apart x me from seq s info fields k r.0 r.1 h)
+
+got_is : (seq : ℕ) (r : Option Record) (name bunch node : ℕ) →
+    seen_numbers (got_by seq (unwrap_or r (blank name bunch node))) ≡ got_in seq (seen_record r)
+got_is seq None name bunch node = refl
+got_is seq (Some r) name bunch node = refl
+
+-- the records of x after the record of who handed over an object is written
+taken_over : (x from seq : ℕ) (s : NodeState) (name bunch n : ℕ) →
+    seen_record (put_at s.entering name from (Some (got_by seq (unwrap_or (s.entering name from) (blank name bunch from)))) x n)
+    ≡ got_records (name == x) (records_of x s) from seq n
+taken_over x from seq s name bunch n =
+    record_at s name from x n (got_by seq (unwrap_or (s.entering name from) (blank name bunch from)))
+    ∙ ap (λ (r : Numbers). cond (name == x) (cond (n == from) (Some r) (records_of x s n)) (records_of x s n)) (got_is seq (s.entering name from) name bunch from)
+    ∙ by_two (two name x)
+  where
+    by_two : Two name x →
+        cond (name == x) (cond (n == from) (Some (got_in seq (seen_record (s.entering name from)))) (records_of x s n)) (records_of x s n)
+        ≡ got_records (name == x) (records_of x s) from seq n
+    by_two (Same e) = ap (λ (z : ℕ). cond (name == x) (cond (n == from) (Some (got_in seq (seen_record (s.entering z from)))) (records_of x s n)) (records_of x s n)) e
+    by_two (Apart h d) = rw h refl
+
+write_same : (me from seq : ℕ) (s : NodeState) (info : Info) (fields : List Field) (k : Known) (p : Part) (b : Bool) →
+    Taken info.name from seq s true
+    (and_then (grant_taken (seen_holding k) p b) (λ h. take_notes me from (tells info.name (targets fields)) h)) (write_granted s from seq info fields k p b)
+write_same me from seq s info fields k p false = Strayed refl
+write_same me from seq s info fields k p true = Taking refl (record {
+  move = stays (with_it (seen_holding k) p);
+  makes = ap (take_more (stays (with_it (seen_holding k) p))) (tells_kept me from info.name (targets fields) (with_it (seen_holding k) p));
+  after = copied info.name from s info fields k p;
+  sends = Own refl;
+  entering = λ n. taken_over info.name from seq s info.name k.bunch n
+      ∙ ap (λ (b : Bool). got_records b (records_of info.name s) from seq n) (eqb_same info.name);
+  issued = refl;
+  taken = refl;
+})
+
+write_apart : (x me from seq : ℕ) (s : NodeState) (info : Info) (fields : List Field) (k : Known) (p : Part) (b : Bool) → (info.name == x) ≡ false →
+    Noted x me from seq s (tells x (targets fields)) (write_granted s from seq info fields k p b)
+write_apart x me from seq s info fields k p false h = Strayed refl
+write_apart x me from seq s info fields k p true h = Taking refl (record {
+  move = take_no_note (seen_known (hear_all from s.known (info ∷ filter_map info_in fields) x));
+  makes = heard_apart me from x s info fields h;
+  after = ap seen_known (put_apart (hear_all from s.known (info ∷ filter_map info_in fields)) info.name x (Some (with_copy (with_part k p) fields)) h);
+  sends = Own refl;
+  entering = λ n. taken_over x from seq s info.name k.bunch n
+      ∙ ap (λ (b : Bool). got_records b (records_of x s) from seq n) (h ∙ sym (tells_bring x (targets fields)));
+  issued = refl;
+  taken = refl;
+})
+
+write_grant_taken : (x me from seq : ℕ) (s : NodeState) (info : Info) (fields : List Field) (k : Option Known) → s.known info.name ≡ k →
+    Noted x me from seq s (note_if x info.name (Grants mode.Write) (tells x (targets fields))) (take_write_grant s from seq info fields k)
+write_grant_taken x me from seq s info fields None is = Strayed refl
+write_grant_taken x me from seq s info fields (Some k) is =
+    let r : Part × Bool = granted k.part from mode.Write in
+    by_name x me from seq s info.name k (Grants mode.Write) (tells x (targets fields)) (write_granted s from seq info fields k r.0 r.1) is
+    (λ e known. subst (λ (z : ℕ). Taken z from seq s true
+        (and_then (grant_taken (seen_holding k) r.0 r.1) (λ h. take_notes me from (tells z (targets fields)) h)) (write_granted s from seq info fields k r.0 r.1))
+        e (write_same me from seq s info fields k r.0 r.1))
+    (λ h. write_apart x me from seq s info fields k r.0 r.1 h)
+
+-- ## the letter
+
+pub take_taken : (x me : ℕ) (s : NodeState) (from seq : ℕ) (m : Msg) →
+    Taken x from seq s (is_brought (seen_notes x m)) (take_notes me from (seen_notes x m) (seen_known (s.known x))) (take_row me s from seq m)
+take_taken x me s from seq (msg.ReadReq name asker) = request_taken x me from seq s name mode.Read asker (s.known name) refl
+take_taken x me s from seq (msg.WriteReq name asker) = request_taken x me from seq s name mode.Write asker (s.known name) refl
+take_taken x me s from seq (msg.ReadGrant info fields) = read_grant_taken x me from seq s info fields (s.known info.name) refl
+take_taken x me s from seq (msg.WriteGrant info fields) = write_grant_taken x me from seq s info fields (s.known info.name) refl
+take_taken x me s from seq (msg.Inval name) = inval_taken x me from seq s name (s.known name) refl
+take_taken x me s from seq (msg.InvAck name) = ack_taken x me from seq s name (s.known name) refl
