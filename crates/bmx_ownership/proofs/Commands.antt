@@ -27,7 +27,7 @@ use Rattle.bmx_object.specs.Machine.{acquired as acquired_move, released as rele
 use Rattle.bmx_ownership.specs.Seen.{note_if, seen_notes, seen_holding}
 use Rattle.bmx_ownership.proofs.Basics.{Two, Same, Apart, two, put_same, put_apart, note_same, note_apart}
 use Rattle.bmx_ownership.proofs.Sends.{seen_send, seen_sends}
-use Rattle.bmx_ownership.proofs.Rows.{seen_known, MayTell, OnlyTell, says_nothing, Leaves, Did, Acts, Passes, Makes, seen_same, seen_apart, asks_same, asks_apart}
+use Rattle.bmx_ownership.proofs.Rows.{seen_known, MayTell, OnlyTell, says_nothing, Grows, AsBefore, OneMore, Leaves, Did, Acts, Passes, Makes, seen_same, seen_apart, asks_same, asks_apart}
 
 -- ## acquiring and releasing
 
@@ -115,7 +115,7 @@ release_did x me s (Some name) = release_known_did x me s name (s.known name) re
 -- what a state is for x beside another: the same, or made
 data Beside (x me : ℕ) (s t : NodeState) : Type 0 where
   Alike : seen_known (t.known x) ≡ seen_known (s.known x) → Beside x me s t
-  Made : x ≡ next_name me s → seen_known (t.known x) ≡ Some made_holding → Beside x me s t
+  Made : x ≡ next_name me s → t.made ≡ s.made + 1 → seen_known (t.known x) ≡ Some made_holding → Beside x me s t
 
 new_beside : (x me : ℕ) (s : NodeState) (r b n : ℕ) → Beside x me s (with_new me s r b n)
 new_beside x me s r b n = by_two (two (next_name me s) x)
@@ -123,7 +123,7 @@ new_beside x me s r b n = by_two (two (next_name me s) x)
     made : Known
     made = new_object b n
     by_two : Two (next_name me s) x → Beside x me s (with_new me s r b n)
-    by_two (Same e) = Made (sym e) (subst (λ (z : ℕ). seen_known (put s.known (next_name me s) (Some made) z) ≡ Some made_holding) e
+    by_two (Same e) = Made (sym e) refl (subst (λ (z : ℕ). seen_known (put s.known (next_name me s) (Some made) z) ≡ Some made_holding) e
         (ap seen_known (put_same s.known (next_name me s) (Some made))))
     by_two (Apart h d) = Alike (ap seen_known (put_apart s.known (next_name me s) x (Some made) h))
 
@@ -173,7 +173,7 @@ effect_beside x me s (command.Same a b) = Alike refl
 -- a row that issues nothing
 beside_did : (x me : ℕ) (s : NodeState) (row : Row) → row.posts ≡ [] → Beside x me s row.after → Did x me s row
 beside_did x me s row none (Alike e) = Passes e (subst (OnlyTell x s) (sym none) tt)
-beside_did x me s row none (Made is e) = Makes is e none
+beside_did x me s row none (Made is more e) = Makes is more e none
 
 answered_did : (x me : ℕ) (s t : NodeState) (a : Answer) → Beside x me s t → Did x me s (answered s t a)
 answered_did x me s t graph.Nil h = beside_did x me s _ refl h
@@ -206,30 +206,30 @@ do_did x me s full (command.Same a b) = graph_did x me s (command.Same a b)
 -- ## records and counts
 
 acquired_leaves : (me : ℕ) (s : NodeState) (name : ℕ) (k : Known) (m : Mode) (p : Part) (a : Acquire) → Leaves s (acquired me s name k m p a)
-acquired_leaves me s name k m p acquire_is.Held = record { entering = refl; issued = refl; taken = refl }
-acquired_leaves me s name k m p (acquire_is.Asks parent) = record { entering = refl; issued = refl; taken = refl }
-acquired_leaves me s name k m p acquire_is.Waits = record { entering = refl; issued = refl; taken = refl }
-acquired_leaves me s name k m p acquire_is.Refused = record { entering = refl; issued = refl; taken = refl }
+acquired_leaves me s name k m p acquire_is.Held = record { entering = refl; issued = refl; taken = refl; made = AsBefore refl }
+acquired_leaves me s name k m p (acquire_is.Asks parent) = record { entering = refl; issued = refl; taken = refl; made = AsBefore refl }
+acquired_leaves me s name k m p acquire_is.Waits = record { entering = refl; issued = refl; taken = refl; made = AsBefore refl }
+acquired_leaves me s name k m p acquire_is.Refused = record { entering = refl; issued = refl; taken = refl; made = AsBefore refl }
 
 acquire_known_leaves : (me : ℕ) (s : NodeState) (m : Mode) (name : ℕ) (k : Option Known) → Leaves s (acquire_known me s m name k)
-acquire_known_leaves me s m name None = record { entering = refl; issued = refl; taken = refl }
+acquire_known_leaves me s m name None = record { entering = refl; issued = refl; taken = refl; made = AsBefore refl }
 acquire_known_leaves me s m name (Some k) = acquired_leaves me s name k m _ _
 
 acquire_leaves : (me : ℕ) (s : NodeState) (m : Mode) (name : Option ℕ) → Leaves s (acquire_row me s m name)
-acquire_leaves me s m None = record { entering = refl; issued = refl; taken = refl }
+acquire_leaves me s m None = record { entering = refl; issued = refl; taken = refl; made = AsBefore refl }
 acquire_leaves me s m (Some name) = acquire_known_leaves me s m name (s.known name)
 
 released_leaves : (s : NodeState) (name : ℕ) (k : Known) (p : Part) (r : Release) → Leaves s (released s name k p r)
-released_leaves s name k p release_is.Free = record { entering = refl; issued = refl; taken = refl }
-released_leaves s name k p (release_is.Answers owner) = record { entering = refl; issued = refl; taken = refl }
-released_leaves s name k p release_is.Refused = record { entering = refl; issued = refl; taken = refl }
+released_leaves s name k p release_is.Free = record { entering = refl; issued = refl; taken = refl; made = AsBefore refl }
+released_leaves s name k p (release_is.Answers owner) = record { entering = refl; issued = refl; taken = refl; made = AsBefore refl }
+released_leaves s name k p release_is.Refused = record { entering = refl; issued = refl; taken = refl; made = AsBefore refl }
 
 release_known_leaves : (s : NodeState) (name : ℕ) (k : Option Known) → Leaves s (release_known s name k)
-release_known_leaves s name None = record { entering = refl; issued = refl; taken = refl }
+release_known_leaves s name None = record { entering = refl; issued = refl; taken = refl; made = AsBefore refl }
 release_known_leaves s name (Some k) = released_leaves s name k _ _
 
 release_leaves : (s : NodeState) (name : Option ℕ) → Leaves s (release_row s name)
-release_leaves s None = record { entering = refl; issued = refl; taken = refl }
+release_leaves s None = record { entering = refl; issued = refl; taken = refl; made = AsBefore refl }
 release_leaves s (Some name) = release_known_leaves s name (s.known name)
 
 -- a state has the records and counts of another
@@ -237,42 +237,43 @@ record Like (s t : NodeState) : Type 0 where
   entering : t.entering ≡ s.entering
   issued : t.issued ≡ s.issued
   taken : t.taken ≡ s.taken
+  made : Grows s.made t.made
 
 stored_like : (s : NodeState) (name : Option ℕ) (index : ℕ) (v : Option Val) → Like s (with_stored s name index v)
-stored_like s None index v = record { entering = refl; issued = refl; taken = refl }
-stored_like s (Some name) index None = record { entering = refl; issued = refl; taken = refl }
-stored_like s (Some name) index (Some v) = record { entering = refl; issued = refl; taken = refl }
+stored_like s None index v = record { entering = refl; issued = refl; taken = refl; made = AsBefore refl }
+stored_like s (Some name) index None = record { entering = refl; issued = refl; taken = refl; made = AsBefore refl }
+stored_like s (Some name) index (Some v) = record { entering = refl; issued = refl; taken = refl; made = AsBefore refl }
 
 got_like : (s : NodeState) (r : ℕ) (v : Option Val) → Like s (with_got s r v)
-got_like s r None = record { entering = refl; issued = refl; taken = refl }
-got_like s r (Some v) = record { entering = refl; issued = refl; taken = refl }
+got_like s r None = record { entering = refl; issued = refl; taken = refl; made = AsBefore refl }
+got_like s r (Some v) = record { entering = refl; issued = refl; taken = refl; made = AsBefore refl }
 
 effect_like : (me : ℕ) (s : NodeState) (c : Command) → Like s (effect_of me s c)
-effect_like me s (command.New r b n) = record { entering = refl; issued = refl; taken = refl }
-effect_like me s (command.Copy r v) = record { entering = refl; issued = refl; taken = refl }
-effect_like me s (command.Drop r) = record { entering = refl; issued = refl; taken = refl }
-effect_like me s (command.Read on) = record { entering = refl; issued = refl; taken = refl }
-effect_like me s (command.Write on) = record { entering = refl; issued = refl; taken = refl }
-effect_like me s (command.Done on) = record { entering = refl; issued = refl; taken = refl }
+effect_like me s (command.New r b n) = record { entering = refl; issued = refl; taken = refl; made = OneMore refl }
+effect_like me s (command.Copy r v) = record { entering = refl; issued = refl; taken = refl; made = AsBefore refl }
+effect_like me s (command.Drop r) = record { entering = refl; issued = refl; taken = refl; made = AsBefore refl }
+effect_like me s (command.Read on) = record { entering = refl; issued = refl; taken = refl; made = AsBefore refl }
+effect_like me s (command.Write on) = record { entering = refl; issued = refl; taken = refl; made = AsBefore refl }
+effect_like me s (command.Done on) = record { entering = refl; issued = refl; taken = refl; made = AsBefore refl }
 effect_like me s (command.Set on i v) = stored_like s _ i _
 effect_like me s (command.Add on i by) = stored_like s _ i _
 effect_like me s (command.Get r on i) = got_like s r _
-effect_like me s (command.Show on i) = record { entering = refl; issued = refl; taken = refl }
-effect_like me s (command.Same a b) = record { entering = refl; issued = refl; taken = refl }
+effect_like me s (command.Show on i) = record { entering = refl; issued = refl; taken = refl; made = AsBefore refl }
+effect_like me s (command.Same a b) = record { entering = refl; issued = refl; taken = refl; made = AsBefore refl }
 
 answered_leaves : (s t : NodeState) (a : Answer) → Like s t → Leaves s (answered s t a)
-answered_leaves s t graph.Nil h = record { entering = h.entering; issued = h.issued; taken = h.taken }
-answered_leaves s t (graph.Value v) h = record { entering = h.entering; issued = h.issued; taken = h.taken }
-answered_leaves s t graph.Yes h = record { entering = h.entering; issued = h.issued; taken = h.taken }
-answered_leaves s t graph.No h = record { entering = h.entering; issued = h.issued; taken = h.taken }
-answered_leaves s t graph.Wait h = record { entering = refl; issued = refl; taken = refl }
-answered_leaves s t (graph.Refused why) h = record { entering = refl; issued = refl; taken = refl }
+answered_leaves s t graph.Nil h = record { entering = h.entering; issued = h.issued; taken = h.taken; made = h.made }
+answered_leaves s t (graph.Value v) h = record { entering = h.entering; issued = h.issued; taken = h.taken; made = h.made }
+answered_leaves s t graph.Yes h = record { entering = h.entering; issued = h.issued; taken = h.taken; made = h.made }
+answered_leaves s t graph.No h = record { entering = h.entering; issued = h.issued; taken = h.taken; made = h.made }
+answered_leaves s t graph.Wait h = record { entering = refl; issued = refl; taken = refl; made = AsBefore refl }
+answered_leaves s t (graph.Refused why) h = record { entering = refl; issued = refl; taken = refl; made = AsBefore refl }
 
 graph_leaves : (me : ℕ) (s : NodeState) (c : Command) → Leaves s (graph_row me s c)
 graph_leaves me s c = answered_leaves s (effect_of me s c) (answer_of (seen_graph me s) me c) (effect_like me s c)
 
 new_leaves : (me : ℕ) (s : NodeState) (full : Bool) (r b n : ℕ) → Leaves s (do_row me s full (command.New r b n))
-new_leaves me s true r b n = record { entering = refl; issued = refl; taken = refl }
+new_leaves me s true r b n = record { entering = refl; issued = refl; taken = refl; made = AsBefore refl }
 new_leaves me s false r b n = graph_leaves me s (command.New r b n)
 
 pub do_leaves : (me : ℕ) (s : NodeState) (full : Bool) (c : Command) → Leaves s (do_row me s full c)

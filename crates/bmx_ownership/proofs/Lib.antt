@@ -4,3 +4,4 @@ pub mod Rows
 pub mod Serves
 pub mod Commands
 pub mod Takes
+pub mod Free

@@ -77,11 +77,17 @@ OnlyTell x s (p ∷ posts) = MayTell x s p × OnlyTell x s posts
 pub says_nothing : (x : ℕ) (s : NodeState) (p : Post) → seen_notes x p.msg ≡ [] → MayTell x s p
 says_nothing x s p e = record { times = 0; is = e; none = λ _. refl }
 
--- a row leaves the records and the counts
+-- a count of names made stays, or is raised by one
+pub data Grows (old new : ℕ) : Type 0 where
+  AsBefore : new ≡ old → Grows old new
+  OneMore : new ≡ old + 1 → Grows old new
+
+-- a row leaves the records and the counts of letters
 pub record Leaves (s : NodeState) (row : Row) : Type 0 where
   pub entering : row.after.entering ≡ s.entering
   pub issued : row.after.issued ≡ s.issued
   pub taken : row.after.taken ≡ s.taken
+  pub made : Grows s.made row.after.made
 
 -- it leaves them, and for x it does what an act of the machine does, or nothing but that letters may tell of
 -- it, or makes it
@@ -89,7 +95,7 @@ pub data Did (x me : ℕ) (s : NodeState) (row : Row) : Type 0 where
   Acts : (selves : ℕ) (a : Act) (h : Holding) (m : Move) → seen_known (s.known x) ≡ Some h → move_of me selves a h ≡ m →
       seen_known (row.after.known x) ≡ m.after → seen_sends x row.posts ≡ m.sends → Did x me s row
   Passes : seen_known (row.after.known x) ≡ seen_known (s.known x) → OnlyTell x s row.posts → Did x me s row
-  Makes : x ≡ next_name me s → seen_known (row.after.known x) ≡ Some made_holding → row.posts ≡ [] → Did x me s row
+  Makes : x ≡ next_name me s → row.after.made ≡ s.made + 1 → seen_known (row.after.known x) ≡ Some made_holding → row.posts ≡ [] → Did x me s row
 
 -- what is known of x is another
 pub seen_same : (x : ℕ) (s : NodeState) (k : Known) → seen_known ((with_known s x k).known x) ≡ Some (seen_holding k)

@@ -20,7 +20,7 @@ use Rattle.bmx_object.specs.Machine.{served as served_move}
 use Rattle.bmx_ownership.specs.Seen.{note_if, tells, seen_notes, seen_holding}
 use Rattle.bmx_ownership.proofs.Basics.{Two, Same, Apart, two, put_same, put_apart, note_same, note_apart}
 use Rattle.bmx_ownership.proofs.Sends.{seen_send, seen_sends}
-use Rattle.bmx_ownership.proofs.Rows.{seen_known, tells_times, none_told, MayTell, OnlyTell, says_nothing, Leaves, Did, Acts, Passes, seen_same, seen_apart, asks_same, asks_apart}
+use Rattle.bmx_ownership.proofs.Rows.{seen_known, tells_times, none_told, MayTell, OnlyTell, says_nothing, Grows, AsBefore, OneMore, Leaves, Did, Acts, Passes, seen_same, seen_apart, asks_same, asks_apart}
 
 -- how many of the fields that are told refer to x
 abbrev selves_of : ℕ → NodeState → (ℕ → Place) → Known → ℕ
@@ -113,14 +113,14 @@ pub serve_did : (x me : ℕ) (s : NodeState) (lies : ℕ → Place) (name : ℕ)
 serve_did x me s lies name = serve_known_did x me s lies name (s.known name) refl
 
 served_leaves : (s : NodeState) (lies : ℕ → Place) (name : ℕ) (k : Known) (p : Part) (r : Served) → Leaves s (served s lies name k p r)
-served_leaves s lies name k p served_is.Idle = record { entering = refl; issued = refl; taken = refl }
-served_leaves s lies name k p served_is.Ready = record { entering = refl; issued = refl; taken = refl }
-served_leaves s lies name k p (served_is.Read a) = record { entering = refl; issued = refl; taken = refl }
-served_leaves s lies name k p (served_is.Revokes nodes) = record { entering = refl; issued = refl; taken = refl }
-served_leaves s lies name k p (served_is.Moves to rest) = record { entering = refl; issued = refl; taken = refl }
+served_leaves s lies name k p served_is.Idle = record { entering = refl; issued = refl; taken = refl; made = AsBefore refl }
+served_leaves s lies name k p served_is.Ready = record { entering = refl; issued = refl; taken = refl; made = AsBefore refl }
+served_leaves s lies name k p (served_is.Read a) = record { entering = refl; issued = refl; taken = refl; made = AsBefore refl }
+served_leaves s lies name k p (served_is.Revokes nodes) = record { entering = refl; issued = refl; taken = refl; made = AsBefore refl }
+served_leaves s lies name k p (served_is.Moves to rest) = record { entering = refl; issued = refl; taken = refl; made = AsBefore refl }
 
 serve_known_leaves : (me : ℕ) (s : NodeState) (lies : ℕ → Place) (name : ℕ) (k : Option Known) → Leaves s (serve_known me s lies name k)
-serve_known_leaves me s lies name None = record { entering = refl; issued = refl; taken = refl }
+serve_known_leaves me s lies name None = record { entering = refl; issued = refl; taken = refl; made = AsBefore refl }
 serve_known_leaves me s lies name (Some k) = served_leaves s lies name k _ _
 
 pub serve_leaves : (me : ℕ) (s : NodeState) (lies : ℕ → Place) (name : ℕ) → Leaves s (serve_row me s lies name)

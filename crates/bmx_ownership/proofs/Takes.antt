@@ -49,6 +49,7 @@ pub record Took (x from seq : ℕ) (s : NodeState) (brought : Bool) (made : Opti
   pub entering : (n : ℕ) → records_of x row.after n ≡ got_records brought (records_of x s) from seq n
   pub issued : row.after.issued ≡ s.issued
   pub taken : row.after.taken ≡ put s.taken from (s.taken from + 1)
+  pub names : row.after.made ≡ s.made
 
 -- the letter is stray, or taken
 pub data Taken (x from seq : ℕ) (s : NodeState) (brought : Bool) (made : Option Move) (row : Row) : Type 0 where
@@ -90,23 +91,23 @@ by_name x me from seq s name k n rest row is same apart = by_two (two name x)
 requested_same : (x me from seq : ℕ) (s : NodeState) (k : Known) (m : Mode) (asker : ℕ) (p : Part) (a : Requested) → s.known x ≡ Some k →
     Taken x from seq s false (alone (requested_move me m asker (seen_holding k) p a)) (requested s from x k m asker p a)
 requested_same x me from seq s k m asker p requested_is.Queued is = Taking refl (record {
-  move = _; makes = refl; after = seen_same x s (with_part k p); sends = Own refl; entering = λ n. refl; issued = refl; taken = refl;
+  move = _; makes = refl; after = seen_same x s (with_part k p); sends = Own refl; entering = λ n. refl; issued = refl; taken = refl; names = refl;
 })
 requested_same x me from seq s k m asker p (requested_is.Forward parent) is = Taking refl (record {
   move = _; makes = refl; after = ap seen_known is; sends = Own (λ i. send parent (asks_same x m asker i) ∷ []);
-  entering = λ n. refl; issued = refl; taken = refl;
+  entering = λ n. refl; issued = refl; taken = refl; names = refl;
 })
 requested_same x me from seq s k m asker p requested_is.Stray is = Strayed refl
 
 requested_apart : (x name from seq : ℕ) (s : NodeState) (k : Known) (m : Mode) (asker : ℕ) (p : Part) (a : Requested) → (name == x) ≡ false →
     Taken x from seq s false (nothing x s) (requested s from name k m asker p a)
 requested_apart x name from seq s k m asker p requested_is.Queued h = Taking refl (record {
-  move = _; makes = refl; after = seen_apart x name s (with_part k p) h; sends = Own refl; entering = λ n. refl; issued = refl; taken = refl;
+  move = _; makes = refl; after = seen_apart x name s (with_part k p) h; sends = Own refl; entering = λ n. refl; issued = refl; taken = refl; names = refl;
 })
 requested_apart x name from seq s k m asker p (requested_is.Forward parent) h = Taking refl (record {
   move = _; makes = refl; after = refl;
   sends = Others refl (says_nothing x s (post parent (ask_for m name asker)) (asks_apart x name m asker h), tt);
-  entering = λ n. refl; issued = refl; taken = refl;
+  entering = λ n. refl; issued = refl; taken = refl; names = refl;
 })
 requested_apart x name from seq s k m asker p requested_is.Stray h = Strayed refl
 
@@ -127,10 +128,10 @@ invalidated_same : (x from seq : ℕ) (s : NodeState) (k : Known) (p : Part) (a 
 invalidated_same x from seq s k p None is = Strayed refl
 invalidated_same x from seq s k p (Some revoked_is.Now) is = Taking refl (record {
   move = _; makes = refl; after = seen_same x s (without_copy (with_part k p)); sends = Own (λ i. send from (note_same x Returns [] i) ∷ []);
-  entering = λ n. refl; issued = refl; taken = refl;
+  entering = λ n. refl; issued = refl; taken = refl; names = refl;
 })
 invalidated_same x from seq s k p (Some revoked_is.AtRelease) is = Taking refl (record {
-  move = _; makes = refl; after = seen_same x s (with_part k p); sends = Own refl; entering = λ n. refl; issued = refl; taken = refl;
+  move = _; makes = refl; after = seen_same x s (with_part k p); sends = Own refl; entering = λ n. refl; issued = refl; taken = refl; names = refl;
 })
 
 -- an acknowledgement of another
@@ -142,10 +143,10 @@ invalidated_apart : (x name from seq : ℕ) (s : NodeState) (k : Known) (p : Par
 invalidated_apart x name from seq s k p None h = Strayed refl
 invalidated_apart x name from seq s k p (Some revoked_is.Now) h = Taking refl (record {
   move = _; makes = refl; after = seen_apart x name s (without_copy (with_part k p)) h; sends = Others refl (returns_apart x name from s h);
-  entering = λ n. refl; issued = refl; taken = refl;
+  entering = λ n. refl; issued = refl; taken = refl; names = refl;
 })
 invalidated_apart x name from seq s k p (Some revoked_is.AtRelease) h = Taking refl (record {
-  move = _; makes = refl; after = seen_apart x name s (with_part k p) h; sends = Own refl; entering = λ n. refl; issued = refl; taken = refl;
+  move = _; makes = refl; after = seen_apart x name s (with_part k p) h; sends = Own refl; entering = λ n. refl; issued = refl; taken = refl; names = refl;
 })
 
 -- a recall of what the node doesn't know
@@ -158,7 +159,7 @@ unknown_recalled x me from seq s name is = by_two (two name x)
         let known : seen_known (s.known x) ≡ None = subst (λ (z : ℕ). seen_known (s.known z) ≡ None) e (ap seen_known is) in
         let same : Taken x from seq s false (take_notes me from (Recalls ∷ []) None) (take_inval s from x None) = Taking refl (record {
           move = _; makes = refl; after = known; sends = Own (λ i. send from (note_same x Returns [] i) ∷ []);
-          entering = λ n. refl; issued = refl; taken = refl;
+          entering = λ n. refl; issued = refl; taken = refl; names = refl;
         }) in
         let here : Noted x me from seq s (Recalls ∷ []) (take_inval s from x None)
             = subst (λ (h : Option Holding). Taken x from seq s false (take_notes me from (Recalls ∷ []) h) (take_inval s from x None)) (sym known) same in
@@ -168,7 +169,7 @@ unknown_recalled x me from seq s name is = by_two (two name x)
     by_two (Apart h d) = subst (λ (l : List Note). Noted x me from seq s l (take_inval s from name None)) (sym (note_apart x name Recalls [] h))
         (Taking refl (record {
           move = _; makes = refl; after = refl; sends = Others refl (returns_apart x name from s h);
-          entering = λ n. refl; issued = refl; taken = refl;
+          entering = λ n. refl; issued = refl; taken = refl; names = refl;
         }))
 
 inval_taken : (x me from seq : ℕ) (s : NodeState) (name : ℕ) (k : Option Known) → s.known name ≡ k →
@@ -184,14 +185,14 @@ inval_taken x me from seq s name (Some k) is =
 acknowledged_same : (x from seq : ℕ) (s : NodeState) (k : Known) (p : Part) (b : Bool) →
     Taken x from seq s false (alone (returned (seen_holding k) p b)) (acknowledged s from x k p b)
 acknowledged_same x from seq s k p true = Taking refl (record {
-  move = _; makes = refl; after = seen_same x s (with_part k p); sends = Own refl; entering = λ n. refl; issued = refl; taken = refl;
+  move = _; makes = refl; after = seen_same x s (with_part k p); sends = Own refl; entering = λ n. refl; issued = refl; taken = refl; names = refl;
 })
 acknowledged_same x from seq s k p false = Strayed refl
 
 acknowledged_apart : (x name from seq : ℕ) (s : NodeState) (k : Known) (p : Part) (b : Bool) → (name == x) ≡ false →
     Taken x from seq s false (nothing x s) (acknowledged s from name k p b)
 acknowledged_apart x name from seq s k p true h = Taking refl (record {
-  move = _; makes = refl; after = seen_apart x name s (with_part k p) h; sends = Own refl; entering = λ n. refl; issued = refl; taken = refl;
+  move = _; makes = refl; after = seen_apart x name s (with_part k p) h; sends = Own refl; entering = λ n. refl; issued = refl; taken = refl; names = refl;
 })
 acknowledged_apart x name from seq s k p false h = Strayed refl
 
@@ -300,7 +301,7 @@ read_same me from seq s info fields k p true = Taking refl (record {
   sends = Own refl;
   entering = λ n. ap (λ (b : Bool). got_records b (records_of info.name s) from seq n) (sym (tells_bring info.name (targets fields)));
   issued = refl;
-  taken = refl;
+  taken = refl; names = refl;
 })
 
 read_apart : (x me from seq : ℕ) (s : NodeState) (info : Info) (fields : List Field) (k : Known) (p : Part) (b : Bool) → (info.name == x) ≡ false →
@@ -313,7 +314,7 @@ read_apart x me from seq s info fields k p true h = Taking refl (record {
   sends = Own refl;
   entering = λ n. ap (λ (b : Bool). got_records b (records_of x s) from seq n) (sym (tells_bring x (targets fields)));
   issued = refl;
-  taken = refl;
+  taken = refl; names = refl;
 })
 
 read_grant_taken : (x me from seq : ℕ) (s : NodeState) (info : Info) (fields : List Field) (k : Option Known) → s.known info.name ≡ k →
@@ -359,7 +360,7 @@ write_same me from seq s info fields k p true = Taking refl (record {
   entering = λ n. taken_over info.name from seq s info.name k.bunch n
       ∙ ap (λ (b : Bool). got_records b (records_of info.name s) from seq n) (eqb_same info.name);
   issued = refl;
-  taken = refl;
+  taken = refl; names = refl;
 })
 
 write_apart : (x me from seq : ℕ) (s : NodeState) (info : Info) (fields : List Field) (k : Known) (p : Part) (b : Bool) → (info.name == x) ≡ false →
@@ -373,7 +374,7 @@ write_apart x me from seq s info fields k p true h = Taking refl (record {
   entering = λ n. taken_over x from seq s info.name k.bunch n
       ∙ ap (λ (b : Bool). got_records b (records_of x s) from seq n) (h ∙ sym (tells_bring x (targets fields)));
   issued = refl;
-  taken = refl;
+  taken = refl; names = refl;
 })
 
 write_grant_taken : (x me from seq : ℕ) (s : NodeState) (info : Info) (fields : List Field) (k : Option Known) → s.known info.name ≡ k →
