@@ -5,3 +5,4 @@ pub mod Serves
 pub mod Commands
 pub mod Takes
 pub mod Free
+pub mod Channels
