@@ -6,3 +6,4 @@ pub mod Commands
 pub mod Takes
 pub mod Free
 pub mod Channels
+pub mod Afters

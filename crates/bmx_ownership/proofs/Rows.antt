@@ -73,6 +73,11 @@ abbrev pub OnlyTell : ℕ → NodeState → List Post → Type 0
 OnlyTell x s [] = Unit {0}
 OnlyTell x s (p ∷ posts) = MayTell x s p × OnlyTell x s posts
 
+-- messages that say nothing of x
+abbrev pub Silent : ℕ → List Post → Type 0
+Silent x [] = Unit {0}
+Silent x (p ∷ posts) = (seen_notes x p.msg ≡ []) × Silent x posts
+
 -- a message that says nothing of x
 pub says_nothing : (x : ℕ) (s : NodeState) (p : Post) → seen_notes x p.msg ≡ [] → MayTell x s p
 says_nothing x s p e = record { times = 0; is = e; none = λ _. refl }

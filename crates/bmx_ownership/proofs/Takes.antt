@@ -27,7 +27,7 @@ use Rattle.bmx_object.specs.Machine.{requested as requested_move, grant_taken, r
 use Rattle.bmx_ownership.specs.Seen.{note_if, tells, seen_notes, seen_holding, seen_numbers}
 use Rattle.bmx_ownership.proofs.Basics.{eqb_is, eqb_same, Two, Same, Apart, two, put_same, put_apart, note_same, note_apart}
 use Rattle.bmx_ownership.proofs.Sends.{seen_send, seen_sends, seen_record, records_of, record_at}
-use Rattle.bmx_ownership.proofs.Rows.{seen_known, MayTell, OnlyTell, says_nothing, seen_same, seen_apart, asks_same, asks_apart}
+use Rattle.bmx_ownership.proofs.Rows.{seen_known, Silent, seen_same, seen_apart, asks_same, asks_apart}
 
 -- ## what a letter is for a name
 
@@ -38,7 +38,7 @@ got_records b f from seq n = cond b (cond (n == from) (Some (got_in seq (f from)
 -- the letters of a row are those of the machine's move, or they are about another
 pub data Issues (x : ℕ) (s : NodeState) (posts : List Post) (sends : List Send) : Type 0 where
   Own : seen_sends x posts ≡ sends → Issues x s posts sends
-  Others : sends ≡ [] → OnlyTell x s posts → Issues x s posts sends
+  Others : sends ≡ [] → Silent x posts → Issues x s posts sends
 
 -- a row takes letter number seq from a node, of which the machine makes a move
 pub record Took (x from seq : ℕ) (s : NodeState) (brought : Bool) (made : Option Move) (row : Row) : Type 0 where
@@ -106,7 +106,7 @@ requested_apart x name from seq s k m asker p requested_is.Queued h = Taking ref
 })
 requested_apart x name from seq s k m asker p (requested_is.Forward parent) h = Taking refl (record {
   move = _; makes = refl; after = refl;
-  sends = Others refl (says_nothing x s (post parent (ask_for m name asker)) (asks_apart x name m asker h), tt);
+  sends = Others refl (asks_apart x name m asker h, tt);
   entering = λ n. refl; issued = refl; taken = refl; names = refl;
 })
 requested_apart x name from seq s k m asker p requested_is.Stray h = Strayed refl
@@ -135,8 +135,8 @@ invalidated_same x from seq s k p (Some revoked_is.AtRelease) is = Taking refl (
 })
 
 -- an acknowledgement of another
-returns_apart : (x name from : ℕ) (s : NodeState) → (name == x) ≡ false → OnlyTell x s (post from (msg.InvAck name) ∷ [])
-returns_apart x name from s h = (says_nothing x s (post from (msg.InvAck name)) (note_apart x name Returns [] h), tt)
+returns_apart : (x name from : ℕ) (s : NodeState) → (name == x) ≡ false → Silent x (post from (msg.InvAck name) ∷ [])
+returns_apart x name from s h = (note_apart x name Returns [] h, tt)
 
 invalidated_apart : (x name from seq : ℕ) (s : NodeState) (k : Known) (p : Part) (a : Option Revoked) → (name == x) ≡ false →
     Taken x from seq s false (nothing x s) (invalidated s from name k p a)
