@@ -230,66 +230,74 @@ nulls_free x (suc n) = (null_is, nulls_free x n)
     null_is : field.Null ≢ field.Ref x
     null_is h = cc
 
-new_free : (x me : ℕ) (s : NodeState) (r b n : ℕ) → x ≢ next_name me s → IsFree x s → IsFree x (with_new me s r b n)
-new_free x me s r b n old free = record {
-  fields = put_free x (next_name me s) s.known (Some (new_object b n)) free.fields (λ j is. subst (NoRefs x) (some_is (new_object b n) j is) (nulls_free x n));
-  registers = (register_free x s r (val.Ref (next_name me s)) free (λ h. old (ref_is x (next_name me s) h))).registers;
-}
+-- after a command nothing refers to x still, or x was made
+pub data Freed (x : ℕ) (t : NodeState) : Type 0 where
+  Still : IsFree x t → Freed x t
+  Born : is_some (t.known x) ≡ true → Freed x t
+
+new_free : (x me : ℕ) (s : NodeState) (r b n : ℕ) → IsFree x s → Freed x (with_new me s r b n)
+new_free x me s r b n free = by_two (two (next_name me s) x)
+  where
+    made : Option Known
+    made = Some (new_object b n)
+    by_two : Two (next_name me s) x → Freed x (with_new me s r b n)
+    by_two (Same e) = Born (ap (λ (z : ℕ). is_some (put s.known (next_name me s) made z)) (sym e)
+        ∙ ap (λ (k : Option Known). is_some k) (put_same s.known (next_name me s) made))
+    by_two (Apart h d) = Still (record {
+      fields = put_free x (next_name me s) s.known made free.fields (λ j is. subst (NoRefs x) (some_is (new_object b n) j is) (nulls_free x n));
+      registers = (register_free x s r (val.Ref (next_name me s)) free (λ e. d (sym (ref_is x (next_name me s) e)))).registers;
+    })
 
 some_value : (a b : Val) → Some a ≡ Some b → a ≡ b
 some_value a b e = cc
 
--- x is not the name that the command makes
-abbrev pub IsOld : ℕ → ℕ → NodeState → Type 0
-IsOld x me s = x ≢ next_name me s
+effect_free : (st : Setting) (x me : ℕ) (s : NodeState) (c : Command) → IsUnborn st x → IsCommandOf st c → IsFree x s → Freed x (effect_of me s c)
+effect_free st x me s (command.New r b n) unborn of free = new_free x me s r b n free
+effect_free st x me s (command.Copy r v) unborn of free = Still (register_free x s r _ free (value_free st x me s v unborn of.1 free))
+effect_free st x me s (command.Drop r) unborn of free = Still (register_free x s r val.Null free (null_free x))
+effect_free st x me s (command.Read on) unborn of free = Still free
+effect_free st x me s (command.Write on) unborn of free = Still free
+effect_free st x me s (command.Done on) unborn of free = Still free
+effect_free st x me s (command.Set on i v) unborn of free =
+    Still (stored_free x s (target_of (seen_graph me s) me on) i (Some (value_of (seen_graph me s) me v))
+    (λ u is e. value_free st x me s v unborn of.1 free (some_value (value_of (seen_graph me s) me v) u is ∙ e)) free)
+effect_free st x me s (command.Add on i by) unborn of free =
+    Still (stored_free x s (target_of (seen_graph me s) me on) i _ (λ u is. raised_free x _ by u is) free)
+effect_free st x me s (command.Get r on i) unborn of free =
+    Still (got_register_free x s r _ (λ u is. field_at_free x me s (target_of (seen_graph me s) me on) i u free is) free)
+effect_free st x me s (command.Show on i) unborn of free = Still free
+effect_free st x me s (command.Same a b) unborn of free = Still free
 
-effect_free : (st : Setting) (x me : ℕ) (s : NodeState) (c : Command) → IsUnborn st x → IsCommandOf st c → IsOld x me s → IsFree x s → IsFree x (effect_of me s c)
-effect_free st x me s (command.New r b n) unborn of old free = new_free x me s r b n old free
-effect_free st x me s (command.Copy r v) unborn of old free = register_free x s r _ free (value_free st x me s v unborn of.1 free)
-effect_free st x me s (command.Drop r) unborn of old free = register_free x s r val.Null free (null_free x)
-effect_free st x me s (command.Read on) unborn of old free = free
-effect_free st x me s (command.Write on) unborn of old free = free
-effect_free st x me s (command.Done on) unborn of old free = free
-effect_free st x me s (command.Set on i v) unborn of old free =
-    stored_free x s (target_of (seen_graph me s) me on) i (Some (value_of (seen_graph me s) me v))
-    (λ u is e. value_free st x me s v unborn of.1 free (some_value (value_of (seen_graph me s) me v) u is ∙ e)) free
-effect_free st x me s (command.Add on i by) unborn of old free =
-    stored_free x s (target_of (seen_graph me s) me on) i _ (λ u is. raised_free x _ by u is) free
-effect_free st x me s (command.Get r on i) unborn of old free =
-    got_register_free x s r _ (λ u is. field_at_free x me s (target_of (seen_graph me s) me on) i u free is) free
-effect_free st x me s (command.Show on i) unborn of old free = free
-effect_free st x me s (command.Same a b) unborn of old free = free
-
-answered_free : (x : ℕ) (s t : NodeState) (a : Answer) → IsFree x s → IsFree x t → IsFree x (answered s t a).after
+answered_free : (x : ℕ) (s t : NodeState) (a : Answer) → IsFree x s → Freed x t → Freed x (answered s t a).after
 answered_free x s t graph.Nil free after = after
 answered_free x s t (graph.Value v) free after = after
 answered_free x s t graph.Yes free after = after
 answered_free x s t graph.No free after = after
-answered_free x s t graph.Wait free after = free
-answered_free x s t (graph.Refused why) free after = free
+answered_free x s t graph.Wait free after = Still free
+answered_free x s t (graph.Refused why) free after = Still free
 
-graph_free : (st : Setting) (x me : ℕ) (s : NodeState) (c : Command) → IsUnborn st x → IsCommandOf st c → IsOld x me s → IsFree x s → IsFree x (graph_row me s c).after
-graph_free st x me s c unborn of old free =
-    answered_free x s (effect_of me s c) (answer_of (seen_graph me s) me c) free (effect_free st x me s c unborn of old free)
+graph_free : (st : Setting) (x me : ℕ) (s : NodeState) (c : Command) → IsUnborn st x → IsCommandOf st c → IsFree x s → Freed x (graph_row me s c).after
+graph_free st x me s c unborn of free =
+    answered_free x s (effect_of me s c) (answer_of (seen_graph me s) me c) free (effect_free st x me s c unborn of free)
 
-new_row_free : (st : Setting) (x me : ℕ) (s : NodeState) (full : Bool) (r b n : ℕ) → IsUnborn st x → IsCommandOf st (command.New r b n) → IsOld x me s → IsFree x s →
-    IsFree x (do_row me s full (command.New r b n)).after
-new_row_free st x me s true r b n unborn of old free = free
-new_row_free st x me s false r b n unborn of old free = graph_free st x me s (command.New r b n) unborn of old free
+new_row_free : (st : Setting) (x me : ℕ) (s : NodeState) (full : Bool) (r b n : ℕ) → IsUnborn st x → IsCommandOf st (command.New r b n) → IsFree x s →
+    Freed x (do_row me s full (command.New r b n)).after
+new_row_free st x me s true r b n unborn of free = Still free
+new_row_free st x me s false r b n unborn of free = graph_free st x me s (command.New r b n) unborn of free
 
-pub do_free : (st : Setting) (x me : ℕ) (s : NodeState) (full : Bool) (c : Command) → IsUnborn st x → IsCommandOf st c → IsOld x me s → IsFree x s →
-    IsFree x (do_row me s full c).after
-do_free st x me s full (command.New r b n) unborn of old free = new_row_free st x me s full r b n unborn of old free
-do_free st x me s full (command.Copy r v) unborn of old free = graph_free st x me s (command.Copy r v) unborn of old free
-do_free st x me s full (command.Drop r) unborn of old free = graph_free st x me s (command.Drop r) unborn of old free
-do_free st x me s full (command.Read on) unborn of old free = acquire_free x me s mode.Read (target_of (seen_graph me s) me on) free
-do_free st x me s full (command.Write on) unborn of old free = acquire_free x me s mode.Write (target_of (seen_graph me s) me on) free
-do_free st x me s full (command.Done on) unborn of old free = release_free x s (target_of (seen_graph me s) me on) free
-do_free st x me s full (command.Set on i v) unborn of old free = graph_free st x me s (command.Set on i v) unborn of old free
-do_free st x me s full (command.Add on i by) unborn of old free = graph_free st x me s (command.Add on i by) unborn of old free
-do_free st x me s full (command.Get r on i) unborn of old free = graph_free st x me s (command.Get r on i) unborn of old free
-do_free st x me s full (command.Show on i) unborn of old free = graph_free st x me s (command.Show on i) unborn of old free
-do_free st x me s full (command.Same a b) unborn of old free = graph_free st x me s (command.Same a b) unborn of old free
+pub do_free : (st : Setting) (x me : ℕ) (s : NodeState) (full : Bool) (c : Command) → IsUnborn st x → IsCommandOf st c → IsFree x s →
+    Freed x (do_row me s full c).after
+do_free st x me s full (command.New r b n) unborn of free = new_row_free st x me s full r b n unborn of free
+do_free st x me s full (command.Copy r v) unborn of free = graph_free st x me s (command.Copy r v) unborn of free
+do_free st x me s full (command.Drop r) unborn of free = graph_free st x me s (command.Drop r) unborn of free
+do_free st x me s full (command.Read on) unborn of free = Still (acquire_free x me s mode.Read (target_of (seen_graph me s) me on) free)
+do_free st x me s full (command.Write on) unborn of free = Still (acquire_free x me s mode.Write (target_of (seen_graph me s) me on) free)
+do_free st x me s full (command.Done on) unborn of free = Still (release_free x s (target_of (seen_graph me s) me on) free)
+do_free st x me s full (command.Set on i v) unborn of free = graph_free st x me s (command.Set on i v) unborn of free
+do_free st x me s full (command.Add on i by) unborn of free = graph_free st x me s (command.Add on i by) unborn of free
+do_free st x me s full (command.Get r on i) unborn of free = graph_free st x me s (command.Get r on i) unborn of free
+do_free st x me s full (command.Show on i) unborn of free = graph_free st x me s (command.Show on i) unborn of free
+do_free st x me s full (command.Same a b) unborn of free = graph_free st x me s (command.Same a b) unborn of free
 
 -- ## letters
 

@@ -7,3 +7,6 @@ pub mod Takes
 pub mod Free
 pub mod Channels
 pub mod Afters
+pub mod Runs
+pub mod Stays
+pub mod Names
