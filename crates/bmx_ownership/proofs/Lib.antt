@@ -10,3 +10,7 @@ pub mod Afters
 pub mod Runs
 pub mod Stays
 pub mod Names
+pub mod Openings
+pub mod Histories
+pub mod Owners
+pub mod Shared

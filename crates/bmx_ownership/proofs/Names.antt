@@ -3,7 +3,7 @@ use Rattle.std.proofs.Common.{◌≡◌, ℕ, ◌+◌, ◌*◌, ◌^◌, ◌/◌
 use Rattle.std.specs.Prelude.{◌==◌, ◌≢◌, ◌⊎◌, Option, Some, None, is_some, replicate}
 use Rattle.std.proofs.Common.{inl, inr}
 use Rattle.std.proofs.lemmas.List.{append-nil}
-use Rattle.std.proofs.lemmas.Nat.{div-mul-add}
+use Rattle.std.proofs.lemmas.Nat.{div-mul-add, mod-mul-add}
 use Rattle.bmx_types.specs.Words.{name_word, maker, count_of}
 use Rattle.bmx_types.specs.declared.values.Val.{Val}
 use Rattle.bmx_types.specs.declared.values.Val.TheVariants as val
@@ -89,7 +89,7 @@ pub maker_is : (n c : ℕ) → c < 2 ^ 56 → maker (name_word n c) ≡ n
 maker_is n c h = div-mul-add n (2 ^ 56) c h
 
 pub count_is : (n c : ℕ) → c < 2 ^ 56 → count_of (name_word n c) ≡ c
-count_is n c h = ?
+count_is n c h = mod-mul-add n (2 ^ 56) c h
 
 -- the next name of a node stands nowhere
 pub new_clean : (st : Setting) (x : ℕ) (nodes : ℕ → Node) (past : List Event) (me : ℕ) → IsNamed st x nodes past →

@@ -3,3 +3,5 @@
 #![tactic(auto)]
 
 mod laws;
+
+pub use laws::{one_owner, seen_is_run, write_excludes};

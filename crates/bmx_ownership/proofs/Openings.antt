@@ -1,0 +1,194 @@
+-- The opening of a store, seen for one name: nowhere, or one that the store opens with.
+use Rattle.std.proofs.Common.{◌≡◌, ℕ, ◌+◌, ◌-◌, ◌^◌, ◌<◌, ◌≤◌, arith, refl, ap, sym, subst, ◌∙◌, Bool, true, false, cond, List, [], ◌∷◌, ◌++◌, map, length, zero, suc, get_or}
+use Rattle.std.specs.Prelude.{◌==◌, ◌≢◌, ◌⊎◌, Option, Some, None, is_some, find, slice_get, Contains}
+use Rattle.std.specs.Option.{option_map}
+use Rattle.std.proofs.Common.{inl, inr}
+use Rattle.std.proofs.lemmas.Option.{slice_get_within, get_or_from_slice_get, slice_get_cases}
+use Rattle.std.proofs.lemmas.List.Elements.{Contains-get_or, Contains-append_left, Contains-append_right, Contains-push}
+use Rattle.bmx_types.specs.Words.{maker, count_of, anchor_of}
+use Rattle.bmx_types.specs.Openings.{bunches_of, IsBorn, AreBirths, IsOpening}
+use Rattle.bmx_types.specs.declared.openings.Birth.{Birth}
+use Rattle.bmx_types.specs.declared.values.Val.{Val}
+use Rattle.bmx_types.specs.declared.values.Val.TheVariants as val
+use Rattle.bmx_protocol.specs.declared.views.ViewField.{ViewField}
+use Rattle.bmx_protocol.specs.declared.views.ViewField.TheVariants as field
+use Rattle.bmx_protocol.specs.Nodes.{Setting, Known, field_of, birth_of, is_anchor, owned_birth, heard_birth, first_known, first_state}
+use Rattle.bmx_protocol.specs.Steps.{Node, first_node}
+use Rattle.bmx_object.specs.Machine.{Holding, IsFirst, Absent, Born, IsFirstElsewhere, Unknown, Heard, made_holding, heard_from}
+use Rattle.bmx_ownership.specs.Seen.{seen, first_world}
+use Rattle.bmx_ownership.proofs.Basics.{eqb_is, eqb_same, eqb_apart}
+use Rattle.bmx_ownership.proofs.Rows.{seen_known, HasNo, NoRefs}
+use Rattle.bmx_ownership.proofs.Free.{FreeOf, IsFree}
+use Rattle.bmx_ownership.proofs.Channels.{Channels}
+use Rattle.bmx_ownership.proofs.Names.{Knows, IsClean, IsNamed}
+
+-- ## births
+
+found_birth : (births : List Birth) (x : ℕ) (b : Birth) → find (λ b. b.name == x) births ≡ Some b →
+    (i : ℕ) × (slice_get births i ≡ Some b) × (b.name ≡ x)
+found_birth [] x b h = absurd (cc)
+found_birth (c ∷ births) x b h = by_test (c.name == x) (eqb_is c.name x) h (found_birth births x b)
+  where
+    by_test : (t : Bool) → (t ≡ true → c.name ≡ x) → cond t (Some c) (find (λ b. b.name == x) births) ≡ Some b →
+        (find (λ b. b.name == x) births ≡ Some b → (i : ℕ) × (slice_get births i ≡ Some b) × (b.name ≡ x)) →
+        (i : ℕ) × (slice_get (c ∷ births) i ≡ Some b) × (b.name ≡ x)
+    by_test true q e rest =
+        let same : c ≡ b = cc in
+        (0, e, ap (λ (z : Birth). z.name) (sym same) ∙ q refl)
+    by_test false q e rest =
+        let r : (i : ℕ) × (slice_get births i ≡ Some b) × (b.name ≡ x) = rest e in
+        (suc r.0, r.1, r.2)
+
+finds_birth : (births : List Birth) (x i : ℕ) (b : Birth) → slice_get births i ≡ Some b → b.name ≡ x → is_some (find (λ b. b.name == x) births) ≡ true
+finds_birth [] x i b h n = absurd (cc)
+finds_birth (c ∷ births) x zero b h n =
+    let same : c ≡ b = cc in
+    let is : (c.name == x) ≡ true = ap (λ (z : ℕ). c.name == z) (sym n ∙ ap (λ (z : Birth). z.name) (sym same)) ∙ eqb_same c.name in
+    ap (λ (t : Bool). is_some (cond t (Some c) (find (λ b. b.name == x) births))) is
+finds_birth (c ∷ births) x (suc i) b h n = by_test (c.name == x) (finds_birth births x i b h n)
+  where
+    by_test : (t : Bool) → is_some (find (λ b. b.name == x) births) ≡ true → is_some (cond t (Some c) (find (λ b. b.name == x) births)) ≡ true
+    by_test true e = refl
+    by_test false e = e
+
+-- a name from 1 to the number of births is a birth's
+numbered_birth : (st : Setting) → IsOpening st.nodes st.limit st.births → (x i : ℕ) → i < length st.births → x ≡ i + 1 → birth_of st x ≡ None → ⊥
+numbered_birth st opening x i below is none = by_cases (slice_get_cases st.births i).1
+  where
+    by_cases : ((b : Birth) × (i < length st.births) × (slice_get st.births i ≡ Some b) × (get_or st.births i b ≡ b)) ⊎ ((length st.births ≤ i) × (slice_get st.births i ≡ None)) → ⊥
+    by_cases (inl at) =
+        let some : is_some (birth_of st x) ≡ true = finds_birth st.births x i at.0 at.2 (opening.born.named i at.0 at.2 ∙ sym is) in
+        let both : false ≡ true = ap (λ (k : Option Birth). is_some k) (sym none) ∙ some in
+        cc
+    by_cases (inr past) = absurd (omega arith)
+
+-- ## where a name is
+
+known_at : (st : Setting) (x n : ℕ) (b : Option Birth) → birth_of st x ≡ b →
+    first_known st n x ≡ cond (n == 0) (option_map owned_birth b) (cond (is_anchor st x) (option_map heard_birth b) None)
+known_at st x n b is = ap (λ (k : Option Birth). cond (n == 0) (option_map owned_birth k) (cond (is_anchor st x) (option_map heard_birth k) None)) is
+
+none_at : (a b : Bool) → cond a (option_map owned_birth None) (cond b (option_map heard_birth None) None) ≡ None
+none_at true b = refl
+none_at false true = refl
+none_at false false = refl
+
+unknown_at : (st : Setting) (x n : ℕ) → birth_of st x ≡ None → seen_known (first_known st n x) ≡ None
+unknown_at st x n none = ap seen_known (known_at st x n None none ∙ none_at (n == 0) (is_anchor st x))
+
+elsewhere : (b : Birth) (n : ℕ) (a t : Bool) → t ≡ false →
+    IsFirstElsewhere (seen_known (cond t (Some (owned_birth b)) (cond a (Some (heard_birth b)) None)))
+elsewhere b n a true h = absurd (cc)
+elsewhere b n true false h = Heard refl
+elsewhere b n false false h = Unknown refl
+
+pub is_first : (st : Setting) (x : ℕ) → IsFirst (seen x (first_world st))
+is_first st x = by_birth (birth_of st x) refl
+  where
+    by_birth : (b : Option Birth) → birth_of st x ≡ b → IsFirst (seen x (first_world st))
+    by_birth None is = Absent (λ n m. refl) (λ n. unknown_at st x n is)
+    by_birth (Some b) is = Born (λ n m. refl) (record {
+      owner = ap seen_known (known_at st x 0 (Some b) is);
+      others = λ n d. subst (λ (k : Option Known). IsFirstElsewhere (seen_known k)) (sym (known_at st x n (Some b) is))
+          (elsewhere b n (is_anchor st x) (n == 0) (eqb_apart n 0 d));
+    })
+
+-- ## fields
+
+fields_free : (x : ℕ) (fields : List Val) → (Contains fields (val.Ref x) → ⊥) → HasNo x (map field_of fields)
+fields_free x [] none = tt
+fields_free x (v ∷ fields) none = (here v (λ e. none (subst (Contains (v ∷ fields)) e (Contains-append_left (v ∷ []) fields v (Contains-push [] v)))),
+    fields_free x fields (λ c. none (Contains-append_right (v ∷ []) fields (val.Ref x) c)))
+  where
+    here : (v : Val) → (v ≡ val.Ref x → ⊥) → field_of v ≢ field.Ref x
+    here val.Null h = λ e. cc
+    here (val.Int k) h = λ e. cc
+    here (val.Ref y) h = λ e. h (ref e)
+      where
+        ref : field.Ref y ≡ field.Ref x → val.Ref y ≡ val.Ref x
+        ref e =
+            let same : y ≡ x = cc in
+            ap (λ (z : ℕ). val.Ref z) same
+
+birth_free : (st : Setting) → IsOpening st.nodes st.limit st.births → (x : ℕ) → birth_of st x ≡ None → (b : Birth) → Contains st.births b → HasNo x (map field_of b.fields)
+birth_free st opening x none b in_births = fields_free x b.fields (λ c.
+    let born : IsBorn st.births b.bunch x = opening.born.closed b x in_births c in
+    numbered_birth st opening x (x - 1) (omega (arith, born.named, born.there)) (omega (arith, born.named)) none)
+
+first_free : (st : Setting) → IsOpening st.nodes st.limit st.births → (x n : ℕ) → birth_of st x ≡ None → FreeOf x (first_known st n)
+first_free st opening x n none y k is = by_birth (birth_of st y) refl
+  where
+    by_birth : (b : Option Birth) → birth_of st y ≡ b → NoRefs x k
+    by_birth None at =
+        let both : None ≡ Some k = sym (known_at st y n None at ∙ none_at (n == 0) (is_anchor st y)) ∙ is in
+        absurd (cc)
+    by_birth (Some b) at = by_tests (n == 0) (is_anchor st y) (sym (known_at st y n (Some b) at) ∙ is)
+      where
+        some_is : (j : Known) → Some j ≡ Some k → j ≡ k
+        some_is j h = cc
+        inside : Contains st.births b
+        inside =
+            let f : (i : ℕ) × (slice_get st.births i ≡ Some b) × (b.name ≡ y) = found_birth st.births y b at in
+            subst (Contains st.births) (get_or_from_slice_get st.births f.0 b b f.1)
+            (Contains-get_or st.births f.0 b (slice_get_within st.births f.0 b f.1))
+        by_tests : (t a : Bool) → cond t (Some (owned_birth b)) (cond a (Some (heard_birth b)) None) ≡ Some k → NoRefs x k
+        by_tests true a h = subst (NoRefs x) (some_is (owned_birth b) h) (birth_free st opening x none b inside)
+        by_tests false true h = subst (NoRefs x) (some_is (heard_birth b) h) tt
+        by_tests false false h = absurd (cc)
+
+null_is : (x : ℕ) → val.Null ≢ val.Ref x
+null_is x h = cc
+
+-- ## the invariants
+
+clean_first : (st : Setting) → IsOpening st.nodes st.limit st.births → (x : ℕ) → birth_of st x ≡ None → IsClean st x (first_node st) []
+clean_first st opening x none = record {
+  unknown = λ n. unknown_at st x n none;
+  free = λ n. record { fields = first_free st opening x n none; registers = λ r. null_is x };
+  silent = λ n m. tt;
+  unborn = λ b below is. numbered_birth st opening x b (omega (arith, opening.born.anchors)) is none;
+}
+
+pub named_first : (st : Setting) → IsOpening st.nodes st.limit st.births → (x : ℕ) → IsNamed st x (first_node st) []
+named_first st opening x = by_birth (birth_of st x) refl
+  where
+    by_birth : (b : Option Birth) → birth_of st x ≡ b → IsNamed st x (first_node st) []
+    by_birth None is = record {
+      counted = λ knows. absurd (none_is (knows_none knows));
+      stands = inr (clean_first st opening x is);
+    }
+      where
+        knows_none : Knows (first_node st) (maker x) x → false ≡ true
+        knows_none knows = ap (λ (k : Option Holding). is_some k) (sym (unknown_at st x (maker x) is)) ∙ knows
+        none_is : false ≡ true → ⊥
+        none_is h = cc
+    by_birth (Some b) is = record {
+      counted = λ knows. subst (λ (z : ℕ). count_of x ≤ cond (z == 0) (length st.births) 0) (sym by_first) at_most;
+      stands = inl (subst (λ (z : ℕ). is_some (seen_known (first_known st z x)) ≡ true) (sym by_first)
+          (ap (λ (k : Option Known). is_some (seen_known k)) (known_at st x 0 (Some b) is)));
+    }
+      where
+        at : (i : ℕ) × (slice_get st.births i ≡ Some b) × (b.name ≡ x)
+        at = found_birth st.births x b is
+        small : x ≤ length st.births
+        small =
+            let number : b.name ≡ at.0 + 1 = opening.born.named at.0 b at.1 in
+            let below : at.0 < length st.births = slice_get_within st.births at.0 b at.1 in
+            let same : b.name ≡ x = at.2 in
+            omega arith
+        tiny : x < 2 ^ 56
+        tiny = omega (arith, small, opening.born.few)
+        by_first : maker x ≡ 0
+        by_first = omega (arith, tiny)
+        at_most : count_of x ≤ length st.births
+        at_most = omega (arith, small, tiny)
+
+pub channels_first : (st : Setting) → Channels [] (first_node st)
+channels_first st = record { counts = λ n m. refl; within = λ n m. omega arith; numbers = λ n m. tt }
+
+pub few_first : (st : Setting) → IsOpening st.nodes st.limit st.births → (n : ℕ) → (first_node st n).state.made ≤ 320000
+few_first st opening n = by_test (n == 0)
+  where
+    by_test : (b : Bool) → cond b (length st.births) 0 ≤ 320000
+    by_test true = opening.born.few
+    by_test false = omega arith

@@ -1,0 +1,5 @@
+use Rattle.bmx_ownership.proofs.Shared.{one_owner_always}
+use Rattle.bmx_ownership.proofs.laws.one_owner.Goals as goal
+
+pub returns : goal.returns
+returns c = one_owner_always

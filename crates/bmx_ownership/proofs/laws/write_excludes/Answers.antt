@@ -1,0 +1,5 @@
+use Rattle.bmx_ownership.proofs.Shared.{write_excludes_always}
+use Rattle.bmx_ownership.proofs.laws.write_excludes.Goals as goal
+
+pub returns : goal.returns
+returns c = write_excludes_always
