@@ -1,23 +1,21 @@
 -- What is seen of a store after one more event, in the machine's terms: what the node then has, and its letters
 -- issued one after another.
-use Rattle.std.proofs.Common.{◌≡◌, ℕ, ◌+◌, arith, refl, ap, sym, subst, ◌∙◌, Bool, true, false, cond, List, [], ◌∷◌, ◌++◌, map}
-use Rattle.std.specs.Prelude.{◌==◌, ◌≢◌, Option, Some, None}
-use Rattle.std.proofs.lemmas.List.{append-nil, map-append}
-use Rattle.bmx_types.specs.declared.values.Val.{Val}
+use Rattle.std.proofs.Common.{◌≡◌, ℕ, refl, ap, sym, subst, ◌∙◌, Bool, cond, List, [], ◌∷◌, ◌++◌, map}
+use Rattle.std.specs.Prelude.{◌==◌, ◌≢◌, Option}
+use Rattle.std.proofs.lemmas.List.{append-nil}
 use Rattle.bmx_graph.specs.State.{put}
 use Rattle.bmx_msg.specs.Letters.{given}
-use Rattle.bmx_msg.specs.declared.letters.Letter.{Letter}
 use Rattle.bmx_protocol.specs.declared.inputs.Sending.{Sending}
 use Rattle.bmx_protocol.specs.declared.events.Event.{Event}
 use Rattle.bmx_protocol.specs.Nodes.{NodeState, Known}
 use Rattle.bmx_protocol.specs.Rows.{Row}
-use Rattle.bmx_protocol.specs.Steps.{Node, closed, letters_of, with_given, with_names, with_records, issued_after, numbered}
+use Rattle.bmx_protocol.specs.Steps.{Node, closed, letters_of, with_given, with_names, with_records, issued_after}
 use Rattle.bmx_protocol.specs.Histories.{letters_to, on_way}
-use Rattle.bmx_protocol.specs.Worlds.{World, world_of}
-use Rattle.bmx_object.specs.Machine.{Holding, Slip, Object, at_one, with_holding, issue_all}
+use Rattle.bmx_protocol.specs.Worlds.{world_of}
+use Rattle.bmx_object.specs.Machine.{Holding, Object, with_holding, issue_all}
 use Rattle.bmx_ownership.specs.Seen.{seen, seen_slip}
-use Rattle.bmx_ownership.proofs.Basics.{eqb_is, eqb_same, eqb_sym, Two, Same, Apart, two}
-use Rattle.bmx_ownership.proofs.Sends.{seen_sends, records_of, sent, IsAt, issue_all_is}
+use Rattle.bmx_ownership.proofs.Basics.{eqb_same, eqb_sym, Two, Same, Apart, two}
+use Rattle.bmx_ownership.proofs.Sends.{seen_sends, records_of, sent, issue_all_is}
 use Rattle.bmx_ownership.proofs.Rows.{seen_known}
 use Rattle.bmx_ownership.proofs.Channels.{letters_by}
 
@@ -84,10 +82,13 @@ seen_sent x nodes e after row past q h r ready known i = record {
   where
     me : ℕ
     me = e.node
+
     letters : List Sending
     letters = letters_of e.stamp row
+
     here : Recorded row.after (with_records row.after letters)
     here = recorded letters row.after
+
     holds : (n : ℕ) → Two me n → seen_known ((cond (me == n) after (nodes n)).state.known x) ≡ cond (n == me) h (q.holds n)
     holds n (Same a) = subst (λ (z : ℕ). seen_known ((cond (me == z) after (nodes z)).state.known x) ≡ cond (z == me) h (q.holds z)) a
         (ap (λ (b : Bool). seen_known ((cond b after (nodes me)).state.known x)) (eqb_same me)
@@ -97,6 +98,7 @@ seen_sent x nodes e after row past q h r ready known i = record {
     holds n (Apart no_it d) =
         ap (λ (b : Bool). seen_known ((cond b after (nodes n)).state.known x)) no_it
         ∙ sym (ready.holds n) ∙ ap (λ (b : Bool). cond b h (q.holds n)) (sym (eqb_sym n me ∙ no_it))
+
     way : (n m : ℕ) → Two me n →
         map (seen_slip x) (on_way n m (past ++ e ∷ []))
         ≡ cond (n == me) (q.way n m ++ map (seen_slip x) (letters_to m letters)) (q.way n m)
@@ -111,6 +113,7 @@ seen_sent x nodes e after row past q h r ready known i = record {
         ∙ ap (λ (b : Bool). q.way n m ++ map (seen_slip x) (cond b (letters_to m e.done.letters) [])) no_it
         ∙ append-nil (q.way n m)
         ∙ ap (λ (b : Bool). cond b (q.way n m ++ map (seen_slip x) (letters_to m letters)) (q.way n m)) (sym (eqb_sym n me ∙ no_it))
+
     entering : (n m : ℕ) → Two me n →
         records_of x (cond (me == n) after (nodes n)).state m ≡ cond (n == me) (records_of x (with_records row.after letters) m) (q.entering n m)
     entering n m (Same a) = subst (λ (z : ℕ). records_of x (cond (me == z) after (nodes z)).state m
@@ -122,6 +125,7 @@ seen_sent x nodes e after row past q h r ready known i = record {
         ap (λ (b : Bool). records_of x (cond b after (nodes n)).state m) no_it
         ∙ sym (ready.other_records n m d)
         ∙ ap (λ (b : Bool). cond b (records_of x (with_records row.after letters) m) (q.entering n m)) (sym (eqb_sym n me ∙ no_it))
+
     issued : (n m : ℕ) → Two me n →
         (cond (me == n) after (nodes n)).state.issued m ≡ cond (n == me) (issued_after row.after.issued row.posts m) (q.issued n m)
     issued n m (Same a) = subst (λ (z : ℕ). (cond (me == z) after (nodes z)).state.issued m
@@ -134,6 +138,7 @@ seen_sent x nodes e after row past q h r ready known i = record {
         ap (λ (b : Bool). (cond b after (nodes n)).state.issued m) no_it
         ∙ sym (ready.issued n m)
         ∙ ap (λ (b : Bool). cond b (issued_after row.after.issued row.posts m) (q.issued n m)) (sym (eqb_sym n me ∙ no_it))
+
     taken : (n m : ℕ) → Two me n → (cond (me == n) after (nodes n)).state.taken m ≡ q.taken n m
     taken n m (Same a) = subst (λ (z : ℕ). (cond (me == z) after (nodes z)).state.taken m ≡ q.taken z m) a
         (ap (λ (b : Bool). (cond b after (nodes me)).state.taken m) (eqb_same me)

@@ -1,5 +1,5 @@
 -- Tests of two numbers, functions changed at one, and notes of one name.
-use Rattle.std.proofs.Common.{◌≡◌, ℕ, arith, refl, ap, sym, ◌∙◌, Bool, true, false, cond, List, [], ◌∷◌}
+use Rattle.std.proofs.Common.{◌≡◌, ℕ, arith, refl, ap, Bool, true, false, cond, List, ◌∷◌}
 use Rattle.std.specs.Prelude.{◌==◌, ◌≢◌}
 use Rattle.bmx_graph.specs.State.{put}
 use Rattle.bmx_object.specs.Machine.{Note}

@@ -1,12 +1,10 @@
 -- Letters between two nodes: their numbers, how many were taken, and those on their way after one more event.
 use Rattle.std.proofs.Common.{◌≡◌, ℕ, ◌+◌, ◌≤◌, arith, refl, ap, sym, subst, ◌∙◌, Bool, true, false, cond, List, [], ◌∷◌, ◌++◌, length, drop, zero, suc, append_assoc, length-append}
-use Rattle.std.specs.Prelude.{◌==◌, ◌≢◌, Option, Some, None, slice_get, filter, filter_map}
+use Rattle.std.specs.Prelude.{◌==◌, ◌≢◌, Some, None, slice_get, filter}
 use Rattle.std.proofs.lemmas.List.{append-nil, drop-append-le}
 use Rattle.std.proofs.lemmas.List.Elements.{filter_map-append, filter-append}
 use Rattle.bmx_graph.specs.State.{put}
 use Rattle.bmx_msg.specs.declared.letters.Letter.{Letter}
-use Rattle.bmx_protocol.specs.declared.inputs.Input.{Input}
-use Rattle.bmx_protocol.specs.declared.inputs.Input.TheVariants as input
 use Rattle.bmx_protocol.specs.declared.inputs.Sending.{Sending}
 use Rattle.bmx_protocol.specs.declared.events.Event.{Event}
 use Rattle.bmx_protocol.specs.Rows.{Post}
@@ -246,8 +244,10 @@ channels_more past nodes e after p now c = record {
   where
     old : ℕ → ℕ
     old = (nodes e.node).state.taken
+
     new : ℕ → ℕ
     new = after.state.taken
+
     counts : (n m : ℕ) → Two e.node m → (put nodes e.node after m).state.taken n ≡ length (taken n m (past ++ e ∷ []))
     counts n m (Same a) =
         let at : (e.node == m) ≡ true = ap (λ (z : ℕ). e.node == z) (sym a) ∙ eqb_same e.node in

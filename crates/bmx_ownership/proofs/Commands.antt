@@ -1,18 +1,17 @@
 -- A command, seen for one name.
-use Rattle.std.proofs.Common.{◌≡◌, ℕ, ◌+◌, arith, refl, ap, sym, subst, ◌∙◌, Bool, true, false, cond, List, [], ◌∷◌}
-use Rattle.std.specs.Prelude.{◌==◌, ◌≢◌, Option, Some, None, is_some, slice_set}
+use Rattle.std.proofs.Common.{◌≡◌, ℕ, ◌+◌, refl, ap, sym, subst, ◌∙◌, Bool, true, false, List, [], ◌∷◌}
+use Rattle.std.specs.Prelude.{◌==◌, Option, Some, None, is_some, slice_set}
 use Rattle.std.specs.Option.{option_map}
 use Rattle.bmx_types.specs.declared.values.Val.{Val}
 use Rattle.bmx_types.specs.declared.commands.Command.{Command}
 use Rattle.bmx_types.specs.declared.commands.Command.TheVariants as command
 use Rattle.bmx_types.specs.declared.numbers.Mode.{Mode}
 use Rattle.bmx_types.specs.declared.numbers.Mode.TheVariants as mode
-use Rattle.bmx_msg.specs.declared.letters.Msg.{Msg}
 use Rattle.bmx_msg.specs.declared.letters.Msg.TheVariants as msg
 use Rattle.bmx_graph.specs.State.{put}
 use Rattle.bmx_graph.specs.declared.answers.Answer.{Answer}
 use Rattle.bmx_graph.specs.declared.answers.Answer.TheVariants as graph
-use Rattle.bmx_graph.specs.Step.{answer_of, target_of, value_of, field_at}
+use Rattle.bmx_graph.specs.Step.{answer_of, target_of}
 use Rattle.bmx_token.specs.declared.parts.Part.{Part}
 use Rattle.bmx_token.specs.declared.answers.Acquire.{Acquire}
 use Rattle.bmx_token.specs.declared.answers.Acquire.TheVariants as acquire_is
@@ -20,14 +19,14 @@ use Rattle.bmx_token.specs.declared.answers.Release.{Release}
 use Rattle.bmx_token.specs.declared.answers.Release.TheVariants as release_is
 use Rattle.bmx_token.specs.Tokens.{acquire, release}
 use Rattle.bmx_protocol.specs.declared.views.ViewField.{ViewField}
-use Rattle.bmx_protocol.specs.Nodes.{NodeState, Known, seen_graph, with_known, with_part, with_field, without_copy, field_of}
-use Rattle.bmx_protocol.specs.Rows.{Post, post, Row, ask_for, acquired, acquire_known, acquire_row, released, release_known, release_row, next_name, new_object, with_new, with_stored, with_got, raised_by, effect_of, answered, graph_row, do_row}
-use Rattle.bmx_object.specs.Machine.{Holding, Note, Asks, Returns, Send, send, Move, Act, Acquires, Releases, move_of, made_holding}
+use Rattle.bmx_protocol.specs.Nodes.{NodeState, Known, seen_graph, with_part, with_field, without_copy, field_of}
+use Rattle.bmx_protocol.specs.Rows.{post, Row, ask_for, acquired, acquire_known, acquire_row, released, release_known, release_row, next_name, new_object, with_new, with_stored, with_got, effect_of, answered, graph_row, do_row}
+use Rattle.bmx_object.specs.Machine.{Holding, Returns, send, Move, Acquires, Releases, made_holding}
 use Rattle.bmx_object.specs.Machine.{acquired as acquired_move, released as released_move}
-use Rattle.bmx_ownership.specs.Seen.{note_if, seen_notes, seen_holding}
+use Rattle.bmx_ownership.specs.Seen.{seen_holding}
 use Rattle.bmx_ownership.proofs.Basics.{Two, Same, Apart, two, put_same, put_apart, note_same, note_apart}
-use Rattle.bmx_ownership.proofs.Sends.{seen_send, seen_sends}
-use Rattle.bmx_ownership.proofs.Rows.{seen_known, MayTell, OnlyTell, says_nothing, Grows, AsBefore, OneMore, Leaves, Did, Acts, Passes, Makes, seen_same, seen_apart, asks_same, asks_apart}
+use Rattle.bmx_ownership.proofs.Sends.{seen_sends}
+use Rattle.bmx_ownership.proofs.Rows.{seen_known, OnlyTell, says_nothing, Grows, AsBefore, OneMore, Leaves, Did, Acts, Passes, Makes, seen_same, seen_apart, asks_same, asks_apart}
 
 -- ## acquiring and releasing
 
@@ -54,17 +53,18 @@ acquire_known_did x me s m name (Some k) is = by_two (two name x)
   where
     a : Part × Acquire
     a = acquire me k.part m (is_some k.copy)
+
     by_two : Two name x → Did x me s (acquired me s name k m a.0 a.1)
     by_two (Same e) =
         let known : s.known x ≡ Some k = subst (λ (z : ℕ). s.known z ≡ Some k) e is in
         let both : (seen_known ((acquired me s x k m a.0 a.1).after.known x) ≡ (acquired_move me m (seen_holding k) a.0 a.1).after)
-            × (seen_sends x (acquired me s x k m a.0 a.1).posts ≡ (acquired_move me m (seen_holding k) a.0 a.1).sends)
-            = acquired_same x me s k m a.0 a.1 known in
+        × (seen_sends x (acquired me s x k m a.0 a.1).posts ≡ (acquired_move me m (seen_holding k) a.0 a.1).sends)
+        = acquired_same x me s k m a.0 a.1 known in
         subst (λ (z : ℕ). Did x me s (acquired me s z k m a.0 a.1)) (sym e)
         (Acts 0 (Acquires m) (seen_holding k) _ (ap seen_known known) refl both.0 both.1)
     by_two (Apart h d) =
         let both : (seen_known ((acquired me s name k m a.0 a.1).after.known x) ≡ seen_known (s.known x)) × OnlyTell x s (acquired me s name k m a.0 a.1).posts
-            = acquired_apart x me s name k m a.0 a.1 h in
+        = acquired_apart x me s name k m a.0 a.1 h in
         Passes both.0 both.1
 
 acquire_did : (x me : ℕ) (s : NodeState) (m : Mode) (name : Option ℕ) → Did x me s (acquire_row me s m name)
@@ -82,9 +82,10 @@ released_same x s k p release_is.Refused is = (ap seen_known is, refl)
 released_apart : (x : ℕ) (s : NodeState) (name : ℕ) (k : Known) (p : Part) (a : Release) → (name == x) ≡ false →
     (seen_known ((released s name k p a).after.known x) ≡ seen_known (s.known x)) × OnlyTell x s (released s name k p a).posts
 released_apart x s name k p release_is.Free h = (seen_apart x name s (with_part k p) h, tt)
-released_apart x s name k p (release_is.Answers owner) h =
-    (seen_apart x name s (without_copy (with_part k p)) h,
-    (says_nothing x s (post owner (msg.InvAck name)) (note_apart x name Returns [] h), tt))
+released_apart x s name k p (release_is.Answers owner) h = (
+  seen_apart x name s (without_copy (with_part k p)) h,
+  (says_nothing x s (post owner (msg.InvAck name)) (note_apart x name Returns [] h), tt),
+)
 released_apart x s name k p release_is.Refused h = (refl, tt)
 
 release_known_did : (x me : ℕ) (s : NodeState) (name : ℕ) (k : Option Known) → s.known name ≡ k → Did x me s (release_known s name k)
@@ -93,17 +94,18 @@ release_known_did x me s name (Some k) is = by_two (two name x)
   where
     a : Part × Release
     a = release k.part
+
     by_two : Two name x → Did x me s (released s name k a.0 a.1)
     by_two (Same e) =
         let known : s.known x ≡ Some k = subst (λ (z : ℕ). s.known z ≡ Some k) e is in
         let both : (seen_known ((released s x k a.0 a.1).after.known x) ≡ (released_move (seen_holding k) a.0 a.1).after)
-            × (seen_sends x (released s x k a.0 a.1).posts ≡ (released_move (seen_holding k) a.0 a.1).sends)
-            = released_same x s k a.0 a.1 known in
+        × (seen_sends x (released s x k a.0 a.1).posts ≡ (released_move (seen_holding k) a.0 a.1).sends)
+        = released_same x s k a.0 a.1 known in
         subst (λ (z : ℕ). Did x me s (released s z k a.0 a.1)) (sym e)
         (Acts 0 Releases (seen_holding k) _ (ap seen_known known) refl both.0 both.1)
     by_two (Apart h d) =
         let both : (seen_known ((released s name k a.0 a.1).after.known x) ≡ seen_known (s.known x)) × OnlyTell x s (released s name k a.0 a.1).posts
-            = released_apart x s name k a.0 a.1 h in
+        = released_apart x s name k a.0 a.1 h in
         Passes both.0 both.1
 
 release_did : (x me : ℕ) (s : NodeState) (name : Option ℕ) → Did x me s (release_row s name)
@@ -122,6 +124,7 @@ new_beside x me s r b n = by_two (two (next_name me s) x)
   where
     made : Known
     made = new_object b n
+
     by_two : Two (next_name me s) x → Beside x me s (with_new me s r b n)
     by_two (Same e) = Made (sym e) refl (subst (λ (z : ℕ). seen_known (put s.known (next_name me s) (Some made) z) ≡ Some made_holding) e
         (ap seen_known (put_same s.known (next_name me s) (Some made))))
@@ -148,6 +151,7 @@ stored_beside x me s (Some name) index (Some v) = by_two (two name x)
   where
     changed : Option Known
     changed = option_map (with_field index v) (s.known name)
+
     by_two : Two name x → Beside x me s (with_stored s (Some name) index (Some v))
     by_two (Same e) = Alike (subst (λ (z : ℕ). seen_known (put s.known name changed z) ≡ seen_known (s.known z)) e
         (ap seen_known (put_same s.known name changed) ∙ stored_holding index v (s.known name)))

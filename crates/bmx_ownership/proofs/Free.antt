@@ -1,6 +1,6 @@
 -- A name to which nothing at a node refers: no field of a copy and no register. No row makes anything refer to
 -- it, but for its making and what a letter tells.
-use Rattle.std.proofs.Common.{◌≡◌, ℕ, ℤ, ◌+◌, arith, refl, ap, sym, subst, ◌∙◌, Bool, true, false, cond, List, [], ◌∷◌, map, zero, suc}
+use Rattle.std.proofs.Common.{◌≡◌, ℕ, ℤ, refl, ap, sym, subst, ◌∙◌, Bool, true, false, cond, List, [], ◌∷◌, map, zero, suc}
 use Rattle.std.specs.Prelude.{◌==◌, ◌≢◌, ◌<◌, Option, Some, None, is_some, unwrap_or, replicate, filter_map, slice_get, slice_set}
 use Rattle.std.specs.Option.{option_map}
 use Rattle.bmx_types.specs.Words.{anchor_of}
@@ -38,11 +38,11 @@ use Rattle.bmx_token.specs.declared.answers.Revoked.TheVariants as revoked_is
 use Rattle.bmx_protocol.specs.declared.views.ViewField.{ViewField}
 use Rattle.bmx_protocol.specs.declared.views.ViewField.TheVariants as field
 use Rattle.bmx_protocol.specs.Nodes.{Setting, NodeState, Known, seen_graph, fields_known, value_in, with_known, with_part, with_field, without_copy, with_register, field_of}
-use Rattle.bmx_protocol.specs.Rows.{Post, Row, acquired, acquire_known, acquire_row, released, release_known, release_row, next_name, new_object, with_new, with_stored, with_got, raised_by, effect_of, answered, graph_row, do_row, served, serve_known, serve_row, info_in, heard_of, heard_field, hear, hear_all, with_copy, requested, take_request, read_granted, take_read_grant, write_granted, take_write_grant, invalidated, take_inval, acknowledged, take_ack, take_row}
+use Rattle.bmx_protocol.specs.Rows.{acquired, acquire_known, acquire_row, released, release_known, release_row, next_name, new_object, with_new, with_stored, with_got, raised_by, effect_of, answered, graph_row, do_row, served, serve_known, serve_row, info_in, heard_of, heard_field, hear, hear_all, with_copy, requested, take_request, read_granted, take_read_grant, write_granted, take_write_grant, invalidated, take_inval, acknowledged, take_ack, take_row}
 use Rattle.bmx_protocol.specs.Histories.{IsOperandOf, IsCommandOf}
 use Rattle.bmx_object.specs.Machine.{Note, Tells}
-use Rattle.bmx_ownership.specs.Seen.{note_if, tells, seen_notes}
-use Rattle.bmx_ownership.proofs.Basics.{eqb_is, eqb_same, Two, Same, Apart, two, put_same, put_apart, note_same, note_apart}
+use Rattle.bmx_ownership.specs.Seen.{tells, seen_notes}
+use Rattle.bmx_ownership.proofs.Basics.{eqb_same, Two, Same, Apart, two, put_same, put_apart}
 use Rattle.bmx_ownership.proofs.Rows.{HasNo, NoRefs}
 
 -- no copy of what is known has a field that refers to x
@@ -206,6 +206,7 @@ stored_free x s (Some name) index (Some v) none free = record {
         HasNo x (unwrap_or (option_map (λ (fields : List ViewField). slice_set fields index (field_of v)) c) [])
     by_copy None h = tt
     by_copy (Some fields) h = set_free x fields index (field_of v) h (field_free x v (none v refl))
+
     by_known : (k : Option Known) → s.known name ≡ k → (j : Known) → option_map (with_field index v) k ≡ Some j → NoRefs x j
     by_known None at j is = absurd (cc)
     by_known (Some k) at j is = subst (NoRefs x) (some_is (with_field index v k) j is) (by_copy k.copy (free.fields name k at))
@@ -240,6 +241,7 @@ new_free x me s r b n free = by_two (two (next_name me s) x)
   where
     made : Option Known
     made = Some (new_object b n)
+
     by_two : Two (next_name me s) x → Freed x (with_new me s r b n)
     by_two (Same e) = Born (ap (λ (z : ℕ). is_some (put s.known (next_name me s) made z)) (sym e)
         ∙ ap (λ (k : Option Known). is_some k) (put_same s.known (next_name me s) made))
@@ -331,11 +333,12 @@ told_free x (told.Ref info ∷ fields) h = (λ e. not_it (name_is e), told_free 
   where
     name_is : field.Ref info.name ≡ field.Ref x → info.name ≡ x
     name_is e = cc
+
     not_it : info.name ≡ x → ⊥
     not_it e =
         let same : Tells ∷ tells x (targets fields) ≡ [] =
         ap (λ (b : Bool). cond b (Tells ∷ tells x (targets fields)) (tells x (targets fields)))
-            (sym (ap (λ (z : ℕ). info.name == z) (sym e) ∙ eqb_same info.name)) ∙ h in
+        (sym (ap (λ (z : ℕ). info.name == z) (sym e) ∙ eqb_same info.name)) ∙ h in
         cc
 
 requested_free : (x : ℕ) (s : NodeState) (from name : ℕ) (k : Known) (m : Mode) (asker : ℕ) (p : Part) (a : Requested) → s.known name ≡ Some k →

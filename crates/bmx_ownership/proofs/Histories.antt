@@ -1,10 +1,9 @@
 -- A legal history, seen for one name, is a run of the machine.
 use Rattle.std.proofs.Common.{◌≡◌, ℕ, ◌+◌, ◌^◌, ◌<◌, ◌≤◌, arith, refl, ap, sym, subst, ◌∙◌, Bool, true, false, cond, List, [], ◌∷◌, ◌++◌, length, drop, suc}
-use Rattle.std.specs.Prelude.{◌==◌, ◌≢◌, ◌||◌, not, Option, Some, None, count_by, slice_get, filter_map}
-use Rattle.std.specs.List.{cons_option, sum_by}
+use Rattle.std.specs.Prelude.{◌==◌, ◌||◌, not, Option, Some, None, count_by, slice_get}
+use Rattle.std.specs.List.{cons_option}
 use Rattle.std.proofs.lemmas.List.{append-nil}
 use Rattle.std.proofs.lemmas.List.Sums.{sum_by-append}
-use Rattle.bmx_types.specs.declared.commands.Command.{Command}
 use Rattle.bmx_types.specs.Openings.{IsOpening}
 use Rattle.bmx_types.specs.declared.addresses.Place.{Place}
 use Rattle.bmx_graph.specs.State.{put}
@@ -16,10 +15,10 @@ use Rattle.bmx_protocol.specs.declared.inputs.NodeAnswer.TheVariants as answer
 use Rattle.bmx_protocol.specs.declared.inputs.Done.{Done}
 use Rattle.bmx_protocol.specs.declared.events.Event.{Event}
 use Rattle.bmx_protocol.specs.Nodes.{Setting, NodeState}
-use Rattle.bmx_protocol.specs.Rows.{Row, stray, take_row, next_name}
-use Rattle.bmx_protocol.specs.Strays.{is_bad_letter, is_no_node, too_large, is_bad_msg}
-use Rattle.bmx_protocol.specs.Steps.{Node, Hint, first_node, hint_of, row_of, closed, letters_of, IsStep}
-use Rattle.bmx_protocol.specs.Histories.{issued, arrived, taken, on_way, letter_from, is_taken, IsInputOf, IsNext, Fits, EachFits, IsLegal, Replays, AreAfter}
+use Rattle.bmx_protocol.specs.Rows.{Row, stray, take_row}
+use Rattle.bmx_protocol.specs.Strays.{is_bad_letter, is_no_node}
+use Rattle.bmx_protocol.specs.Steps.{Node, first_node, hint_of, row_of, letters_of, IsStep}
+use Rattle.bmx_protocol.specs.Histories.{issued, arrived, taken, on_way, letter_from, is_taken, IsInputOf, IsNext, Fits, EachFits, Replays, AreAfter}
 use Rattle.bmx_protocol.specs.Worlds.{world_of}
 use Rattle.bmx_protocol.proofs.Counts.{issued_is_counted}
 use Rattle.bmx_protocol.proofs.Prefixes.{joined}
@@ -30,10 +29,10 @@ use Rattle.bmx_ownership.proofs.Basics.{eqb_is}
 use Rattle.bmx_ownership.proofs.Rows.{seen_known, Grows, AsBefore, OneMore, Leaves, Did, Passes}
 use Rattle.bmx_ownership.proofs.Serves.{serve_did, serve_leaves}
 use Rattle.bmx_ownership.proofs.Commands.{do_did, do_leaves}
-use Rattle.bmx_ownership.proofs.Takes.{Taken, Strayed, Taking, Took, take_taken}
+use Rattle.bmx_ownership.proofs.Takes.{Taken, Strayed, Taking, take_taken}
 use Rattle.bmx_ownership.proofs.Free.{IsFree, IsUnborn, Freed, Still, do_free, serve_free, take_free}
-use Rattle.bmx_ownership.proofs.Channels.{Channels, Now, Nothing, First, numbered_at, slice_drop, IssuesPosts, channels_more, way_nothing, way_taken}
-use Rattle.bmx_ownership.proofs.Afters.{Recorded, recorded, IsRowOf}
+use Rattle.bmx_ownership.proofs.Channels.{Channels, Nothing, First, numbered_at, slice_drop, IssuesPosts, channels_more, way_nothing, way_taken}
+use Rattle.bmx_ownership.proofs.Afters.{recorded, IsRowOf}
 use Rattle.bmx_ownership.proofs.Runs.{IsQuiet, quiet_run, IsTaking, taking_run}
 use Rattle.bmx_ownership.proofs.Names.{IsNamed, unknown_free, new_clean, clean_nowhere, quiet_named, taking_named}
 use Rattle.bmx_ownership.proofs.Openings.{is_first, named_first, channels_first, few_first}
@@ -83,6 +82,7 @@ taken_none n m e none = by_test (is_taken e.done.answer)
     by_node : (b : Bool) → cons_option {X = Letter} (cond b None None) [] ≡ []
     by_node true = refl
     by_node false = refl
+
     by_test : (t : Bool) → arrived n m (cond t (e ∷ []) []) ≡ []
     by_test true = ap (λ (l : Option Letter). cons_option (cond (e.node == m) l None) []) (none n) ∙ by_node (e.node == m)
     by_test false = refl
@@ -118,9 +118,11 @@ first_letter st past nodes me from l channels next good =
   where
     number : l.seq ≡ 0 + length (arrived from me past) + 1
     number = numbered_at (issued from me past) 0 (length (arrived from me past)) l (channels.numbers from me) next
+
     counted : l.seq ≡ (nodes me).state.taken from + 1
     counted = eqb_is l.seq ((nodes me).state.taken from + 1)
         (good_number (from == me) (is_no_node st from) (l.seq == (nodes me).state.taken from + 1) _ _ good)
+
     same : length (arrived from me past) ≡ length (taken from me past)
     same = omega (arith, number, counted, channels.counts from me)
 
@@ -180,8 +182,10 @@ quiet st x start past nodes e after row ev r leaves did freed none = record {
   where
     came : Came st x start past nodes
     came = ev.came
+
     enough : (nodes e.node).state.made + 1 < 2 ^ 56
     enough = enough_names st x start past nodes e after ev
+
     is : IsQuiet x nodes past e after row
     is = record { row_of = r; leaves = leaves; way = λ n m. way_nothing n m past e (came.channels.within n m) (none n m) }
 
@@ -203,16 +207,22 @@ taking st x start past nodes e after from l ev is next good row r answered same 
   where
     s : NodeState
     s = (nodes e.node).state
+
     took_row : Row
     took_row = take_row e.node s from l.seq l.msg
+
     came : Came st x start past nodes
     came = ev.came
+
     here : IsRowOf e after took_row
     here = subst (IsRowOf e after) same r
+
     rest : List Letter
     rest = drop (suc (length (taken from e.node past))) (issued from e.node past)
+
     first : on_way from e.node past ≡ l ∷ rest
     first = first_letter st past nodes e.node from l came.channels next good
+
     by_taken : Taken x from l.seq s (is_brought (seen_notes x l.msg)) (take_notes e.node from (seen_notes x l.msg) (seen_known (s.known x))) took_row → Came st x start (past ++ e ∷ []) (put nodes e.node after)
     by_taken (Strayed stray_is) = strayed st x start past nodes e after took_row ev here (answered ∙ ap (λ (w : Row). w.answer) same) stray_is
     by_taken (Taking nil took) = record {
@@ -227,6 +237,7 @@ taking st x start past nodes e after from l ev is next good row r answered same 
       where
         one : (n m : ℕ) → taken n m (e ∷ []) ≡ cond (e.node == m) (cond (from == n) (l ∷ []) []) []
         one n m = taken_one n m e from l is (answered ∙ ap (λ (w : Row). w.answer) same ∙ nil)
+
         t : IsTaking x nodes past e after took_row from l rest
         t = record { row_of = here; first = first; took = took; way = λ n m. way_taken n m past e from l rest (came.channels.within n m) first (one n m) }
 
@@ -252,12 +263,16 @@ by_input st x start past nodes e after ev (input.Take from l) is of next step =
   where
     s : NodeState
     s = (nodes e.node).state
+
     row : Row
     row = row_of st e.node s (hint_of st e.node (nodes e.node) (input.Take from l)) (input.Take from l)
+
     r : IsRowOf e after row
     r = record { state = step.state; letters = ap (λ (d : Done). d.letters) step.outcome }
+
     answered : e.done.answer ≡ row.answer
     answered = ap (λ (d : Done). d.answer) step.outcome
+
     by_tests : (b : Bool) → is_bad_letter st e.node s from l ≡ b → (c : Bool) → (hint_of st e.node (nodes e.node) (input.Take from l)).clash ≡ c →
         Came st x start (past ++ e ∷ []) (put nodes e.node after)
     by_tests true hb c hc = strayed st x start past nodes e after row ev r answered

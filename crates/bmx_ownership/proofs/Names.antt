@@ -1,30 +1,28 @@
 -- Names: one that isn't made stands nowhere, and one that is made is known to its maker. After one more event too.
-use Rattle.std.proofs.Common.{◌≡◌, ℕ, ◌+◌, ◌*◌, ◌^◌, ◌/◌, ◌%◌, ◌<◌, ◌≤◌, arith, refl, ap, sym, subst, ◌∙◌, Bool, true, false, cond, List, [], ◌∷◌, ◌++◌, map, length}
-use Rattle.std.specs.Prelude.{◌==◌, ◌≢◌, ◌⊎◌, Option, Some, None, is_some, replicate}
+use Rattle.std.proofs.Common.{◌≡◌, ℕ, ◌+◌, ◌^◌, ◌<◌, ◌≤◌, arith, ap, sym, subst, ◌∙◌, Bool, true, false, cond, List, [], ◌∷◌, ◌++◌, map}
+use Rattle.std.specs.Prelude.{◌==◌, ◌⊎◌, Option, Some, None, is_some, replicate}
 use Rattle.std.proofs.Common.{inl, inr}
-use Rattle.std.proofs.lemmas.List.{append-nil}
 use Rattle.std.proofs.lemmas.Nat.{div-mul-add, mod-mul-add}
 use Rattle.bmx_types.specs.Words.{name_word, maker, count_of}
 use Rattle.bmx_types.specs.declared.values.Val.{Val}
-use Rattle.bmx_types.specs.declared.values.Val.TheVariants as val
 use Rattle.bmx_graph.specs.State.{put}
 use Rattle.bmx_msg.specs.declared.letters.Letter.{Letter}
 use Rattle.bmx_protocol.specs.declared.inputs.Sending.{Sending}
 use Rattle.bmx_protocol.specs.declared.events.Event.{Event}
 use Rattle.bmx_protocol.specs.Nodes.{Setting, NodeState, Known}
 use Rattle.bmx_protocol.specs.Rows.{Post, Row, next_name}
-use Rattle.bmx_protocol.specs.Steps.{Node, closed, letters_of, with_records, numbered}
+use Rattle.bmx_protocol.specs.Steps.{Node, letters_of, numbered}
 use Rattle.bmx_protocol.specs.Histories.{letters_to, on_way}
-use Rattle.bmx_protocol.specs.Worlds.{World, world_of}
-use Rattle.bmx_object.specs.Machine.{Holding, Note, Tells, Slip, Send, Move, move_of, made_holding, take_notes, take_no_note, IsNowhere}
+use Rattle.bmx_protocol.specs.Worlds.{world_of}
+use Rattle.bmx_object.specs.Machine.{Holding, Tells, Slip, Move, take_notes, take_no_note, IsNowhere}
 use Rattle.bmx_ownership.specs.Seen.{seen, seen_slip, seen_notes}
-use Rattle.bmx_ownership.proofs.Basics.{eqb_is, eqb_same, Two, Same, Apart, two}
-use Rattle.bmx_ownership.proofs.Sends.{seen_send, seen_sends}
-use Rattle.bmx_ownership.proofs.Rows.{seen_known, NoneRefers, MayTell, OnlyTell, Silent, Grows, AsBefore, OneMore, Leaves, Did, Acts, Passes, Makes}
-use Rattle.bmx_ownership.proofs.Takes.{Issues, Own, Others, Took}
+use Rattle.bmx_ownership.proofs.Basics.{eqb_same, Two, Same, Apart, two}
+use Rattle.bmx_ownership.proofs.Sends.{seen_sends}
+use Rattle.bmx_ownership.proofs.Rows.{seen_known, NoneRefers, MayTell, OnlyTell, Silent, Grows, AsBefore, OneMore, Did, Acts, Passes, Makes}
+use Rattle.bmx_ownership.proofs.Takes.{Issues, Own, Others}
 use Rattle.bmx_ownership.proofs.Free.{IsFree, IsUnborn, Freed, Still, Born}
 use Rattle.bmx_ownership.proofs.Channels.{letters_by, way_left}
-use Rattle.bmx_ownership.proofs.Afters.{Recorded, recorded, IsRowOf}
+use Rattle.bmx_ownership.proofs.Afters.{recorded, IsRowOf}
 use Rattle.bmx_ownership.proofs.Runs.{IsQuiet, IsTaking}
 use Rattle.bmx_ownership.proofs.Stays.{move_some, Keeps, notes_keep}
 
@@ -98,8 +96,10 @@ new_clean st x nodes past me named few new = by_stands named.stands
   where
     made_by : maker x ≡ me
     made_by = ap maker new ∙ maker_is me ((nodes me).state.made + 1) few
+
     number : count_of x ≡ (nodes me).state.made + 1
     number = ap count_of new ∙ count_is me ((nodes me).state.made + 1) few
+
     by_stands : Knows nodes (maker x) x ⊎ IsClean st x nodes past → IsClean st x nodes past
     by_stands (inl knows) =
         let at_most : count_of x ≤ (nodes me).state.made = subst (λ (z : ℕ). count_of x ≤ (nodes z).state.made) made_by (named.counted knows) in
@@ -126,6 +126,7 @@ by_silent x e after row r silent n m = by_test (e.node == n)
   where
     all : AreSilent x (letters_to m e.done.letters)
     all = subst (λ (l : List Sending). AreSilent x (letters_to m l)) (sym r.letters) (posts_silent x row.after.issued e.stamp row.posts m silent)
+
     by_test : (b : Bool) → AreSilent x (cond b (letters_to m e.done.letters) [])
     by_test true = all
     by_test false = tt
@@ -184,10 +185,13 @@ named_after st x nodes past e after row r out named = record {
   where
     me : ℕ
     me = e.node
+
     known : seen_known (after.state.known x) ≡ seen_known (row.after.known x)
     known = ap seen_known (known_after x nodes e after row r)
+
     some : is_some (seen_known (row.after.known x)) ≡ true → is_some (seen_known (after.state.known x)) ≡ true
     some h = ap (λ (k : Option Holding). is_some k) known ∙ h
+
     counted : Two me (maker x) → Knows (put nodes me after) (maker x) x → count_of x ≤ (put nodes me after (maker x)).state.made
     counted (Same a) knows =
         let at : (me == maker x) ≡ true = ap (λ (z : ℕ). me == z) (sym a) ∙ eqb_same me in
@@ -197,12 +201,14 @@ named_after st x nodes past e after row r out named = record {
     counted (Apart h d) knows =
         subst (λ (n : Node). count_of x ≤ n.state.made) (λ i. cond (sym h i) after (nodes (maker x)))
         (named.counted ((λ i. is_some (seen_known ((cond (sym h i) after (nodes (maker x))).state.known x))) ∙ knows))
+
     knows_after : Two me (maker x) → Knows nodes (maker x) x → Knows (put nodes me after) (maker x) x
     knows_after (Same a) knows =
         let at : (me == maker x) ≡ true = ap (λ (z : ℕ). me == z) (sym a) ∙ eqb_same me in
         (λ i. is_some (seen_known ((cond (at i) after (nodes (maker x))).state.known x)))
         ∙ some (out.stays (ap (λ (z : ℕ). is_some (seen_known ((nodes z).state.known x))) a ∙ knows))
     knows_after (Apart h d) knows = (λ i. is_some (seen_known ((cond (h i) after (nodes (maker x))).state.known x))) ∙ knows
+
     by_clean : IsClean st x nodes past →
         ((maker x ≡ me) × (is_some (seen_known (row.after.known x)) ≡ true))
         ⊎ ((seen_known (row.after.known x) ≡ None) × IsFree x row.after × ((n m : ℕ) → AreSilent x (on_way n m (past ++ e ∷ [])))) →
@@ -215,6 +221,7 @@ named_after st x nodes past e after row r out named = record {
       silent = still.2;
       unborn = clean.unborn;
     })
+
     by_stands : Knows nodes (maker x) x ⊎ IsClean st x nodes past → Knows (put nodes me after) (maker x) x ⊎ IsClean st x (put nodes me after) (past ++ e ∷ [])
     by_stands (inl knows) = inl (knows_after (two me (maker x)) knows)
     by_stands (inr clean) = by_clean clean (out.clean clean)
@@ -236,11 +243,12 @@ quiet_outcome st x nodes past e after row q few (Acts selves a h m known is here
   where
     some : is_some (seen_known (row.after.known x)) ≡ true
     some = ap (λ (k : Option Holding). is_some k) here ∙ ap (λ (v : Move). is_some v.after) (sym is) ∙ move_some e.node selves a h
+
     counted : maker x ≡ e.node → count_of x ≤ row.after.made
     counted made =
         let before : count_of x ≤ (nodes e.node).state.made =
         subst (λ (z : ℕ). count_of x ≤ (nodes z).state.made) made
-            (named.counted (ap (λ (z : ℕ). is_some (seen_known ((nodes z).state.known x))) made ∙ ap (λ (k : Option Holding). is_some k) known)) in
+        (named.counted (ap (λ (z : ℕ). is_some (seen_known ((nodes z).state.known x))) made ∙ ap (λ (k : Option Holding). is_some k) known)) in
         omega (arith, grows_more (nodes e.node).state.made row.after.made q.leaves.made)
 quiet_outcome st x nodes past e after row q few (Passes same only) freed named = record {
   stays = λ old. ap (λ (k : Option Holding). is_some k) same ∙ old;
@@ -252,17 +260,22 @@ quiet_outcome st x nodes past e after row q few (Passes same only) freed named =
     counted made now =
         let before : count_of x ≤ (nodes e.node).state.made =
         subst (λ (z : ℕ). count_of x ≤ (nodes z).state.made) made
-            (named.counted (ap (λ (z : ℕ). is_some (seen_known ((nodes z).state.known x))) made ∙ ap (λ (k : Option Holding). is_some k) (sym same) ∙ now)) in
+        (named.counted (ap (λ (z : ℕ). is_some (seen_known ((nodes z).state.known x))) made ∙ ap (λ (k : Option Holding). is_some k) (sym same) ∙ now)) in
         omega (arith, grows_more (nodes e.node).state.made row.after.made q.leaves.made)
+
     seen_some : (k : Option Known) → is_some k ≡ true → seen_known k ≡ None → ⊥
     seen_some None h n = cc
     seen_some (Some k) h n = cc
+
     by_freed : IsClean st x nodes past → Freed x row.after →
         ((maker x ≡ e.node) × (is_some (seen_known (row.after.known x)) ≡ true))
         ⊎ ((seen_known (row.after.known x) ≡ None) × IsFree x row.after × ((n m : ℕ) → AreSilent x (on_way n m (past ++ e ∷ []))))
-    by_freed clean (Still free) = inr (same ∙ clean.unknown e.node, free,
-        λ n m. subst (AreSilent x) (sym (q.way n m)) (silent_append x (on_way n m past) (letters_by e n m) (clean.silent n m)
-        (by_silent x e after row q.row_of (tell_silent x (nodes e.node).state row.posts (clean.free e.node).fields only) n m)))
+    by_freed clean (Still free) = inr (
+      same ∙ clean.unknown e.node,
+      free,
+      λ n m. subst (AreSilent x) (sym (q.way n m)) (silent_append x (on_way n m past) (letters_by e n m) (clean.silent n m)
+          (by_silent x e after row q.row_of (tell_silent x (nodes e.node).state row.posts (clean.free e.node).fields only) n m)),
+    )
     by_freed clean (Born some) = absurd (seen_some (row.after.known x) some (same ∙ clean.unknown e.node))
 quiet_outcome st x nodes past e after row q few (Makes new more here none) freed named = record {
   stays = λ old. some;
@@ -304,28 +317,37 @@ taking_named st x nodes past e after row from l rest t freed named = named_after
   where
     s : NodeState
     s = (nodes e.node).state
+
     move : Move
     move = t.took.move
+
     stays : is_some (seen_known (s.known x)) ≡ true → is_some (seen_known (row.after.known x)) ≡ true
     stays old =
         let kept : Keeps (Some move) = subst Keeps t.took.makes (notes_keep e.node from (seen_notes x l.msg) (seen_known (s.known x)) old) in
         ap (λ (k : Option Holding). is_some k) t.took.after ∙ kept
+
     all : IsClean st x nodes past → AreSilent x (l ∷ rest)
     all clean = subst (AreSilent x) t.first (clean.silent from e.node)
+
     quiet : IsClean st x nodes past → seen_notes x l.msg ≡ []
     quiet clean = (all clean).0
+
     nothing : IsClean st x nodes past → move ≡ take_no_note None
     nothing clean = some_move move (take_no_note None)
         (sym t.took.makes ∙ (λ i. take_notes e.node from (quiet clean i) (clean.unknown e.node i)))
+
     gone : IsClean st x nodes past → seen_known (row.after.known x) ≡ None
     gone clean = t.took.after ∙ ap (λ (m : Move). m.after) (nothing clean)
+
     counted : maker x ≡ e.node → is_some (seen_known (row.after.known x)) ≡ true → Knows nodes (maker x) x ⊎ IsClean st x nodes past → count_of x ≤ row.after.made
     counted made now (inl knows) =
         subst (λ (k : ℕ). count_of x ≤ k) (ap (λ (z : ℕ). (nodes z).state.made) made ∙ sym t.took.names) (named.counted knows)
     counted made now (inr clean) = absurd (none_known (seen_known (row.after.known x)) (gone clean) now)
+
     issues_silent : IsClean st x nodes past → Issues x s row.posts move.sends → Silent x row.posts
     issues_silent clean (Own sends) = sends_none x row.posts (sends ∙ ap (λ (m : Move). m.sends) (nothing clean))
     issues_silent clean (Others none silent) = silent
+
     silent : IsClean st x nodes past → (n m : ℕ) → AreSilent x (on_way n m (past ++ e ∷ []))
     silent clean n m = subst (AreSilent x) (sym (t.way n m))
         (silent_append x (way_left past e from rest n m) (letters_by e n m)

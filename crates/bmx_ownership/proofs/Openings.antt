@@ -1,24 +1,23 @@
 -- The opening of a store, seen for one name: nowhere, or one that the store opens with.
-use Rattle.std.proofs.Common.{◌≡◌, ℕ, ◌+◌, ◌-◌, ◌^◌, ◌<◌, ◌≤◌, arith, refl, ap, sym, subst, ◌∙◌, Bool, true, false, cond, List, [], ◌∷◌, ◌++◌, map, length, zero, suc, get_or}
+use Rattle.std.proofs.Common.{◌≡◌, ℕ, ◌+◌, ◌-◌, ◌^◌, ◌<◌, ◌≤◌, arith, refl, ap, sym, subst, ◌∙◌, Bool, true, false, cond, List, [], ◌∷◌, map, length, zero, suc, get_or}
 use Rattle.std.specs.Prelude.{◌==◌, ◌≢◌, ◌⊎◌, Option, Some, None, is_some, find, slice_get, Contains}
 use Rattle.std.specs.Option.{option_map}
 use Rattle.std.proofs.Common.{inl, inr}
 use Rattle.std.proofs.lemmas.Option.{slice_get_within, get_or_from_slice_get, slice_get_cases}
 use Rattle.std.proofs.lemmas.List.Elements.{Contains-get_or, Contains-append_left, Contains-append_right, Contains-push}
-use Rattle.bmx_types.specs.Words.{maker, count_of, anchor_of}
-use Rattle.bmx_types.specs.Openings.{bunches_of, IsBorn, AreBirths, IsOpening}
+use Rattle.bmx_types.specs.Words.{maker, count_of}
+use Rattle.bmx_types.specs.Openings.{IsBorn, IsOpening}
 use Rattle.bmx_types.specs.declared.openings.Birth.{Birth}
 use Rattle.bmx_types.specs.declared.values.Val.{Val}
 use Rattle.bmx_types.specs.declared.values.Val.TheVariants as val
-use Rattle.bmx_protocol.specs.declared.views.ViewField.{ViewField}
 use Rattle.bmx_protocol.specs.declared.views.ViewField.TheVariants as field
-use Rattle.bmx_protocol.specs.Nodes.{Setting, Known, field_of, birth_of, is_anchor, owned_birth, heard_birth, first_known, first_state}
-use Rattle.bmx_protocol.specs.Steps.{Node, first_node}
-use Rattle.bmx_object.specs.Machine.{Holding, IsFirst, Absent, Born, IsFirstElsewhere, Unknown, Heard, made_holding, heard_from}
+use Rattle.bmx_protocol.specs.Nodes.{Setting, Known, field_of, birth_of, is_anchor, owned_birth, heard_birth, first_known}
+use Rattle.bmx_protocol.specs.Steps.{first_node}
+use Rattle.bmx_object.specs.Machine.{Holding, IsFirst, Absent, Born, IsFirstElsewhere, Unknown, Heard}
 use Rattle.bmx_ownership.specs.Seen.{seen, first_world}
 use Rattle.bmx_ownership.proofs.Basics.{eqb_is, eqb_same, eqb_apart}
 use Rattle.bmx_ownership.proofs.Rows.{seen_known, HasNo, NoRefs}
-use Rattle.bmx_ownership.proofs.Free.{FreeOf, IsFree}
+use Rattle.bmx_ownership.proofs.Free.{FreeOf}
 use Rattle.bmx_ownership.proofs.Channels.{Channels}
 use Rattle.bmx_ownership.proofs.Names.{Knows, IsClean, IsNamed}
 
@@ -97,8 +96,10 @@ is_first st x = by_birth (birth_of st x) refl
 
 fields_free : (x : ℕ) (fields : List Val) → (Contains fields (val.Ref x) → ⊥) → HasNo x (map field_of fields)
 fields_free x [] none = tt
-fields_free x (v ∷ fields) none = (here v (λ e. none (subst (Contains (v ∷ fields)) e (Contains-append_left (v ∷ []) fields v (Contains-push [] v)))),
-    fields_free x fields (λ c. none (Contains-append_right (v ∷ []) fields (val.Ref x) c)))
+fields_free x (v ∷ fields) none = (
+  here v (λ e. none (subst (Contains (v ∷ fields)) e (Contains-append_left (v ∷ []) fields v (Contains-push [] v)))),
+  fields_free x fields (λ c. none (Contains-append_right (v ∷ []) fields (val.Ref x) c)),
+)
   where
     here : (v : Val) → (v ≡ val.Ref x → ⊥) → field_of v ≢ field.Ref x
     here val.Null h = λ e. cc
@@ -126,11 +127,13 @@ first_free st opening x n none y k is = by_birth (birth_of st y) refl
       where
         some_is : (j : Known) → Some j ≡ Some k → j ≡ k
         some_is j h = cc
+
         inside : Contains st.births b
         inside =
             let f : (i : ℕ) × (slice_get st.births i ≡ Some b) × (b.name ≡ y) = found_birth st.births y b at in
             subst (Contains st.births) (get_or_from_slice_get st.births f.0 b b f.1)
             (Contains-get_or st.births f.0 b (slice_get_within st.births f.0 b f.1))
+
         by_tests : (t a : Bool) → cond t (Some (owned_birth b)) (cond a (Some (heard_birth b)) None) ≡ Some k → NoRefs x k
         by_tests true a h = subst (NoRefs x) (some_is (owned_birth b) h) (birth_free st opening x none b inside)
         by_tests false true h = subst (NoRefs x) (some_is (heard_birth b) h) tt
@@ -160,6 +163,7 @@ named_first st opening x = by_birth (birth_of st x) refl
       where
         knows_none : Knows (first_node st) (maker x) x → false ≡ true
         knows_none knows = ap (λ (k : Option Holding). is_some k) (sym (unknown_at st x (maker x) is)) ∙ knows
+
         none_is : false ≡ true → ⊥
         none_is h = cc
     by_birth (Some b) is = record {
@@ -170,16 +174,20 @@ named_first st opening x = by_birth (birth_of st x) refl
       where
         at : (i : ℕ) × (slice_get st.births i ≡ Some b) × (b.name ≡ x)
         at = found_birth st.births x b is
+
         small : x ≤ length st.births
         small =
             let number : b.name ≡ at.0 + 1 = opening.born.named at.0 b at.1 in
             let below : at.0 < length st.births = slice_get_within st.births at.0 b at.1 in
             let same : b.name ≡ x = at.2 in
             omega arith
+
         tiny : x < 2 ^ 56
         tiny = omega (arith, small, opening.born.few)
+
         by_first : maker x ≡ 0
         by_first = omega (arith, tiny)
+
         at_most : count_of x ≤ length st.births
         at_most = omega (arith, small, tiny)
 

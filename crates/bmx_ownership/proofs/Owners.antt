@@ -1,12 +1,10 @@
 -- What the machine's laws say of a store: each name has one owner, and a write excludes.
-use Rattle.std.proofs.Common.{◌≡◌, ℕ, ◌+◌, ◌<◌, ◌≤◌, arith, refl, ap, sym, subst, ◌∙◌, Bool, true, false, cond, List, [], ◌∷◌, ◌++◌, map, length, zero, suc}
-use Rattle.std.specs.Prelude.{◌==◌, ◌≢◌, ◌&&◌, ◌⊎◌, Option, Some, None, is_some, IsSome, Contains, slice_index_or}
+use Rattle.std.proofs.Common.{◌≡◌, ℕ, ◌+◌, ◌≤◌, arith, refl, ap, sym, subst, ◌∙◌, Bool, true, false, cond, List, [], ◌∷◌, ◌++◌, map, zero, suc}
+use Rattle.std.specs.Prelude.{◌==◌, ◌≢◌, ◌&&◌, ◌⊎◌, Option, Some, None, Contains}
 use Rattle.std.proofs.Common.{inl, inr}
 use Rattle.std.proofs.lemmas.List.{map-append}
 use Rattle.bmx_types.specs.declared.addresses.Info.{Info}
-use Rattle.bmx_types.specs.declared.numbers.Mode.{Mode}
 use Rattle.bmx_types.specs.declared.numbers.Mode.TheVariants as mode
-use Rattle.bmx_types.specs.Openings.{IsOpening}
 use Rattle.bmx_msg.specs.declared.letters.Field.{Field}
 use Rattle.bmx_msg.specs.declared.letters.Letter.{Letter}
 use Rattle.bmx_msg.specs.declared.letters.Msg.{Msg}
@@ -14,15 +12,13 @@ use Rattle.bmx_msg.specs.declared.letters.Msg.TheVariants as msg
 use Rattle.bmx_msg.specs.Letters.{targets}
 use Rattle.bmx_token.specs.declared.parts.Role.{Role}
 use Rattle.bmx_token.specs.declared.parts.Role.TheVariants as role
-use Rattle.bmx_protocol.specs.declared.events.Event.{Event}
 use Rattle.bmx_protocol.specs.Nodes.{Setting, Known}
-use Rattle.bmx_protocol.specs.Steps.{Node}
-use Rattle.bmx_protocol.specs.Worlds.{World, world_of, HasOwned, IsMoving, Owns, Has, Gets, names_in, Speaks, IsSomewhere, At, Between, HasOneOwner, EachHasOneOwner, WritesExclude}
-use Rattle.bmx_object.specs.Machine.{Holding, Note, Asks, Grants, Recalls, Returns, Tells, Slip, Object, IsNowhere, Run}
-use Rattle.bmx_object.specs.Laws.{is_owner, owned_at, handovers, handovers_in, Seat, Moving, is_at, is_moving, IsOwned, HasOneSeat, WriteExcludes}
+use Rattle.bmx_protocol.specs.Worlds.{World, HasOwned, IsMoving, Owns, Has, Gets, names_in, IsSomewhere, At, Between, HasOneOwner, EachHasOneOwner, WritesExclude}
+use Rattle.bmx_object.specs.Machine.{Note, Asks, Grants, Recalls, Returns, Tells, IsNowhere}
+use Rattle.bmx_object.specs.Laws.{is_owner, owned_at, handovers, handovers_in, Seat, Moving, IsOwned, HasOneSeat, WriteExcludes}
 use Rattle.bmx_object.specs.Laws.{At as AtNode}
-use Rattle.bmx_ownership.specs.Seen.{seen, seen_slip, seen_notes, seen_holding, note_if, tells, first_world}
-use Rattle.bmx_ownership.proofs.Basics.{eqb_is, eqb_not, eqb_same, Two, Same, Apart, two}
+use Rattle.bmx_ownership.specs.Seen.{seen, seen_slip, seen_notes, seen_holding, note_if, tells}
+use Rattle.bmx_ownership.proofs.Basics.{eqb_is, eqb_same, Two, Same, Apart, two}
 use Rattle.bmx_ownership.proofs.Rows.{seen_known}
 
 -- ## where a name stands
@@ -88,7 +84,7 @@ not_nowhere st w x (At n k node known) nowhere =
 not_nowhere st w x (Between n m l a b there speaks) nowhere =
     let s : (before : List Letter) × (after : List Letter) × (w.way n m ≡ before ++ l ∷ after) = split_at (w.way n m) l there in
     not_named x l.msg (nowhere.untold n m (seen_slip x l) (map (seen_slip x) s.0) (map (seen_slip x) s.1)
-        (ap (map (seen_slip x)) s.2 ∙ map-append (seen_slip x) s.0 (l ∷ s.1))) speaks
+    (ap (map (seen_slip x)) s.2 ∙ map-append (seen_slip x) s.0 (l ∷ s.1))) speaks
 
 -- ## owners at a node
 
@@ -140,6 +136,7 @@ hands x (msg.WriteGrant info fields) = by_test (info.name == x) (eqb_is info.nam
   where
     notes : List Note
     notes = tells x (targets fields)
+
     by_test : (b : Bool) → (b ≡ true → info.name ≡ x) →
         (handovers (cond b (Grants mode.Write ∷ notes) notes) ≡ 0) ⊎ ((handovers (cond b (Grants mode.Write ∷ notes) notes) ≡ 1) × Hands x (msg.WriteGrant info fields))
     by_test true q = inr (omega (arith, tells_hand x (targets fields)), record { info = info; fields = fields; is = refl; named = q refl })
@@ -210,6 +207,7 @@ one_owner w x (AtNode n) owned = record {
   where
     k : (j : Known) × ((w.state n).known x ≡ Some j) × (j.part.role ≡ role.Owner)
     k = owned_known ((w.state n).known x) (owned.nodes n ∙ ap one_if (eqb_same n))
+
     alone : (m : ℕ) → Owns w x m → m ≡ n
     alone m (Has j has) = at_place n m (m == n) (eqb_is m n) (sym (owned.nodes m) ∙ known_owned w x m j has)
     alone m (Gets from l info fields moving) =
@@ -224,8 +222,10 @@ one_owner w x (Moving from to) owned = record {
   where
     here : ((from == from) && (to == to)) ≡ true
     here = (λ i. eqb_same from i && eqb_same to i)
+
     h : HandsAmong x (w.way from to)
     h = among x (w.way from to) (owned.letters from to ∙ ap one_if here)
+
     alone : (m : ℕ) → Owns w x m → m ≡ to
     alone m (Has j has) =
         let some : owned_at ((seen x w).holds m) ≡ 1 = known_owned w x m j has in

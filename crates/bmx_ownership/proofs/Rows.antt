@@ -1,24 +1,19 @@
 -- What a row is for one name: a move of its machine, letters that may tell of it, or its making.
-use Rattle.std.proofs.Common.{◌≡◌, ℕ, ◌+◌, arith, refl, ap, sym, ◌∙◌, Bool, true, false, cond, List, [], ◌∷◌, length, map}
-use Rattle.std.specs.Prelude.{◌==◌, ◌≢◌, Option, Some, None, replicate, unwrap_or, is_some}
+use Rattle.std.proofs.Common.{◌≡◌, ℕ, ◌+◌, refl, ap, Bool, true, false, cond, List, [], ◌∷◌, length, map}
+use Rattle.std.specs.Prelude.{◌==◌, ◌≢◌, Option, Some, replicate, unwrap_or}
 use Rattle.std.specs.Option.{option_map}
 use Rattle.bmx_types.specs.declared.addresses.Place.{Place}
-use Rattle.bmx_types.specs.declared.addresses.Info.{Info}
 use Rattle.bmx_types.specs.declared.numbers.Mode.{Mode}
 use Rattle.bmx_types.specs.declared.numbers.Mode.TheVariants as mode
-use Rattle.bmx_msg.specs.declared.letters.Field.{Field}
-use Rattle.bmx_msg.specs.declared.letters.Field.TheVariants as told
-use Rattle.bmx_msg.specs.declared.letters.Msg.{Msg}
 use Rattle.bmx_msg.specs.Letters.{targets}
-use Rattle.bmx_token.specs.declared.parts.Part.{Part}
 use Rattle.bmx_protocol.specs.declared.views.ViewField.{ViewField}
 use Rattle.bmx_protocol.specs.declared.views.ViewField.TheVariants as field
-use Rattle.bmx_protocol.specs.Nodes.{NodeState, Known, with_known, with_part}
-use Rattle.bmx_protocol.specs.Rows.{Post, Row, next_name, told_field, told_fields, ask_for}
-use Rattle.bmx_object.specs.Machine.{Holding, Note, Asks, Tells, Send, Move, Act, move_of, made_holding}
-use Rattle.bmx_ownership.specs.Seen.{note_if, tells, seen_notes, seen_holding}
+use Rattle.bmx_protocol.specs.Nodes.{NodeState, Known, with_known}
+use Rattle.bmx_protocol.specs.Rows.{Post, Row, next_name, told_field, ask_for}
+use Rattle.bmx_object.specs.Machine.{Holding, Note, Asks, Tells, Move, Act, move_of, made_holding}
+use Rattle.bmx_ownership.specs.Seen.{tells, seen_notes, seen_holding}
 use Rattle.bmx_ownership.proofs.Basics.{eqb_is, put_same, put_apart, note_same, note_apart}
-use Rattle.bmx_ownership.proofs.Sends.{seen_send, seen_sends}
+use Rattle.bmx_ownership.proofs.Sends.{seen_sends}
 
 abbrev pub seen_known : Option Known → Option Holding
 seen_known k = option_map seen_holding k

@@ -1,24 +1,24 @@
 -- One more event, seen for one name, as steps of its machine.
-use Rattle.std.proofs.Common.{◌≡◌, ℕ, ◌+◌, arith, refl, ap, sym, subst, ◌∙◌, Bool, true, false, cond, List, [], ◌∷◌, ◌++◌, map}
-use Rattle.std.specs.Prelude.{◌==◌, ◌≢◌, Option, Some, None, replicate}
+use Rattle.std.proofs.Common.{◌≡◌, ℕ, ◌+◌, refl, ap, sym, subst, ◌∙◌, Bool, true, false, cond, List, [], ◌∷◌, ◌++◌, map}
+use Rattle.std.specs.Prelude.{◌==◌, ◌≢◌, Option, Some, None}
 use Rattle.std.specs.Option.{option_map}
 use Rattle.std.proofs.lemmas.List.{map-append}
 use Rattle.bmx_graph.specs.State.{put}
 use Rattle.bmx_msg.specs.declared.letters.Letter.{Letter}
 use Rattle.bmx_owner.specs.declared.entering.Record.{Record}
 use Rattle.bmx_protocol.specs.declared.events.Event.{Event}
-use Rattle.bmx_protocol.specs.Nodes.{NodeState, Known}
+use Rattle.bmx_protocol.specs.Nodes.{NodeState}
 use Rattle.bmx_protocol.specs.Rows.{Post, Row, next_name}
 use Rattle.bmx_protocol.specs.Steps.{Node}
 use Rattle.bmx_protocol.specs.Histories.{on_way}
-use Rattle.bmx_protocol.specs.Worlds.{World, world_of}
-use Rattle.bmx_object.specs.Machine.{Holding, Note, Tells, Slip, Numbers, Object, Send, send, Move, Act, at_one, at_two, with_holding, issue, issue_all, moved, move_of, take_notes, is_brought, got_in, popped, IsNowhere, made_holding, Step, Does, Takes, Writes, Run, Goes}
+use Rattle.bmx_protocol.specs.Worlds.{world_of}
+use Rattle.bmx_object.specs.Machine.{Note, Slip, Numbers, Object, send, Move, at_one, at_two, with_holding, issue, issue_all, moved, take_notes, is_brought, got_in, popped, IsNowhere, made_holding, Does, Takes, Writes, Run, Goes}
 use Rattle.bmx_object.specs.Machine.{Makes as MakesIt}
 use Rattle.bmx_ownership.specs.Seen.{seen, seen_slip, seen_notes, seen_numbers}
 use Rattle.bmx_ownership.proofs.Basics.{eqb_is, eqb_same, eqb_sym, eqb_apart, Two, Same, Apart, two}
-use Rattle.bmx_ownership.proofs.Sends.{seen_send, seen_sends, records_of}
+use Rattle.bmx_ownership.proofs.Sends.{seen_send, seen_sends}
 use Rattle.bmx_ownership.proofs.Rows.{seen_known, NoneRefers, MayTell, OnlyTell, Silent, Leaves, Did, Acts, Passes, Makes}
-use Rattle.bmx_ownership.proofs.Takes.{got_records, Issues, Own, Others, Took}
+use Rattle.bmx_ownership.proofs.Takes.{Issues, Own, Others, Took}
 use Rattle.bmx_ownership.proofs.Channels.{letters_by, way_left}
 use Rattle.bmx_ownership.proofs.Afters.{IsRowOf, IsReady, seen_after}
 
@@ -108,18 +108,25 @@ taking_run x nodes past e after row from l rest start t run = by_sends t.took.se
   where
     me : ℕ
     me = e.node
+
     o : Object
     o = seen x (world_of nodes past)
+
     s : NodeState
     s = (nodes me).state
+
     slip : Slip
     slip = seen_slip x l
+
     left : List Slip
     left = map (seen_slip x) rest
+
     q : Object
     q = popped o from me slip left
+
     move : Move
     move = t.took.move
+
     way : (n m : ℕ) → Two me m → Two from n → map (seen_slip x) (way_left past e from rest n m) ≡ at_two o.way from me left n m
     way n m (Same a) (Same b) =
         let at : (me == m) ≡ true = ap (λ (z : ℕ). me == z) (sym a) ∙ eqb_same me in
@@ -141,15 +148,19 @@ taking_run x nodes past e after row from l rest start t run = by_sends t.took.se
         not_me : (b : Bool) → (b ≡ true → n ≡ from) → cond b (at_one (o.way from) me left) (o.way n) m ≡ o.way n m
         not_me true q = ap (λ (c : Bool). cond c left (o.way from m)) (eqb_sym m me ∙ h) ∙ ap (λ (z : ℕ). o.way z m) (sym (q refl))
         not_me false q = refl
+
     got : Numbers
     got = got_in l.seq (o.entering me from)
+
     records_at : (b : Bool) (m : ℕ) →
         cond b (at_two o.entering me from (Some got)) o.entering me m ≡ cond b (cond (m == from) (Some got) (o.entering me m)) (o.entering me m)
     records_at true m = ap (λ (c : Bool). cond c (at_one (o.entering me) from (Some got)) (o.entering me) m) (eqb_same me)
     records_at false m = refl
+
     records_else : (b : Bool) (n m : ℕ) → me ≢ n → cond b (at_two o.entering me from (Some got)) o.entering n m ≡ o.entering n m
     records_else true n m d = ap (λ (c : Bool). cond c (at_one (o.entering me) from (Some got)) (o.entering n) m) (eqb_apart n me (λ a. d (sym a)))
     records_else false n m d = refl
+
     ready : IsReady x nodes e row past q
     ready = record {
       holds = λ n. refl;
@@ -163,8 +174,10 @@ taking_run x nodes past e after row from l rest start t run = by_sends t.took.se
           ∙ ap (λ (c : Bool). cond c (s.taken from + 1) (s.taken m)) (eqb_sym m from) ∙ ap (λ (f : ℕ → ℕ). f m) (sym t.took.taken);
       other_taken = λ n m d. ap (λ (c : Bool). cond c (at_one (o.taken me) from (o.taken me from + 1)) (o.taken n) m) (eqb_apart n me (λ a. d (sym a)));
     }
+
     is : seen x (world_of (put nodes me after) (past ++ e ∷ [])) ≡ issue_all (with_holding q me move.after) me (seen_sends x row.posts)
     is = seen_after x nodes e after row past q move.after t.row_of ready t.took.after
+
     by_sends : Issues x s row.posts move.sends → Run start (seen x (world_of (put nodes me after) (past ++ e ∷ [])))
     by_sends (Own sends) = Goes run (Takes from me slip left move (ap (map (seen_slip x)) t.first) t.took.makes
         (is ∙ ap (issue_all (with_holding q me move.after) me) sends))

@@ -5,7 +5,6 @@ use Rattle.std.specs.Prelude.{◌==◌, ◌||◌, max, Option, Some, None, unwra
 use Rattle.std.specs.Option.{option_map, option_map_or}
 use Rattle.std.proofs.lemmas.List.{append-nil}
 use Rattle.std.proofs.Common.{append_assoc}
-use Rattle.bmx_types.specs.declared.numbers.Mode.{Mode}
 use Rattle.bmx_types.specs.declared.numbers.Mode.TheVariants as mode
 use Rattle.bmx_graph.specs.State.{put, put_at}
 use Rattle.bmx_msg.specs.declared.letters.Letter.{Letter}
@@ -14,13 +13,12 @@ use Rattle.bmx_msg.specs.declared.letters.Msg.TheVariants as msg
 use Rattle.bmx_msg.specs.Letters.{given, targets}
 use Rattle.bmx_owner.specs.declared.entering.Record.{Record}
 use Rattle.bmx_owner.specs.Records.{blank, sent_by}
-use Rattle.bmx_protocol.specs.declared.inputs.Sending.{Sending}
 use Rattle.bmx_protocol.specs.Nodes.{NodeState}
 use Rattle.bmx_protocol.specs.Rows.{Post}
 use Rattle.bmx_protocol.specs.Steps.{with_given, with_names, with_records, issued_after, numbered}
 use Rattle.bmx_protocol.specs.Histories.{letters_to}
-use Rattle.bmx_object.specs.Machine.{Note, Tells, Slip, Numbers, is_gift, Grants, Object, at_one, at_two, Send, send, is_given, sent_in, records_after, issue, issue_all}
-use Rattle.bmx_ownership.specs.Seen.{note_if, tells, seen_notes, seen_slip, seen_numbers}
+use Rattle.bmx_object.specs.Machine.{Note, Tells, Slip, Numbers, is_gift, Grants, Object, at_one, at_two, Send, send, is_given, sent_in, issue, issue_all}
+use Rattle.bmx_ownership.specs.Seen.{tells, seen_notes, seen_slip, seen_numbers}
 use Rattle.std.proofs.lemmas.Bool.Decides.{nat_tests}
 use Rattle.bmx_ownership.proofs.Basics.{eqb_is, eqb_same, eqb_sym, Two, Same, Apart, two, put_same, put_apart}
 
@@ -110,6 +108,7 @@ record_at s y to x m r = by_two (two y x)
         by_test : (d : Bool) → seen_record (cond d (Some r) (s.entering x m)) ≡ cond d (Some (seen_numbers r)) (records_of x s m)
         by_test true = refl
         by_test false = refl
+
     by_two : Two y x →
         seen_record (put_at s.entering y to (Some r) x m)
         ≡ cond (y == x) (cond (m == to) (Some (seen_numbers r)) (records_of x s m)) (records_of x s m)
@@ -137,14 +136,17 @@ names_numbers x to seq (y ∷ names) s m =
   where
     now : Record
     now = sent_by seq (unwrap_or (s.entering y to) (blank y (option_map_or (λ k. k.bunch) (s.known y) 0) to))
+
     there : records_of x (with_given s to seq y) to ≡ cond (y == x) (Some (seen_numbers now)) (records_of x s to)
     there = record_at s y to x to now ∙ ap (λ (d : Bool). cond (y == x) (cond d (Some (seen_numbers now)) (records_of x s to)) (records_of x s to)) (eqb_same to)
+
     here : records_of x (with_given s to seq y) m ≡ cond (y == x) (cond (m == to) (Some (seen_numbers now)) (records_of x s m)) (records_of x s m)
     here = record_at s y to x m now
+
     by_two : Two y x →
         cond (listed x names) (cond (m == to) (Some (sent_in seq (cond (y == x) (Some (seen_numbers now)) (records_of x s to))))
-            (cond (y == x) (cond (m == to) (Some (seen_numbers now)) (records_of x s m)) (records_of x s m)))
-            (cond (y == x) (cond (m == to) (Some (seen_numbers now)) (records_of x s m)) (records_of x s m))
+        (cond (y == x) (cond (m == to) (Some (seen_numbers now)) (records_of x s m)) (records_of x s m)))
+        (cond (y == x) (cond (m == to) (Some (seen_numbers now)) (records_of x s m)) (records_of x s m))
         ≡ given_records ((y == x) || listed x names) (records_of x s) to seq m
     by_two (Same e) = once_more (y == x) (listed x names) (m == to) seq (records_of x s to) (records_of x s m) (seen_numbers now)
         (sent_is seq (s.entering y to) y _ to ∙ ap (λ (z : ℕ). sent_in seq (records_of z s to)) e)
@@ -179,9 +181,11 @@ none_issued x o me stamp c s at i = record {
     way : (n m : ℕ) (b : Bool) → o.way n m ≡ cond b (o.way n m ++ []) (o.way n m)
     way n m true = sym (append-nil (o.way n m))
     way n m false = refl
+
     entering : (n m : ℕ) (b : Bool) → (b ≡ true → n ≡ me) → o.entering n m ≡ cond b (records_of x s m) (o.entering n m)
     entering n m true q = ap (λ (k : ℕ). o.entering k m) (q refl) ∙ at.records m
     entering n m false q = refl
+
     issued : (n m : ℕ) (b : Bool) → (b ≡ true → n ≡ me) → o.issued n m ≡ cond b (c m) (o.issued n m)
     issued n m true q = ap (λ (k : ℕ). o.issued k m) (q refl) ∙ at.counts m
     issued n m false q = refl
@@ -196,14 +200,18 @@ one_more x o me c s p at = record {
   where
     seq : ℕ
     seq = o.issued me p.to + 1
+
     notes : List Note
     notes = seen_notes x p.msg
+
     same_seq : seq ≡ c p.to + 1
     same_seq = ap (λ (k : ℕ). k + 1) (at.counts p.to)
+
     changed : (m : ℕ) → at_two o.entering me p.to (Some (sent_in seq (o.entering me p.to))) me m
         ≡ cond (m == p.to) (Some (sent_in (c p.to + 1) (records_of x s p.to))) (records_of x s m)
     changed m = ap (λ (b : Bool). cond b (at_one (o.entering me) p.to (Some (sent_in seq (o.entering me p.to)))) (o.entering me) m) (eqb_same me)
         ∙ (λ i. cond (m == p.to) (Some (sent_in (same_seq i) (at.records p.to i))) (at.records m i))
+
     records : (m : ℕ) (b : Bool) → b ≡ listed x (given p.msg) →
         cond b (at_two o.entering me p.to (Some (sent_in seq (o.entering me p.to)))) o.entering me m
         ≡ records_of x (with_names s p.to (c p.to + 1) (given p.msg)) m
@@ -213,6 +221,7 @@ one_more x o me c s p at = record {
     records m false l = at.records m
         ∙ ap (λ (b : Bool). cond b (cond (m == p.to) (Some (sent_in (c p.to + 1) (records_of x s p.to))) (records_of x s m)) (records_of x s m)) l
         ∙ sym (names_numbers x p.to (c p.to + 1) (given p.msg) s m)
+
     counts : (m : ℕ) → at_two o.issued me p.to seq me m ≡ put c p.to (c p.to + 1) m
     counts m = ap (λ (b : Bool). cond b (at_one (o.issued me) p.to seq) (o.issued me) m) (eqb_same me)
         ∙ (λ i. cond (eqb_sym m p.to i) (same_seq i) (at.counts m i))
@@ -239,14 +248,19 @@ sent_first x o me stamp c s p posts at i = record {
   where
     c' : ℕ → ℕ
     c' = put c p.to (c p.to + 1)
+
     letter : Letter
     letter = record { seq = c p.to + 1; stamp = stamp; msg = p.msg }
+
     slip : Slip
     slip = record { seq = o.issued me p.to + 1; notes = seen_notes x p.msg }
+
     same : slip ≡ seen_slip x letter
     same j = record { seq = at.counts p.to j + 1; notes = seen_notes x p.msg }
+
     more : ℕ → List Letter
     more m = letters_to m (numbered c' stamp posts)
+
     one : (m : ℕ) → cond (m == p.to) (o.way me p.to ++ slip ∷ []) (o.way me m) ++ map (seen_slip x) (more m)
         ≡ o.way me m ++ map (seen_slip x) (cond (p.to == m) (letter ∷ more m) (more m))
     one m = by_two (two m p.to)
@@ -258,24 +272,30 @@ sent_first x o me stamp c s p posts at i = record {
             ≡ o.way me m ++ map (seen_slip x) (cond (m == p.to) (letter ∷ more m) (more m))) e
             (letter_first x (m == p.to) letter (o.way me m) (more m) slip same))
         by_two (Apart h d) = rw (eqb_sym p.to m) (rw h refl)
+
     way : (n m : ℕ) (b : Bool) → (b ≡ true → n ≡ me) →
         cond b (cond b (at_one (o.way me) p.to (o.way me p.to ++ slip ∷ [])) (o.way n) m ++ map (seen_slip x) (more m))
-            (cond b (at_one (o.way me) p.to (o.way me p.to ++ slip ∷ [])) (o.way n) m)
+        (cond b (at_one (o.way me) p.to (o.way me p.to ++ slip ∷ [])) (o.way n) m)
         ≡ cond b (o.way n m ++ map (seen_slip x) (cond (p.to == m) (letter ∷ more m) (more m))) (o.way n m)
     way n m true q = rw (q refl) (one m)
     way n m false q = refl
+
     given_to : Numbers
     given_to = sent_in (o.issued me p.to + 1) (o.entering me p.to)
+
     after : ℕ → Option Numbers
     after m = records_of x (with_records s (numbered c stamp (p ∷ posts))) m
+
     elsewhere : (n m : ℕ) (b : Bool) → cond b (after m) (cond b (at_one (o.entering me) p.to (Some given_to)) (o.entering n) m) ≡ cond b (after m) (o.entering n m)
     elsewhere n m true = refl
     elsewhere n m false = refl
+
     entering : (n m : ℕ) (g : Bool) →
         cond (n == me) (after m) (cond g (at_two o.entering me p.to (Some given_to)) o.entering n m)
         ≡ cond (n == me) (after m) (o.entering n m)
     entering n m true = elsewhere n m (n == me)
     entering n m false = refl
+
     issued : (n m : ℕ) (b : Bool) →
         cond b (issued_after c' posts m) (cond b (at_one (o.issued me) p.to (o.issued me p.to + 1)) (o.issued n) m)
         ≡ cond b (issued_after c' posts m) (o.issued n m)
@@ -288,5 +308,5 @@ pub issue_all_is : (x me stamp : ℕ) (posts : List Post) (o : Object) (c : ℕ 
 issue_all_is x me stamp [] o c s at = none_issued x o me stamp c s at
 issue_all_is x me stamp (p ∷ posts) o c s at =
     issue_all_is x me stamp posts (issue o me (seen_send x p)) (put c p.to (c p.to + 1)) (with_names s p.to (c p.to + 1) (given p.msg))
-        (one_more x o me c s p at)
+    (one_more x o me c s p at)
     ∙ sent_first x o me stamp c s p posts at

@@ -1,8 +1,7 @@
 -- Serving the queue of a name, seen for one name.
-use Rattle.std.proofs.Common.{◌≡◌, ℕ, ◌+◌, arith, refl, ap, sym, subst, ◌∙◌, Bool, true, false, cond, List, [], ◌∷◌, length, map}
-use Rattle.std.specs.Prelude.{◌==◌, ◌≢◌, Option, Some, None, replicate, unwrap_or, is_some}
+use Rattle.std.proofs.Common.{◌≡◌, ℕ, refl, ap, sym, subst, ◌∙◌, false, List, [], ◌∷◌, length, map}
+use Rattle.std.specs.Prelude.{◌==◌, Option, Some, None, unwrap_or}
 use Rattle.bmx_types.specs.declared.addresses.Place.{Place}
-use Rattle.bmx_types.specs.declared.addresses.Info.{Info}
 use Rattle.bmx_types.specs.declared.numbers.Mode.{Mode}
 use Rattle.bmx_types.specs.declared.numbers.Mode.TheVariants as mode
 use Rattle.bmx_msg.specs.declared.letters.Msg.{Msg}
@@ -13,14 +12,14 @@ use Rattle.bmx_token.specs.declared.parts.Part.{Part}
 use Rattle.bmx_token.specs.declared.answers.Served.{Served}
 use Rattle.bmx_token.specs.declared.answers.Served.TheVariants as served_is
 use Rattle.bmx_token.specs.Tokens.{serve}
-use Rattle.bmx_protocol.specs.Nodes.{NodeState, Known, with_known, with_part, without_copy}
-use Rattle.bmx_protocol.specs.Rows.{Post, post, Row, told_fields, info_of, ask_for, served, serve_known, serve_row}
-use Rattle.bmx_object.specs.Machine.{Holding, Note, Asks, Grants, Recalls, Tells, Send, send, Move, Act, Serves, move_of, grant, with_token, without_it}
+use Rattle.bmx_protocol.specs.Nodes.{NodeState, Known, with_part, without_copy}
+use Rattle.bmx_protocol.specs.Rows.{post, told_fields, ask_for, served, serve_known, serve_row}
+use Rattle.bmx_object.specs.Machine.{Note, Asks, Grants, Recalls, send, Move, Serves, grant}
 use Rattle.bmx_object.specs.Machine.{served as served_move}
 use Rattle.bmx_ownership.specs.Seen.{note_if, tells, seen_notes, seen_holding}
-use Rattle.bmx_ownership.proofs.Basics.{Two, Same, Apart, two, put_same, put_apart, note_same, note_apart}
-use Rattle.bmx_ownership.proofs.Sends.{seen_send, seen_sends}
-use Rattle.bmx_ownership.proofs.Rows.{seen_known, tells_times, none_told, MayTell, OnlyTell, says_nothing, Grows, AsBefore, OneMore, Leaves, Did, Acts, Passes, seen_same, seen_apart, asks_same, asks_apart}
+use Rattle.bmx_ownership.proofs.Basics.{Two, Same, Apart, two, note_same, note_apart}
+use Rattle.bmx_ownership.proofs.Sends.{seen_sends}
+use Rattle.bmx_ownership.proofs.Rows.{seen_known, tells_times, none_told, MayTell, OnlyTell, says_nothing, AsBefore, Leaves, Did, Acts, Passes, seen_same, seen_apart, asks_same, asks_apart}
 
 -- how many of the fields that are told refer to x
 abbrev selves_of : ℕ → NodeState → (ℕ → Place) → Known → ℕ
@@ -73,9 +72,10 @@ served_same x me s lies k p served_is.Ready is = (seen_same x s (with_part k p),
 served_same x me s lies k p (served_is.Read asker) is =
     (seen_same x s (with_part k p), λ i. send asker (granted_same x s lies k mode.Read i) ∷ [])
 served_same x me s lies k p (served_is.Revokes nodes) is = (seen_same x s (with_part k p), recalls_same x nodes)
-served_same x me s lies k p (served_is.Moves to rest) is =
-    (seen_same x s (without_copy (with_part k p)),
-    λ i. send to (granted_same x s lies k mode.Write i) ∷ asks_moved x to rest i)
+served_same x me s lies k p (served_is.Moves to rest) is = (
+  seen_same x s (without_copy (with_part k p)),
+  λ i. send to (granted_same x s lies k mode.Write i) ∷ asks_moved x to rest i,
+)
 
 -- about another
 served_apart : (x name : ℕ) (s : NodeState) (lies : ℕ → Place) (k : Known) (p : Part) (a : Served) → (name == x) ≡ false → s.known name ≡ Some k →
@@ -86,9 +86,10 @@ served_apart x name s lies k p (served_is.Read asker) h is =
     (seen_apart x name s (with_part k p) h, (granted_apart x name s lies k mode.Read asker _ h is refl, tt))
 served_apart x name s lies k p (served_is.Revokes nodes) h is =
     (seen_apart x name s (with_part k p) h, recalls_apart x name s nodes h)
-served_apart x name s lies k p (served_is.Moves to rest) h is =
-    (seen_apart x name s (without_copy (with_part k p)) h,
-    (granted_apart x name s lies k mode.Write to _ h is refl, asks_moved_apart x name s to rest h))
+served_apart x name s lies k p (served_is.Moves to rest) h is = (
+  seen_apart x name s (without_copy (with_part k p)) h,
+  (granted_apart x name s lies k mode.Write to _ h is refl, asks_moved_apart x name s to rest h),
+)
 
 serve_known_did : (x me : ℕ) (s : NodeState) (lies : ℕ → Place) (name : ℕ) (k : Option Known) → s.known name ≡ k → Did x me s (serve_known me s lies name k)
 serve_known_did x me s lies name None is = Passes refl tt
@@ -96,17 +97,18 @@ serve_known_did x me s lies name (Some k) is = by_two (two name x)
   where
     r : Part × Served
     r = serve me k.part
+
     by_two : Two name x → Did x me s (served s lies name k r.0 r.1)
     by_two (Same e) =
         let known : s.known x ≡ Some k = subst (λ (z : ℕ). s.known z ≡ Some k) e is in
         let both : (seen_known ((served s lies x k r.0 r.1).after.known x) ≡ (served_move (selves_of x s lies k) (seen_holding k) r.0 r.1).after)
-            × (seen_sends x (served s lies x k r.0 r.1).posts ≡ (served_move (selves_of x s lies k) (seen_holding k) r.0 r.1).sends)
-            = served_same x me s lies k r.0 r.1 known in
+        × (seen_sends x (served s lies x k r.0 r.1).posts ≡ (served_move (selves_of x s lies k) (seen_holding k) r.0 r.1).sends)
+        = served_same x me s lies k r.0 r.1 known in
         subst (λ (z : ℕ). Did x me s (served s lies z k r.0 r.1)) (sym e)
         (Acts (selves_of x s lies k) Serves (seen_holding k) _ (ap seen_known known) refl both.0 both.1)
     by_two (Apart h d) =
         let both : (seen_known ((served s lies name k r.0 r.1).after.known x) ≡ seen_known (s.known x)) × OnlyTell x s (served s lies name k r.0 r.1).posts
-            = served_apart x name s lies k r.0 r.1 h is in
+        = served_apart x name s lies k r.0 r.1 h is in
         Passes both.0 both.1
 
 pub serve_did : (x me : ℕ) (s : NodeState) (lies : ℕ → Place) (name : ℕ) → Did x me s (serve_row me s lies name)

@@ -1,5 +1,5 @@
 -- What a node has of an object it keeps: no move of the machine takes an entry away.
-use Rattle.std.proofs.Common.{◌≡◌, ℕ, refl, ap, sym, subst, ◌∙◌, Bool, true, false, cond, List, [], ◌∷◌}
+use Rattle.std.proofs.Common.{◌≡◌, ℕ, refl, Bool, true, false, List, [], ◌∷◌}
 use Rattle.std.specs.Prelude.{Option, Some, None, is_some}
 use Rattle.bmx_types.specs.declared.numbers.Mode.{Mode}
 use Rattle.bmx_token.specs.declared.parts.Part.{Part}

@@ -1,7 +1,6 @@
 -- Taking a letter, seen for one name: what the machine makes of what the letter says of it.
-use Rattle.std.proofs.Common.{◌≡◌, ℕ, ◌+◌, arith, refl, ap, sym, subst, ◌∙◌, Bool, true, false, cond, List, [], ◌∷◌, ◌++◌}
-use Rattle.std.specs.Prelude.{◌==◌, ◌≢◌, ◌||◌, Option, Some, None, is_some, unwrap_or, filter_map}
-use Rattle.std.specs.Option.{option_map}
+use Rattle.std.proofs.Common.{◌≡◌, ℕ, ◌+◌, refl, ap, sym, subst, ◌∙◌, Bool, true, false, cond, List, [], ◌∷◌}
+use Rattle.std.specs.Prelude.{◌==◌, Option, Some, None, is_some, unwrap_or, filter_map}
 use Rattle.bmx_types.specs.declared.addresses.Info.{Info}
 use Rattle.bmx_types.specs.declared.numbers.Mode.{Mode}
 use Rattle.bmx_types.specs.declared.numbers.Mode.TheVariants as mode
@@ -20,13 +19,13 @@ use Rattle.bmx_token.specs.declared.answers.Revoked.{Revoked}
 use Rattle.bmx_token.specs.declared.answers.Revoked.TheVariants as revoked_is
 use Rattle.bmx_token.specs.Tokens.{request, granted, inval, ack}
 use Rattle.bmx_protocol.specs.declared.inputs.NodeAnswer.TheVariants as answer
-use Rattle.bmx_protocol.specs.Nodes.{NodeState, Known, with_known, with_part, without_copy}
-use Rattle.bmx_protocol.specs.Rows.{Post, post, Row, stray, ask_for, info_in, infos, heard_of, hear, hear_all, with_copy, requested, take_request, read_granted, take_read_grant, write_granted, take_write_grant, invalidated, take_inval, acknowledged, take_ack, take_row}
-use Rattle.bmx_object.specs.Machine.{Holding, Note, Asks, Grants, Recalls, Returns, Tells, Numbers, Send, send, Move, got_in, heard_from, take_note, take_notes, take_no_note, take_more, and_then, is_brought, with_it, stays}
+use Rattle.bmx_protocol.specs.Nodes.{NodeState, Known, with_part, without_copy}
+use Rattle.bmx_protocol.specs.Rows.{Post, post, Row, stray, info_in, heard_of, hear, hear_all, with_copy, requested, take_request, read_granted, take_read_grant, write_granted, take_write_grant, invalidated, take_inval, acknowledged, take_ack, take_row}
+use Rattle.bmx_object.specs.Machine.{Holding, Note, Asks, Grants, Recalls, Returns, Tells, Numbers, Send, send, Move, got_in, take_note, take_notes, take_no_note, take_more, and_then, is_brought, with_it, stays}
 use Rattle.bmx_object.specs.Machine.{requested as requested_move, grant_taken, recalled, returned}
 use Rattle.bmx_ownership.specs.Seen.{note_if, tells, seen_notes, seen_holding, seen_numbers}
-use Rattle.bmx_ownership.proofs.Basics.{eqb_is, eqb_same, Two, Same, Apart, two, put_same, put_apart, note_same, note_apart}
-use Rattle.bmx_ownership.proofs.Sends.{seen_send, seen_sends, seen_record, records_of, record_at}
+use Rattle.bmx_ownership.proofs.Basics.{eqb_same, Two, Same, Apart, two, put_same, put_apart, note_same, note_apart}
+use Rattle.bmx_ownership.proofs.Sends.{seen_sends, seen_record, records_of, record_at}
 use Rattle.bmx_ownership.proofs.Rows.{seen_known, Silent, seen_same, seen_apart, asks_same, asks_apart}
 
 -- ## what a letter is for a name
@@ -79,10 +78,10 @@ by_name x me from seq s name k n rest row is same apart = by_two (two name x)
     by_two (Same e) =
         let known : s.known x ≡ Some k = subst (λ (z : ℕ). s.known z ≡ Some k) e is in
         let here : Noted x me from seq s (n ∷ rest) row
-            = subst (λ (h : Option Holding). Taken x from seq s (is_brought (n ∷ rest)) (take_notes me from (n ∷ rest) h) row)
-            (sym (ap seen_known known)) (same e known) in
+        = subst (λ (h : Option Holding). Taken x from seq s (is_brought (n ∷ rest)) (take_notes me from (n ∷ rest) h) row)
+        (sym (ap seen_known known)) (same e known) in
         let noted : Noted x me from seq s (note_if x x n rest) row
-            = subst (λ (l : List Note). Noted x me from seq s l row) (sym (note_same x n rest)) here in
+        = subst (λ (l : List Note). Noted x me from seq s l row) (sym (note_same x n rest)) here in
         subst (λ (z : ℕ). Noted x me from seq s (note_if x z n rest) row) (sym e) noted
     by_two (Apart h d) = subst (λ (l : List Note). Noted x me from seq s l row) (sym (note_apart x name n rest h)) (apart h)
 
@@ -91,23 +90,48 @@ by_name x me from seq s name k n rest row is same apart = by_two (two name x)
 requested_same : (x me from seq : ℕ) (s : NodeState) (k : Known) (m : Mode) (asker : ℕ) (p : Part) (a : Requested) → s.known x ≡ Some k →
     Taken x from seq s false (alone (requested_move me m asker (seen_holding k) p a)) (requested s from x k m asker p a)
 requested_same x me from seq s k m asker p requested_is.Queued is = Taking refl (record {
-  move = _; makes = refl; after = seen_same x s (with_part k p); sends = Own refl; entering = λ n. refl; issued = refl; taken = refl; names = refl;
+  move = _;
+  makes = refl;
+  after = seen_same x s (with_part k p);
+  sends = Own refl;
+  entering = λ n. refl;
+  issued = refl;
+  taken = refl;
+  names = refl;
 })
 requested_same x me from seq s k m asker p (requested_is.Forward parent) is = Taking refl (record {
-  move = _; makes = refl; after = ap seen_known is; sends = Own (λ i. send parent (asks_same x m asker i) ∷ []);
-  entering = λ n. refl; issued = refl; taken = refl; names = refl;
+  move = _;
+  makes = refl;
+  after = ap seen_known is;
+  sends = Own (λ i. send parent (asks_same x m asker i) ∷ []);
+  entering = λ n. refl;
+  issued = refl;
+  taken = refl;
+  names = refl;
 })
 requested_same x me from seq s k m asker p requested_is.Stray is = Strayed refl
 
 requested_apart : (x name from seq : ℕ) (s : NodeState) (k : Known) (m : Mode) (asker : ℕ) (p : Part) (a : Requested) → (name == x) ≡ false →
     Taken x from seq s false (nothing x s) (requested s from name k m asker p a)
 requested_apart x name from seq s k m asker p requested_is.Queued h = Taking refl (record {
-  move = _; makes = refl; after = seen_apart x name s (with_part k p) h; sends = Own refl; entering = λ n. refl; issued = refl; taken = refl; names = refl;
+  move = _;
+  makes = refl;
+  after = seen_apart x name s (with_part k p) h;
+  sends = Own refl;
+  entering = λ n. refl;
+  issued = refl;
+  taken = refl;
+  names = refl;
 })
 requested_apart x name from seq s k m asker p (requested_is.Forward parent) h = Taking refl (record {
-  move = _; makes = refl; after = refl;
+  move = _;
+  makes = refl;
+  after = refl;
   sends = Others refl (asks_apart x name m asker h, tt);
-  entering = λ n. refl; issued = refl; taken = refl; names = refl;
+  entering = λ n. refl;
+  issued = refl;
+  taken = refl;
+  names = refl;
 })
 requested_apart x name from seq s k m asker p requested_is.Stray h = Strayed refl
 
@@ -118,7 +142,7 @@ request_taken x me from seq s name m asker (Some k) is =
     let r : Part × Requested = request me k.part asker m in
     by_name x me from seq s name k (Asks m asker) [] (requested s from name k m asker r.0 r.1) is
     (λ e known. subst (λ (z : ℕ). Taken x from seq s false (alone (requested_move me m asker (seen_holding k) r.0 r.1)) (requested s from z k m asker r.0 r.1))
-        (sym e) (requested_same x me from seq s k m asker r.0 r.1 known))
+    (sym e) (requested_same x me from seq s k m asker r.0 r.1 known))
     (λ h. requested_apart x name from seq s k m asker r.0 r.1 h)
 
 -- ## recalls and returns
@@ -127,11 +151,24 @@ invalidated_same : (x from seq : ℕ) (s : NodeState) (k : Known) (p : Part) (a 
     Taken x from seq s false (alone (recalled from (seen_holding k) p a)) (invalidated s from x k p a)
 invalidated_same x from seq s k p None is = Strayed refl
 invalidated_same x from seq s k p (Some revoked_is.Now) is = Taking refl (record {
-  move = _; makes = refl; after = seen_same x s (without_copy (with_part k p)); sends = Own (λ i. send from (note_same x Returns [] i) ∷ []);
-  entering = λ n. refl; issued = refl; taken = refl; names = refl;
+  move = _;
+  makes = refl;
+  after = seen_same x s (without_copy (with_part k p));
+  sends = Own (λ i. send from (note_same x Returns [] i) ∷ []);
+  entering = λ n. refl;
+  issued = refl;
+  taken = refl;
+  names = refl;
 })
 invalidated_same x from seq s k p (Some revoked_is.AtRelease) is = Taking refl (record {
-  move = _; makes = refl; after = seen_same x s (with_part k p); sends = Own refl; entering = λ n. refl; issued = refl; taken = refl; names = refl;
+  move = _;
+  makes = refl;
+  after = seen_same x s (with_part k p);
+  sends = Own refl;
+  entering = λ n. refl;
+  issued = refl;
+  taken = refl;
+  names = refl;
 })
 
 -- an acknowledgement of another
@@ -142,11 +179,24 @@ invalidated_apart : (x name from seq : ℕ) (s : NodeState) (k : Known) (p : Par
     Taken x from seq s false (nothing x s) (invalidated s from name k p a)
 invalidated_apart x name from seq s k p None h = Strayed refl
 invalidated_apart x name from seq s k p (Some revoked_is.Now) h = Taking refl (record {
-  move = _; makes = refl; after = seen_apart x name s (without_copy (with_part k p)) h; sends = Others refl (returns_apart x name from s h);
-  entering = λ n. refl; issued = refl; taken = refl; names = refl;
+  move = _;
+  makes = refl;
+  after = seen_apart x name s (without_copy (with_part k p)) h;
+  sends = Others refl (returns_apart x name from s h);
+  entering = λ n. refl;
+  issued = refl;
+  taken = refl;
+  names = refl;
 })
 invalidated_apart x name from seq s k p (Some revoked_is.AtRelease) h = Taking refl (record {
-  move = _; makes = refl; after = seen_apart x name s (with_part k p) h; sends = Own refl; entering = λ n. refl; issued = refl; taken = refl; names = refl;
+  move = _;
+  makes = refl;
+  after = seen_apart x name s (with_part k p) h;
+  sends = Own refl;
+  entering = λ n. refl;
+  issued = refl;
+  taken = refl;
+  names = refl;
 })
 
 -- a recall of what the node doesn't know
@@ -158,18 +208,30 @@ unknown_recalled x me from seq s name is = by_two (two name x)
     by_two (Same e) =
         let known : seen_known (s.known x) ≡ None = subst (λ (z : ℕ). seen_known (s.known z) ≡ None) e (ap seen_known is) in
         let same : Taken x from seq s false (take_notes me from (Recalls ∷ []) None) (take_inval s from x None) = Taking refl (record {
-          move = _; makes = refl; after = known; sends = Own (λ i. send from (note_same x Returns [] i) ∷ []);
-          entering = λ n. refl; issued = refl; taken = refl; names = refl;
+          move = _;
+          makes = refl;
+          after = known;
+          sends = Own (λ i. send from (note_same x Returns [] i) ∷ []);
+          entering = λ n. refl;
+          issued = refl;
+          taken = refl;
+          names = refl;
         }) in
         let here : Noted x me from seq s (Recalls ∷ []) (take_inval s from x None)
-            = subst (λ (h : Option Holding). Taken x from seq s false (take_notes me from (Recalls ∷ []) h) (take_inval s from x None)) (sym known) same in
+        = subst (λ (h : Option Holding). Taken x from seq s false (take_notes me from (Recalls ∷ []) h) (take_inval s from x None)) (sym known) same in
         let noted : Noted x me from seq s (note_if x x Recalls []) (take_inval s from x None)
-            = subst (λ (l : List Note). Noted x me from seq s l (take_inval s from x None)) (sym (note_same x Recalls [])) here in
+        = subst (λ (l : List Note). Noted x me from seq s l (take_inval s from x None)) (sym (note_same x Recalls [])) here in
         subst (λ (z : ℕ). Noted x me from seq s (note_if x z Recalls []) (take_inval s from z None)) (sym e) noted
     by_two (Apart h d) = subst (λ (l : List Note). Noted x me from seq s l (take_inval s from name None)) (sym (note_apart x name Recalls [] h))
         (Taking refl (record {
-          move = _; makes = refl; after = refl; sends = Others refl (returns_apart x name from s h);
-          entering = λ n. refl; issued = refl; taken = refl; names = refl;
+          move = _;
+          makes = refl;
+          after = refl;
+          sends = Others refl (returns_apart x name from s h);
+          entering = λ n. refl;
+          issued = refl;
+          taken = refl;
+          names = refl;
         }))
 
 inval_taken : (x me from seq : ℕ) (s : NodeState) (name : ℕ) (k : Option Known) → s.known name ≡ k →
@@ -179,20 +241,34 @@ inval_taken x me from seq s name (Some k) is =
     let r : Part × Option Revoked = inval k.part from (is_some k.copy) in
     by_name x me from seq s name k Recalls [] (invalidated s from name k r.0 r.1) is
     (λ e known. subst (λ (z : ℕ). Taken x from seq s false (alone (recalled from (seen_holding k) r.0 r.1)) (invalidated s from z k r.0 r.1))
-        (sym e) (invalidated_same x from seq s k r.0 r.1 known))
+    (sym e) (invalidated_same x from seq s k r.0 r.1 known))
     (λ h. invalidated_apart x name from seq s k r.0 r.1 h)
 
 acknowledged_same : (x from seq : ℕ) (s : NodeState) (k : Known) (p : Part) (b : Bool) →
     Taken x from seq s false (alone (returned (seen_holding k) p b)) (acknowledged s from x k p b)
 acknowledged_same x from seq s k p true = Taking refl (record {
-  move = _; makes = refl; after = seen_same x s (with_part k p); sends = Own refl; entering = λ n. refl; issued = refl; taken = refl; names = refl;
+  move = _;
+  makes = refl;
+  after = seen_same x s (with_part k p);
+  sends = Own refl;
+  entering = λ n. refl;
+  issued = refl;
+  taken = refl;
+  names = refl;
 })
 acknowledged_same x from seq s k p false = Strayed refl
 
 acknowledged_apart : (x name from seq : ℕ) (s : NodeState) (k : Known) (p : Part) (b : Bool) → (name == x) ≡ false →
     Taken x from seq s false (nothing x s) (acknowledged s from name k p b)
 acknowledged_apart x name from seq s k p true h = Taking refl (record {
-  move = _; makes = refl; after = seen_apart x name s (with_part k p) h; sends = Own refl; entering = λ n. refl; issued = refl; taken = refl; names = refl;
+  move = _;
+  makes = refl;
+  after = seen_apart x name s (with_part k p) h;
+  sends = Own refl;
+  entering = λ n. refl;
+  issued = refl;
+  taken = refl;
+  names = refl;
 })
 acknowledged_apart x name from seq s k p false h = Strayed refl
 
@@ -203,7 +279,7 @@ ack_taken x me from seq s name (Some k) is =
     let r : Part × Bool = ack k.part from in
     by_name x me from seq s name k Returns [] (acknowledged s from name k r.0 r.1) is
     (λ e known. subst (λ (z : ℕ). Taken x from seq s false (alone (returned (seen_holding k) r.0 r.1)) (acknowledged s from z k r.0 r.1))
-        (sym e) (acknowledged_same x from seq s k r.0 r.1))
+    (sym e) (acknowledged_same x from seq s k r.0 r.1))
     (λ h. acknowledged_apart x name from seq s k r.0 r.1 h)
 
 -- ## hearing
@@ -258,15 +334,17 @@ heard me from x (told.Ref info ∷ fields) known =
   where
     rest : List Note
     rest = tells x (targets fields)
+
     last : Option Known
     last = hear_all from (hear from known info) (filter_map info_in fields) x
+
     by_two : Two info.name x → take_notes me from rest (seen_known (hear from known info x)) ≡ Some (take_no_note (seen_known last)) →
         take_notes me from (note_if x info.name Tells rest) (seen_known (known x)) ≡ Some (take_no_note (seen_known last))
     by_two (Same e) more =
         ap (λ (b : Bool). take_notes me from (cond b (Tells ∷ rest) rest) (seen_known (known x))) (ap (λ (z : ℕ). info.name == z) (sym e) ∙ eqb_same info.name)
         ∙ ap (λ (m : Option Move). and_then m (λ h. take_notes me from rest h))
-            (subst (λ (z : ℕ). take_note me from Tells (seen_known (known z)) ≡ Some (take_no_note (seen_known (hear from known info z)))) e
-            (hear_same me from known info))
+        (subst (λ (z : ℕ). take_note me from Tells (seen_known (known z)) ≡ Some (take_no_note (seen_known (hear from known info z)))) e
+        (hear_same me from known info))
         ∙ ap (take_more (take_no_note (seen_known (hear from known info x)))) more
     by_two (Apart h d) more =
         ap (λ (b : Bool). take_notes me from (cond b (Tells ∷ rest) rest) (seen_known (known x))) h
@@ -301,7 +379,8 @@ read_same me from seq s info fields k p true = Taking refl (record {
   sends = Own refl;
   entering = λ n. ap (λ (b : Bool). got_records b (records_of info.name s) from seq n) (sym (tells_bring info.name (targets fields)));
   issued = refl;
-  taken = refl; names = refl;
+  taken = refl;
+  names = refl;
 })
 
 read_apart : (x me from seq : ℕ) (s : NodeState) (info : Info) (fields : List Field) (k : Known) (p : Part) (b : Bool) → (info.name == x) ≡ false →
@@ -314,7 +393,8 @@ read_apart x me from seq s info fields k p true h = Taking refl (record {
   sends = Own refl;
   entering = λ n. ap (λ (b : Bool). got_records b (records_of x s) from seq n) (sym (tells_bring x (targets fields)));
   issued = refl;
-  taken = refl; names = refl;
+  taken = refl;
+  names = refl;
 })
 
 read_grant_taken : (x me from seq : ℕ) (s : NodeState) (info : Info) (fields : List Field) (k : Option Known) → s.known info.name ≡ k →
@@ -324,8 +404,8 @@ read_grant_taken x me from seq s info fields (Some k) is =
     let r : Part × Bool = granted k.part from mode.Read in
     by_name x me from seq s info.name k (Grants mode.Read) (tells x (targets fields)) (read_granted s from info fields k r.0 r.1) is
     (λ e known. subst (λ (z : ℕ). Taken z from seq s (is_brought (tells z (targets fields)))
-        (and_then (grant_taken (seen_holding k) r.0 r.1) (λ h. take_notes me from (tells z (targets fields)) h)) (read_granted s from info fields k r.0 r.1))
-        e (read_same me from seq s info fields k r.0 r.1))
+    (and_then (grant_taken (seen_holding k) r.0 r.1) (λ h. take_notes me from (tells z (targets fields)) h)) (read_granted s from info fields k r.0 r.1))
+    e (read_same me from seq s info fields k r.0 r.1))
     (λ h. read_apart x me from seq s info fields k r.0 r.1 h)
 
 got_is : (seq : ℕ) (r : Option Record) (name bunch node : ℕ) →
@@ -360,7 +440,8 @@ write_same me from seq s info fields k p true = Taking refl (record {
   entering = λ n. taken_over info.name from seq s info.name k.bunch n
       ∙ ap (λ (b : Bool). got_records b (records_of info.name s) from seq n) (eqb_same info.name);
   issued = refl;
-  taken = refl; names = refl;
+  taken = refl;
+  names = refl;
 })
 
 write_apart : (x me from seq : ℕ) (s : NodeState) (info : Info) (fields : List Field) (k : Known) (p : Part) (b : Bool) → (info.name == x) ≡ false →
@@ -374,7 +455,8 @@ write_apart x me from seq s info fields k p true h = Taking refl (record {
   entering = λ n. taken_over x from seq s info.name k.bunch n
       ∙ ap (λ (b : Bool). got_records b (records_of x s) from seq n) (h ∙ sym (tells_bring x (targets fields)));
   issued = refl;
-  taken = refl; names = refl;
+  taken = refl;
+  names = refl;
 })
 
 write_grant_taken : (x me from seq : ℕ) (s : NodeState) (info : Info) (fields : List Field) (k : Option Known) → s.known info.name ≡ k →
@@ -384,8 +466,8 @@ write_grant_taken x me from seq s info fields (Some k) is =
     let r : Part × Bool = granted k.part from mode.Write in
     by_name x me from seq s info.name k (Grants mode.Write) (tells x (targets fields)) (write_granted s from seq info fields k r.0 r.1) is
     (λ e known. subst (λ (z : ℕ). Taken z from seq s true
-        (and_then (grant_taken (seen_holding k) r.0 r.1) (λ h. take_notes me from (tells z (targets fields)) h)) (write_granted s from seq info fields k r.0 r.1))
-        e (write_same me from seq s info fields k r.0 r.1))
+    (and_then (grant_taken (seen_holding k) r.0 r.1) (λ h. take_notes me from (tells z (targets fields)) h)) (write_granted s from seq info fields k r.0 r.1))
+    e (write_same me from seq s info fields k r.0 r.1))
     (λ h. write_apart x me from seq s info fields k r.0 r.1 h)
 
 -- ## the letter

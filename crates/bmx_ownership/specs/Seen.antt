@@ -1,6 +1,6 @@
 -- What the machine of one object sees of a store: of each node what it has of the object, and of each
 -- letter what it says of it.
-use Rattle.std.specs.Prelude.{◌≡◌, ℕ, ◌==◌, true, false, if◌then◌else◌, List, [], ◌∷◌, map, Option, Some, None, is_some, pos, refl}
+use Rattle.std.specs.Prelude.{◌≡◌, ℕ, ◌==◌, if◌then◌else◌, List, [], ◌∷◌, map, is_some, pos, refl}
 use Rattle.std.specs.Option.{option_map}
 use Rattle.bmx_types.specs.declared.numbers.Mode.TheVariants as mode
 use Rattle.bmx_types.specs.declared.addresses.Info.{Info}
