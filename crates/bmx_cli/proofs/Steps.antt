@@ -16,7 +16,7 @@ use Rattle.bmx_script.specs.Grammar.{fits_operand, fits_command, in_range, known
 use Rattle.bmx_cli.specs.declared.runs.Step.{Step}
 use Rattle.bmx_cli.specs.declared.runs.Runner.{Runner}
 use Rattle.bmx_cli.specs.Texts.{answer_line, step_text, text_of}
-use Rattle.bmx_cli.specs.Runs.{Order, order_of, program, done_by, act_of, opening_of, anchors, Follows, Runs}
+use Rattle.bmx_cli.specs.Runs.{AreAnswers, Order, order_of, program, done_by, act_of, opening_of, anchors, Follows, Runs}
 use Rattle.bmx_cli.proofs.Anchors.{length-anchors}
 use Rattle.bmx_cli.specs.Progress.{FitsLine, HasNames, SameSteps, Acts, GoesBy, Goes, IsAt}
 use Rattle.bmx_types.specs.declared.values.Val.{Val}
@@ -29,39 +29,10 @@ use Rattle.bmx_graph.specs.declared.answers.Answer.TheVariants as answer
 use Rattle.bmx_types.specs.declared.openings.Birth.{Birth}
 use Rattle.bmx_graph.specs.declared.graphs.Graph.{Graph}
 use Rattle.bmx_graph.specs.State.{State, opening_state}
-use Rattle.bmx_graph.specs.Step.{Act, IsAnswer, MayAnswer, answer_of, state_after, state_after_all, IsRun, effect_of, with_held, with_field, got, raised, raised_to, target_of, field_at, sum_of, value_of}
-
--- the graph's own answer may be given
-pub may_self : (c : Command) (a : Answer) → MayAnswer c a a
-may_self (command.New r b s) answer.Nil = refl
-may_self (command.New r b s) (answer.Value v) = refl
-may_self (command.New r b s) answer.Yes = refl
-may_self (command.New r b s) answer.No = refl
-may_self (command.New r b s) answer.Wait = refl
-may_self (command.New r b s) (answer.Refused why) = refl
-may_self (command.Copy r v) a = refl
-may_self (command.Drop r) a = refl
-may_self (command.Read on) answer.Nil = refl
-may_self (command.Read on) (answer.Value v) = refl
-may_self (command.Read on) answer.Yes = refl
-may_self (command.Read on) answer.No = refl
-may_self (command.Read on) answer.Wait = refl
-may_self (command.Read on) (answer.Refused why) = refl
-may_self (command.Write on) answer.Nil = refl
-may_self (command.Write on) (answer.Value v) = refl
-may_self (command.Write on) answer.Yes = refl
-may_self (command.Write on) answer.No = refl
-may_self (command.Write on) answer.Wait = refl
-may_self (command.Write on) (answer.Refused why) = refl
-may_self (command.Done on) a = refl
-may_self (command.Set on i v) a = refl
-may_self (command.Add on i k) a = refl
-may_self (command.Get r on i) a = refl
-may_self (command.Show on i) a = refl
-may_self (command.Same l r) a = refl
+use Rattle.bmx_graph.specs.Step.{Act, answer_of, state_after, state_after_all, effect_of, with_held, with_field, got, raised, raised_to, target_of, field_at, sum_of, value_of}
 
 -- a run goes on by an act
-pub run_push : (s : State) (acts : List Act) (a : Act) → IsRun s acts → IsAnswer (state_after_all s acts) a.node a.command a.answer → IsRun s (acts ++ a ∷ [])
+pub run_push : (s : State) (acts : List Act) (a : Act) → AreAnswers s acts → a.answer ≡ answer_of (state_after_all s acts) a.node a.command → AreAnswers s (acts ++ a ∷ [])
 run_push s [] a run here = (here, tt)
 run_push s (b ∷ acts) a run here = (run.0, run_push (state_after s b.node b.command b.answer) acts a run.1 here)
 
@@ -202,13 +173,11 @@ acted_at lines done old new node number c at acts =
     let opened : State = opening_of lines in
     let before : state_of old.graph ≡ state_after_all opened (map act_of old.history) = at.state in
     let given : acts.answer ≡ answer_of (state_after_all opened (map act_of old.history)) node c = acts.answer_is ∙ ap (λ s. answer_of s node c) before in
-    let allowed : IsAnswer (state_after_all opened (map act_of old.history)) node c acts.answer =
-    subst (λ (a : Answer). MayAnswer c a acts.answer) given (may_self c acts.answer) in
     record {
       commands = ap (map done_by) acts.history ∙ map-push done_by old.history step ∙ ap (λ os. os ++ done_by step ∷ []) at.commands
           ∙ sym (program-append done (record { number = number; what = line.Do node c } ∷ []));
-      answers = subst (λ (acts_now : List Act). IsRun opened acts_now) (sym (ap (map act_of) acts.history ∙ map-push act_of old.history step))
-          (run_push opened (map act_of old.history) (act_of step) at.answers allowed);
+      answers = subst (λ (acts_now : List Act). AreAnswers opened acts_now) (sym (ap (map act_of) acts.history ∙ map-push act_of old.history step))
+          (run_push opened (map act_of old.history) (act_of step) at.answers given);
       state = acts.graph ∙ ap (λ s. state_after s node c acts.answer) before ∙ sym (state_push opened (map act_of old.history) (act_of step))
           ∙ ap (state_after_all opened) (sym (ap (map act_of) acts.history ∙ map-push act_of old.history step));
       text = acts.text ∙ ap (λ t. t ++ step_text step) at.text ∙ sym (ap text_of acts.history ∙ text-push old.history step);
@@ -256,7 +225,7 @@ stopped lines done rest old new all at same = (
   record {
     rest = program rest;
     commands = ap (λ h. map done_by h ++ program rest) same.history ∙ ap (λ os. os ++ program rest) at.commands ∙ sym (program-append done rest) ∙ ap program all;
-    answers = subst (λ (h : List Step). IsRun (opening_of lines) (map act_of h)) (sym same.history) at.answers;
+    answers = subst (λ (h : List Step). AreAnswers (opening_of lines) (map act_of h)) (sym same.history) at.answers;
     printed = subst (λ (h : List Step). map (λ s. s.printed) h ≡ map step_text h) (sym same.history) at.printed;
   },
   same.text ∙ at.text ∙ ap text_of (sym same.history),

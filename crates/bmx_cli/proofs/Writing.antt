@@ -44,23 +44,23 @@ runs_follow words bytes run whole = record {
 }
 
 -- how the end of a run explains the program's
-pub explained : (words : List (List ℕ)) (bytes : List ℕ) (source_rose rose : Type 0) (before behind : Option (List ℕ)) (run : Run) (e : RunEnd) (s : Status)
-    → misfit_in words ≡ None → IsReading bytes (Ok run.script) → IsEnd run.script run.history run.text e → Ends run e rose before behind s
-    → Explains words bytes source_rose rose before behind s (Some run)
-explained words bytes source_rose rose before behind run end.Ended status.Done usage script at ends = (whole_of words bytes run usage script at, ends.0, ends.1)
-explained words bytes source_rose rose before behind run end.Ended status.SomeRefused usage script at ends = (whole_of words bytes run usage script at, ends.0, ends.1)
-explained words bytes source_rose rose before behind run end.Ended status.WriteFault usage script at ends = (whole_of words bytes run usage script at, ends.0, ends.1)
-explained words bytes source_rose rose before behind run end.Ended status.NoMemory usage script at ends = (runs_follow words bytes run (whole_of words bytes run usage script at), ends)
-explained words bytes source_rose rose before behind run end.Ended (status.Usage k) usage script at ends = absurd ends
-explained words bytes source_rose rose before behind run end.Ended (status.BadScript b) usage script at ends = absurd ends
-explained words bytes source_rose rose before behind run end.Ended status.ReadFault usage script at ends = absurd ends
-explained words bytes source_rose rose before behind run end.NoMemory status.NoMemory usage script at ends = (record { usage = usage; script = script; history = at.0; text = at.1 }, ends)
-explained words bytes source_rose rose before behind run end.NoMemory status.Done usage script at ends = absurd ends
-explained words bytes source_rose rose before behind run end.NoMemory status.SomeRefused usage script at ends = absurd ends
-explained words bytes source_rose rose before behind run end.NoMemory status.WriteFault usage script at ends = absurd ends
-explained words bytes source_rose rose before behind run end.NoMemory (status.Usage k) usage script at ends = absurd ends
-explained words bytes source_rose rose before behind run end.NoMemory (status.BadScript b) usage script at ends = absurd ends
-explained words bytes source_rose rose before behind run end.NoMemory status.ReadFault usage script at ends = absurd ends
+pub explained : (words : List (List ℕ)) (bytes : List ℕ) (read source_rose rose : Type 0) (before behind : Option (List ℕ)) (run : Run) (e : RunEnd) (s : Status)
+    → read → misfit_in words ≡ None → IsReading bytes (Ok run.script) → IsEnd run.script run.history run.text e → Ends run e rose before behind s
+    → Explains words bytes read source_rose rose before behind s (Some run)
+explained words bytes read source_rose rose before behind run end.Ended status.Done all usage script at ends = (all, whole_of words bytes run usage script at, ends.0, ends.1)
+explained words bytes read source_rose rose before behind run end.Ended status.SomeRefused all usage script at ends = (all, whole_of words bytes run usage script at, ends.0, ends.1)
+explained words bytes read source_rose rose before behind run end.Ended status.WriteFault all usage script at ends = (all, whole_of words bytes run usage script at, ends.0, ends.1)
+explained words bytes read source_rose rose before behind run end.Ended status.NoMemory all usage script at ends = (all, runs_follow words bytes run (whole_of words bytes run usage script at), ends)
+explained words bytes read source_rose rose before behind run end.Ended (status.Usage k) all usage script at ends = absurd ends
+explained words bytes read source_rose rose before behind run end.Ended (status.BadScript b) all usage script at ends = absurd ends
+explained words bytes read source_rose rose before behind run end.Ended status.ReadFault all usage script at ends = absurd ends
+explained words bytes read source_rose rose before behind run end.NoMemory status.NoMemory all usage script at ends = (all, record { usage = usage; script = script; history = at.0; text = at.1 }, ends)
+explained words bytes read source_rose rose before behind run end.NoMemory status.Done all usage script at ends = absurd ends
+explained words bytes read source_rose rose before behind run end.NoMemory status.SomeRefused all usage script at ends = absurd ends
+explained words bytes read source_rose rose before behind run end.NoMemory status.WriteFault all usage script at ends = absurd ends
+explained words bytes read source_rose rose before behind run end.NoMemory (status.Usage k) all usage script at ends = absurd ends
+explained words bytes read source_rose rose before behind run end.NoMemory (status.BadScript b) all usage script at ends = absurd ends
+explained words bytes read source_rose rose before behind run end.NoMemory status.ReadFault all usage script at ends = absurd ends
 
 -- the first bytes of what a source has left
 pub first_of : Option (List ℕ) → List ℕ
@@ -77,8 +77,8 @@ nothing_written None = tt
 nothing_written (Some xs) = sym (append-nil xs)
 
 -- an answer with no run
-pub refused_as : (words : List (List ℕ)) (bytes : List ℕ) (source_rose rose : Type 0) (before behind : Option (List ℕ)) (s t : Status) (run : Option Run)
-    → t ≡ s → run ≡ None → Explains words bytes source_rose rose before behind s None → Explains words bytes source_rose rose before behind t run
-refused_as words bytes source_rose rose before behind s t run same none why =
-    subst (λ (r : Option Run). Explains words bytes source_rose rose before behind t r) (sym none)
-    (subst (λ (u : Status). Explains words bytes source_rose rose before behind u None) (sym same) why)
+pub refused_as : (words : List (List ℕ)) (bytes : List ℕ) (read source_rose rose : Type 0) (before behind : Option (List ℕ)) (s t : Status) (run : Option Run)
+    → t ≡ s → run ≡ None → Explains words bytes read source_rose rose before behind s None → Explains words bytes read source_rose rose before behind t run
+refused_as words bytes read source_rose rose before behind s t run same none why =
+    subst (λ (r : Option Run). Explains words bytes read source_rose rose before behind t r) (sym none)
+    (subst (λ (u : Status). Explains words bytes read source_rose rose before behind u None) (sym same) why)

@@ -3,7 +3,7 @@ use Rattle.std.specs.Prelude.{◌≡◌, ℕ, ◌+◌, ◌-◌, ◌^◌, ◌<◌
 use Rattle.bmx_types.specs.declared.commands.Command.{Command}
 use Rattle.bmx_graph.specs.declared.answers.Answer.{Answer}
 use Rattle.bmx_graph.specs.State.{State}
-use Rattle.bmx_graph.specs.Step.{answer_of, state_after, state_after_all, IsRun}
+use Rattle.bmx_graph.specs.Step.{answer_of, state_after, state_after_all}
 use Rattle.bmx_graph.specs.Graphs.{state_of, HasRegisters}
 use Rattle.bmx_script.specs.declared.lines.Line.{Line}
 use Rattle.bmx_script.specs.declared.lines.LineKind.{LineKind}
@@ -13,7 +13,7 @@ use Rattle.bmx_cli.specs.declared.runs.Runner.{Runner}
 use Rattle.bmx_cli.specs.declared.runs.RunEnd.{RunEnd}
 use Rattle.bmx_cli.specs.declared.runs.RunEnd.TheVariants as end
 use Rattle.bmx_cli.specs.Texts.{answer_line, step_text, text_of}
-use Rattle.bmx_cli.specs.Runs.{Order, order_of, program, done_by, act_of, opening_of, Follows, Runs}
+use Rattle.bmx_cli.specs.Runs.{program, done_by, act_of, opening_of, AreAnswers, Follows, Runs}
 
 -- the registers of a line's command are of the 16
 abbrev pub FitsLine : LineKind → Type 0
@@ -48,7 +48,7 @@ Goes old l new = GoesBy old l.number l.what new
 -- the commands of these lines are done, of all lines of the script
 pub record IsAt (lines done : List Line) (r : Runner) : Type 0 where
   pub commands : map done_by r.history ≡ program done
-  pub answers : IsRun (opening_of lines) (map act_of r.history)
+  pub answers : AreAnswers (opening_of lines) (map act_of r.history)
   pub state : state_of r.graph ≡ state_after_all (opening_of lines) (map act_of r.history)
   pub text : r.text ≡ text_of r.history
   pub printed : map (λ s. s.printed) r.history ≡ map step_text r.history

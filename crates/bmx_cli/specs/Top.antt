@@ -1,5 +1,5 @@
 -- What the program answers, and why.
-use Rattle.std.specs.Prelude.{◌≡◌, ℕ, ◌+◌, ◌^◌, true, false, List, [], Option, Some, None, Ok, Err, length, take, IfSome}
+use Rattle.std.specs.Prelude.{◌≡◌, ℕ, ◌+◌, ◌^◌, true, false, List, [], Option, Some, None, Ok, Err, length, take, drop, IfSome}
 use Rattle.std.specs.Io.KnownBytes.{Appends}
 use Rattle.bmx_outside.specs.Streams.{AppendsPart}
 use Rattle.bmx_script.specs.Grammar.{IsReading}
@@ -19,6 +19,10 @@ read_limit = 2 ^ 20 + 1
 -- the bytes are the first that the source had left, where it tells
 abbrev pub IsFirstOf : Option (List ℕ) → List ℕ → Type 0
 IsFirstOf left bytes = IfSome left (λ all. bytes ≡ take read_limit all)
+
+-- the source was read to its end, or to that many bytes, where it tells
+abbrev pub IsRead : Option (List ℕ) → Option (List ℕ) → Type 0
+IsRead left left_now = IfSome left (λ all. left_now ≡ Some (drop read_limit all))
 
 -- the words are right, and a run was made of the script that the bytes spell, as far as it went: its
 -- history has the first commands of the script, answered as the graph does, and its text is what that
@@ -40,27 +44,27 @@ pub record IsWhole (words : List (List ℕ)) (bytes : List ℕ) (run : Run) : Ty
 abbrev pub WritesFront : Option (List ℕ) → Option (List ℕ) → List ℕ → Type 0
 WritesFront before behind text = (n : ℕ) × Appends before behind (take n text)
 
--- why a call answers so, given its words, the bytes that it read, whether the counts of faults of its
--- source and its sink rose, and what had been written before the call and behind it. Each answer stands
--- with a run or without one; a pair that isn't listed never comes
-abbrev pub Explains : List (List ℕ) → List ℕ → Type 0 → Type 0 → Option (List ℕ) → Option (List ℕ) → Status → Option Run → Type 0
-Explains words bytes source_rose sink_rose before behind (status.Usage word) None =
+-- why a call answers so, given its words, the bytes that it read, whether it read all, whether the counts
+-- of faults of its source and its sink rose, and what had been written before the call and behind it. Each
+-- answer stands with a run or without one; a pair that isn't listed never comes
+abbrev pub Explains : List (List ℕ) → List ℕ → Type 0 → Type 0 → Type 0 → Option (List ℕ) → Option (List ℕ) → Status → Option Run → Type 0
+Explains words bytes read source_rose sink_rose before behind (status.Usage word) None =
     (misfit_in words ≡ Some word) × Appends before behind []
-Explains words bytes source_rose sink_rose before behind status.ReadFault None =
+Explains words bytes read source_rose sink_rose before behind status.ReadFault None =
     (misfit_in words ≡ None) × source_rose × Appends before behind []
-Explains words bytes source_rose sink_rose before behind (status.BadScript bad) None =
-    (misfit_in words ≡ None) × IsReading bytes (Err bad) × Appends before behind []
-Explains words bytes source_rose sink_rose before behind status.NoMemory None =
+Explains words bytes read source_rose sink_rose before behind (status.BadScript bad) None =
+    (misfit_in words ≡ None) × read × IsReading bytes (Err bad) × Appends before behind []
+Explains words bytes read source_rose sink_rose before behind status.NoMemory None =
     (misfit_in words ≡ None) × Appends before behind []
-Explains words bytes source_rose sink_rose before behind status.NoMemory (Some run) =
-    IsPart words bytes run × WritesFront before behind run.text
-Explains words bytes source_rose sink_rose before behind status.Done (Some run) =
-    IsWhole words bytes run × (has_refusal run.history ≡ false) × Appends before behind run.text
-Explains words bytes source_rose sink_rose before behind status.SomeRefused (Some run) =
-    IsWhole words bytes run × (has_refusal run.history ≡ true) × Appends before behind run.text
-Explains words bytes source_rose sink_rose before behind status.WriteFault (Some run) =
-    IsWhole words bytes run × sink_rose × AppendsPart before behind run.text
-Explains words bytes source_rose sink_rose before behind s run = ⊥
+Explains words bytes read source_rose sink_rose before behind status.NoMemory (Some run) =
+    read × IsPart words bytes run × WritesFront before behind run.text
+Explains words bytes read source_rose sink_rose before behind status.Done (Some run) =
+    read × IsWhole words bytes run × (has_refusal run.history ≡ false) × Appends before behind run.text
+Explains words bytes read source_rose sink_rose before behind status.SomeRefused (Some run) =
+    read × IsWhole words bytes run × (has_refusal run.history ≡ true) × Appends before behind run.text
+Explains words bytes read source_rose sink_rose before behind status.WriteFault (Some run) =
+    read × IsWhole words bytes run × sink_rose × AppendsPart before behind run.text
+Explains words bytes read source_rose sink_rose before behind s run = ⊥
 
 -- the same of the end of a run that was made, whose text is written
 abbrev pub Ends : Run → RunEnd → Type 0 → Option (List ℕ) → Option (List ℕ) → Status → Type 0

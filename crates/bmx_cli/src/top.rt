@@ -2,7 +2,7 @@ ghost use Rattle.std.specs.Prelude.{◌≡◌, ◌≤◌, ◌<◌, map, string_b
 ghost use Rattle.std.specs.Io.KnownBytes.{Appends};
 ghost use Rattle.bmx_outside.specs.Faults.{Rose};
 ghost use Rattle.bmx_outside.specs.Streams.{AppendsPart};
-ghost use Rattle.bmx_cli.specs.Top.{Explains, IsFirstOf, Ends};
+ghost use Rattle.bmx_cli.specs.Top.{Explains, IsFirstOf, IsRead, Ends};
 
 use crate::runs::{Run, RunEnd, has_refusal, run_script};
 use crate::statuses::Status;
@@ -30,7 +30,7 @@ pub fn bmx<S: Source, K: Sink>(
     sink: &mut K,
 ) -> Outcome
     ensures { (bytes : _) × IsFirstOf (S.left source.old) bytes
-        × Explains (map string_bytes words.now) bytes (Rose (S.faults source.old) (S.faults source.new)) (Rose (K.faults sink.old) (K.faults sink.new))
+        × Explains (map string_bytes words.now) bytes (IsRead (S.left source.old) (S.left source.new)) (Rose (S.faults source.old) (S.faults source.new)) (Rose (K.faults sink.old) (K.faults sink.new))
         (K.out sink.old) (K.out sink.new) result.status result.run }
 {
     if let Some(word) = misfit(words) {

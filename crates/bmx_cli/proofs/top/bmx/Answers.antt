@@ -8,7 +8,7 @@ use Rattle.bmx_cli.specs.declared.runs.Run.{Run}
 use Rattle.bmx_cli.specs.declared.statuses.Status.TheVariants as status
 use Rattle.bmx_cli.specs.Progress.{IsEnd}
 use Rattle.bmx_cli.specs.Words.{misfit_in}
-use Rattle.bmx_cli.specs.Top.{Explains, IsFirstOf}
+use Rattle.bmx_cli.specs.Top.{Explains, IsFirstOf, IsRead}
 use Rattle.bmx_cli.proofs.Writing.{first_of, first_is, nothing_written, refused_as, explained}
 use Rattle.bmx_cli.proofs.top.bmx.Goals as goal
 
@@ -16,7 +16,7 @@ pub returns-in-Some : goal.returns-in-Some
 returns-in-Some g c = (
   first_of (g.S.Source.left c.args.source.now),
   first_is (g.S.Source.left c.args.source.now),
-  refused_as _ _ _ _ _ _ (status.Usage c.in-Some.word) _ _ c.refused.ensures.0 c.refused.ensures.1
+  refused_as _ _ _ _ _ _ _ (status.Usage c.in-Some.word) _ _ c.refused.ensures.0 c.refused.ensures.1
       (sym c.misfit.ensures ∙ c.in-Some.is, nothing_written (g.K.Sink.out c.args.sink.now)),
 )
 
@@ -24,7 +24,7 @@ pub returns-in-Err-Failed : goal.returns-in-Err-Failed
 returns-in-Err-Failed g c = (
   first_of (g.S.Source.left c.args.source.now),
   first_is (g.S.Source.left c.args.source.now),
-  refused_as _ _ _ _ _ _ status.ReadFault _ _ c.refused-in-Err-Failed.ensures.0 c.refused-in-Err-Failed.ensures.1
+  refused_as _ _ _ _ _ _ _ status.ReadFault _ _ c.refused-in-Err-Failed.ensures.0 c.refused-in-Err-Failed.ensures.1
       (sym c.misfit.ensures ∙ c.in_default.is, c.read_to_limit.ensures.failed (c.in-Err-Failed.is ∙ ap Err c.in-Err-Failed.field-0-is), nothing_written (g.K.Sink.out c.args.sink.now)),
 )
 
@@ -32,7 +32,7 @@ pub returns-in-Err-NoMemory : goal.returns-in-Err-NoMemory
 returns-in-Err-NoMemory g c = (
   first_of (g.S.Source.left c.args.source.now),
   first_is (g.S.Source.left c.args.source.now),
-  refused_as _ _ _ _ _ _ status.NoMemory _ _ c.refused-in-Err-NoMemory.ensures.0 c.refused-in-Err-NoMemory.ensures.1
+  refused_as _ _ _ _ _ _ _ status.NoMemory _ _ c.refused-in-Err-NoMemory.ensures.0 c.refused-in-Err-NoMemory.ensures.1
       (sym c.misfit.ensures ∙ c.in_default.is, nothing_written (g.K.Sink.out c.args.sink.now)),
 )
 
@@ -42,8 +42,9 @@ returns-in-Err-Bad g c =
     subst (ForBad (λ why. IsReading c.as_slice.result.now (Err why))) c.in-Err-Bad.field-0-is c.in-Err-Bad.ensures in (
       c.in-Ok.bytes.items,
       c.in-Ok.ensures.bytes,
-      refused_as _ _ _ _ _ _ (status.BadScript c.in-Err-Bad.bad) _ _ (c.refused-in-Err-Bad.ensures.0 ∙ ap status.BadScript c.in-Err-Bad.bad-is) c.refused-in-Err-Bad.ensures.1 (
+      refused_as _ _ _ _ _ _ _ (status.BadScript c.in-Err-Bad.bad) _ _ (c.refused-in-Err-Bad.ensures.0 ∙ ap status.BadScript c.in-Err-Bad.bad-is) c.refused-in-Err-Bad.ensures.1 (
         sym c.misfit.ensures ∙ c.in_default.is,
+        c.in-Ok.ensures.left,
         subst (λ (bytes : List ℕ). IsReading bytes (Err c.in-Err-Bad.bad)) c.as_slice.ensures.value bad,
         nothing_written (g.K.Sink.out c.args.sink.now),
       ),
@@ -53,7 +54,7 @@ pub returns-in-Err-NoMemory-read_script : goal.returns-in-Err-NoMemory-read_scri
 returns-in-Err-NoMemory-read_script g c = (
   c.in-Ok.bytes.items,
   c.in-Ok.ensures.bytes,
-  refused_as _ _ _ _ _ _ status.NoMemory _ _ c.refused-in-Err-NoMemory-read_script.ensures.0 c.refused-in-Err-NoMemory-read_script.ensures.1
+  refused_as _ _ _ _ _ _ _ status.NoMemory _ _ c.refused-in-Err-NoMemory-read_script.ensures.0 c.refused-in-Err-NoMemory-read_script.ensures.1
       (sym c.misfit.ensures ∙ c.in_default.is, nothing_written (g.K.Sink.out c.args.sink.now)),
 )
 
@@ -64,16 +65,16 @@ returns-in-Ok-run_script g c =
     (subst (λ (bytes : List ℕ). IsReading bytes (Ok c.in-Ok-read_script.script)) c.as_slice.ensures.value c.in-Ok-read_script.ensures) in (
       c.in-Ok.bytes.items,
       c.in-Ok.ensures.bytes,
-      subst (λ (r : Option Run). Explains (map string_bytes c.args.words.now) c.in-Ok.bytes.items (Rose (g.S.Source.faults c.args.source.now) (g.S.Source.faults c.read_to_limit.new.source)) (Rose (g.K.Sink.faults c.args.sink.now) (g.K.Sink.faults c.written.new.sink)) (g.K.Sink.out c.args.sink.now) (g.K.Sink.out c.written.new.sink) c.written.result.status r)
+      subst (λ (r : Option Run). Explains (map string_bytes c.args.words.now) c.in-Ok.bytes.items (IsRead (g.S.Source.left c.args.source.now) (g.S.Source.left c.read_to_limit.new.source)) (Rose (g.S.Source.faults c.args.source.now) (g.S.Source.faults c.read_to_limit.new.source)) (Rose (g.K.Sink.faults c.args.sink.now) (g.K.Sink.faults c.written.new.sink)) (g.K.Sink.out c.args.sink.now) (g.K.Sink.out c.written.new.sink) c.written.result.status r)
           (sym c.written.ensures.run)
-          (explained (map string_bytes c.args.words.now) c.in-Ok.bytes.items _ _ _ _ c.in-Ok-run_script.run' c.in-Ok-run_script.end c.written.result.status
-          (sym c.misfit.ensures ∙ c.in_default.is) read c.in-Ok-run_script.ensures.1 c.written.ensures.status),
+          (explained (map string_bytes c.args.words.now) c.in-Ok.bytes.items _ _ _ _ _ c.in-Ok-run_script.run' c.in-Ok-run_script.end c.written.result.status
+          c.in-Ok.ensures.left (sym c.misfit.ensures ∙ c.in_default.is) read c.in-Ok-run_script.ensures.1 c.written.ensures.status),
     )
 
 pub returns : goal.returns
 returns g c = (
   c.in-Ok.bytes.items,
   c.in-Ok.ensures.bytes,
-  refused_as _ _ _ _ _ _ status.NoMemory _ _ c.refused-in-Err.ensures.0 c.refused-in-Err.ensures.1
+  refused_as _ _ _ _ _ _ _ status.NoMemory _ _ c.refused-in-Err.ensures.0 c.refused-in-Err.ensures.1
       (sym c.misfit.ensures ∙ c.in_default.is, nothing_written (g.K.Sink.out c.args.sink.now)),
 )
