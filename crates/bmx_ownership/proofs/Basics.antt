@@ -1,5 +1,5 @@
 -- Tests of two numbers, functions changed at one, and notes of one name.
-use Rattle.std.proofs.Common.{◌≡◌, ℕ, arith, refl, ap, Bool, true, false, cond, List, ◌∷◌}
+use Rattle.std.proofs.Common.{sym, ◌∙◌, ◌≡◌, ℕ, arith, refl, ap, Bool, true, false, cond, List, ◌∷◌}
 use Rattle.std.specs.Prelude.{◌==◌, ◌≢◌}
 use Rattle.bmx_graph.specs.State.{put}
 use Rattle.bmx_object.specs.Machine.{Note}
@@ -14,6 +14,9 @@ eqb_not a b h e = grind (arith, nat_tests)
 
 pub eqb_same : (a : ℕ) → (a == a) ≡ true
 eqb_same a = grind (arith, nat_tests)
+
+pub eqb_of : {a b : ℕ} → a ≡ b → (a == b) ≡ true
+eqb_of {a = a} h = ap (λ (z : ℕ). a == z) (sym h) ∙ eqb_same a
 
 pub eqb_apart : (a b : ℕ) → a ≢ b → (a == b) ≡ false
 eqb_apart a b h = grind (arith, nat_tests)

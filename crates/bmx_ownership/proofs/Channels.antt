@@ -10,7 +10,7 @@ use Rattle.bmx_protocol.specs.declared.events.Event.{Event}
 use Rattle.bmx_protocol.specs.Rows.{Post}
 use Rattle.bmx_protocol.specs.Steps.{Node, numbered}
 use Rattle.bmx_protocol.specs.Histories.{letters_to, issued, letter_from, is_taken, arrived, taken, on_way}
-use Rattle.bmx_ownership.proofs.Basics.{eqb_is, eqb_same, Two, Same, Apart, two}
+use Rattle.bmx_ownership.proofs.Basics.{eqb_of, eqb_is, Two, Same, Apart, two}
 
 -- ## numbers
 
@@ -133,13 +133,13 @@ way_taken n m past e from l rest within first now = by_two (two e.node m) (two f
   where
     by_two : Two e.node m → Two from n → on_way n m (past ++ e ∷ []) ≡ way_left past e from rest n m ++ letters_by e n m
     by_two (Same a) (Same b) =
-        let at : (e.node == m) ≡ true = ap (λ (z : ℕ). e.node == z) (sym a) ∙ eqb_same e.node in
-        let of : (from == n) ≡ true = ap (λ (z : ℕ). from == z) (sym b) ∙ eqb_same from in
+        let at : (e.node == m) ≡ true = eqb_of a in
+        let of : (from == n) ≡ true = eqb_of b in
         let here : on_way n m past ≡ l ∷ rest = (λ i. on_way (sym b i) (sym a i) past) ∙ first in
         let one : taken n m (e ∷ []) ≡ l ∷ [] = now ∙ (λ i. cond (at i) (cond (of i) (l ∷ []) []) []) in
         way_first n m past e l rest here one ∙ (λ i. cond (sym at i) (cond (sym of i) rest (on_way n m past)) (on_way n m past) ++ letters_by e n m)
     by_two (Same a) (Apart h d) =
-        let at : (e.node == m) ≡ true = ap (λ (z : ℕ). e.node == z) (sym a) ∙ eqb_same e.node in
+        let at : (e.node == m) ≡ true = eqb_of a in
         let one : taken n m (e ∷ []) ≡ [] = now ∙ (λ i. cond (at i) (cond (h i) (l ∷ []) []) []) in
         way_nothing n m past e within one ∙ (λ i. cond (sym at i) (cond (sym h i) rest (on_way n m past)) (on_way n m past) ++ letters_by e n m)
     by_two (Apart h d) q =
@@ -176,15 +176,15 @@ now_at past e old new (First from l rest first now one) n m = by_two (two e.node
   where
     by_two : Two e.node m → Two from n → NowAt past e old new n m
     by_two (Same a) (Same b) =
-        let at : (e.node == m) ≡ true = ap (λ (z : ℕ). e.node == z) (sym a) ∙ eqb_same e.node in
-        let of : (from == n) ≡ true = ap (λ (z : ℕ). from == z) (sym b) ∙ eqb_same from in
+        let at : (e.node == m) ≡ true = eqb_of a in
+        let of : (from == n) ≡ true = eqb_of b in
         let here : on_way n m past ≡ l ∷ rest = (λ i. on_way (sym b i) (sym a i) past) ∙ first in
         let next : (drop (suc (length (taken n m past))) (issued n m past) ≡ rest) × (suc (length (taken n m past)) ≤ length (issued n m past)) =
         drop_next (issued n m past) (length (taken n m past)) l rest here in
         One_here (ap length (now n m ∙ (λ i. cond (at i) (cond (of i) (l ∷ []) []) []))) next.1
         (λ q. one n ∙ (λ i. cond (of i) (old (b i) + 1) (old n))) (sym a)
     by_two (Same a) (Apart h d) =
-        let at : (e.node == m) ≡ true = ap (λ (z : ℕ). e.node == z) (sym a) ∙ eqb_same e.node in
+        let at : (e.node == m) ≡ true = eqb_of a in
         None_here (ap length (now n m ∙ (λ i. cond (at i) (cond (h i) (l ∷ []) []) [])))
         (λ q. one n ∙ (λ i. cond (h i) (old from + 1) (old n)))
     by_two (Apart h d) q = None_here (ap length (now n m ∙ (λ i. cond (h i) (cond (from == n) (l ∷ []) []) []))) (λ a. absurd (d (sym a)))
@@ -224,7 +224,7 @@ numbers_more past e p n m old = subst (Numbered 0) (sym (issued_more n m past e)
   where
     by_two : Two e.node n → Numbered 0 (issued n m past ++ letters_by e n m)
     by_two (Same a) =
-        let at : (e.node == n) ≡ true = ap (λ (z : ℕ). e.node == z) (sym a) ∙ eqb_same e.node in
+        let at : (e.node == n) ≡ true = eqb_of a in
         let more : Numbered (p.counts m) (letters_to m e.done.letters) =
         subst (λ (l : List Sending). Numbered (p.counts m) (letters_to m l)) (sym p.letters) (posts_numbered p.counts p.stamp p.posts m) in
         let count : p.counts m ≡ 0 + length (issued n m past) = p.from_past m ∙ ap (λ (z : ℕ). length (issued z m past)) a ∙ omega arith in
@@ -250,7 +250,7 @@ channels_more past nodes e after p now c = record {
 
     counts : (n m : ℕ) → Two e.node m → (put nodes e.node after m).state.taken n ≡ length (taken n m (past ++ e ∷ []))
     counts n m (Same a) =
-        let at : (e.node == m) ≡ true = ap (λ (z : ℕ). e.node == z) (sym a) ∙ eqb_same e.node in
+        let at : (e.node == m) ≡ true = eqb_of a in
         ap (λ (b : Bool). (cond b after (nodes m)).state.taken n) at
         ∙ counts_more past e old new n m (now_at past e old new now n m) (sym a)
         (ap (λ (z : ℕ). (nodes z).state.taken n) a ∙ c.counts n m)

@@ -26,7 +26,7 @@ use Rattle.bmx_object.specs.Machine.{acquired as acquired_move, released as rele
 use Rattle.bmx_ownership.specs.Seen.{seen_holding}
 use Rattle.bmx_ownership.proofs.Basics.{Two, Same, Apart, two, put_same, put_apart, note_same, note_apart}
 use Rattle.bmx_ownership.proofs.Sends.{seen_sends}
-use Rattle.bmx_ownership.proofs.Rows.{seen_known, OnlyTell, says_nothing, Grows, AsBefore, OneMore, Leaves, Did, Acts, Passes, Makes, seen_same, seen_apart, asks_same, asks_apart}
+use Rattle.bmx_ownership.proofs.Rows.{seen_known, OnlyTell, says_nothing, AsBefore, OneMore, Like, Leaves, Did, Acts, Passes, Makes, seen_same, seen_apart, asks_same, asks_apart}
 
 -- ## acquiring and releasing
 
@@ -236,13 +236,6 @@ release_leaves : (s : NodeState) (name : Option ℕ) → Leaves s (release_row s
 release_leaves s None = record { entering = refl; issued = refl; taken = refl; made = AsBefore refl }
 release_leaves s (Some name) = release_known_leaves s name (s.known name)
 
--- a state has the records and counts of another
-record Like (s t : NodeState) : Type 0 where
-  entering : t.entering ≡ s.entering
-  issued : t.issued ≡ s.issued
-  taken : t.taken ≡ s.taken
-  made : Grows s.made t.made
-
 stored_like : (s : NodeState) (name : Option ℕ) (index : ℕ) (v : Option Val) → Like s (with_stored s name index v)
 stored_like s None index v = record { entering = refl; issued = refl; taken = refl; made = AsBefore refl }
 stored_like s (Some name) index None = record { entering = refl; issued = refl; taken = refl; made = AsBefore refl }
@@ -266,10 +259,10 @@ effect_like me s (command.Show on i) = record { entering = refl; issued = refl; 
 effect_like me s (command.Same a b) = record { entering = refl; issued = refl; taken = refl; made = AsBefore refl }
 
 answered_leaves : (s t : NodeState) (a : Answer) → Like s t → Leaves s (answered s t a)
-answered_leaves s t graph.Nil h = record { entering = h.entering; issued = h.issued; taken = h.taken; made = h.made }
-answered_leaves s t (graph.Value v) h = record { entering = h.entering; issued = h.issued; taken = h.taken; made = h.made }
-answered_leaves s t graph.Yes h = record { entering = h.entering; issued = h.issued; taken = h.taken; made = h.made }
-answered_leaves s t graph.No h = record { entering = h.entering; issued = h.issued; taken = h.taken; made = h.made }
+answered_leaves s t graph.Nil h = h
+answered_leaves s t (graph.Value v) h = h
+answered_leaves s t graph.Yes h = h
+answered_leaves s t graph.No h = h
 answered_leaves s t graph.Wait h = record { entering = refl; issued = refl; taken = refl; made = AsBefore refl }
 answered_leaves s t (graph.Refused why) h = record { entering = refl; issued = refl; taken = refl; made = AsBefore refl }
 

@@ -42,7 +42,7 @@ use Rattle.bmx_protocol.specs.Rows.{acquired, acquire_known, acquire_row, releas
 use Rattle.bmx_protocol.specs.Histories.{IsOperandOf, IsCommandOf}
 use Rattle.bmx_object.specs.Machine.{Note, Tells}
 use Rattle.bmx_ownership.specs.Seen.{tells, seen_notes}
-use Rattle.bmx_ownership.proofs.Basics.{eqb_same, Two, Same, Apart, two, put_same, put_apart}
+use Rattle.bmx_ownership.proofs.Basics.{eqb_of, Two, Same, Apart, two, put_same, put_apart}
 use Rattle.bmx_ownership.proofs.Rows.{HasNo, NoRefs}
 
 -- no copy of what is known has a field that refers to x
@@ -130,7 +130,7 @@ IsUnborn st x = (b : ℕ) → b < bunches_of st.births → x ≢ anchor_of b
 int_free : (x : ℕ) (k : ℤ) → val.Int k ≢ val.Ref x
 int_free x k h = cc
 
-null_free : (x : ℕ) → val.Null ≢ val.Ref x
+pub null_free : (x : ℕ) → val.Null ≢ val.Ref x
 null_free x h = cc
 
 ref_is : (x y : ℕ) → val.Ref y ≡ val.Ref x → x ≡ y
@@ -153,13 +153,13 @@ field_free x val.Null h = λ e. cc
 field_free x (val.Int k) h = λ e. cc
 field_free x (val.Ref y) h = λ e. h (ap value_in e)
 
+some_value : (a b : Val) → Some a ≡ Some b → a ≡ b
+some_value a b e = cc
+
 -- a value that may stand in a field
 at_free : (x : ℕ) (fields : List ViewField) (index : ℕ) (v : Val) → HasNo x fields → slice_get (map value_in fields) index ≡ Some v → v ≢ val.Ref x
 at_free x [] index v h is = λ e. cc
 at_free x (f ∷ fields) zero v h is = λ e. value_in_free x f h.0 (some_value (value_in f) v is ∙ e)
-  where
-    some_value : (a b : Val) → Some a ≡ Some b → a ≡ b
-    some_value a b e = cc
 at_free x (f ∷ fields) (suc i) v h is = at_free x fields i v h.1 is
 
 got_free : (x : ℕ) (s : NodeState) (name index : ℕ) (v : Val) (k : Option Known) → s.known name ≡ k → IsFree x s →
@@ -250,9 +250,6 @@ new_free x me s r b n free = by_two (two (next_name me s) x)
       registers = (register_free x s r (val.Ref (next_name me s)) free (λ e. d (sym (ref_is x (next_name me s) e)))).registers;
     })
 
-some_value : (a b : Val) → Some a ≡ Some b → a ≡ b
-some_value a b e = cc
-
 effect_free : (st : Setting) (x me : ℕ) (s : NodeState) (c : Command) → IsUnborn st x → IsCommandOf st c → IsFree x s → Freed x (effect_of me s c)
 effect_free st x me s (command.New r b n) unborn of free = new_free x me s r b n free
 effect_free st x me s (command.Copy r v) unborn of free = Still (register_free x s r _ free (value_free st x me s v unborn of.1 free))
@@ -338,7 +335,7 @@ told_free x (told.Ref info ∷ fields) h = (λ e. not_it (name_is e), told_free 
     not_it e =
         let same : Tells ∷ tells x (targets fields) ≡ [] =
         ap (λ (b : Bool). cond b (Tells ∷ tells x (targets fields)) (tells x (targets fields)))
-        (sym (ap (λ (z : ℕ). info.name == z) (sym e) ∙ eqb_same info.name)) ∙ h in
+        (sym (eqb_of e)) ∙ h in
         cc
 
 requested_free : (x : ℕ) (s : NodeState) (from name : ℕ) (k : Known) (m : Mode) (asker : ℕ) (p : Part) (a : Requested) → s.known name ≡ Some k →

@@ -34,7 +34,7 @@ use Rattle.bmx_ownership.proofs.Free.{IsFree, IsUnborn, Freed, Still, do_free, s
 use Rattle.bmx_ownership.proofs.Channels.{Channels, Nothing, First, numbered_at, slice_drop, IssuesPosts, channels_more, way_nothing, way_taken}
 use Rattle.bmx_ownership.proofs.Afters.{recorded, IsRowOf}
 use Rattle.bmx_ownership.proofs.Runs.{IsQuiet, quiet_run, IsTaking, taking_run}
-use Rattle.bmx_ownership.proofs.Names.{IsNamed, unknown_free, new_clean, clean_nowhere, quiet_named, taking_named}
+use Rattle.bmx_ownership.proofs.Names.{IsNamed, made_after, unknown_free, new_clean, clean_nowhere, quiet_named, taking_named}
 use Rattle.bmx_ownership.proofs.Openings.{is_first, named_first, channels_first, few_first}
 
 -- ## what has come about
@@ -144,10 +144,6 @@ enough_names st x start past nodes e after ev =
 taken_after : (e : Event) (after : Node) (row : Row) → IsRowOf e after row → after.state.taken ≡ row.after.taken
 taken_after e after row r =
     ap (λ (s : NodeState). s.taken) r.state ∙ (recorded (letters_of e.stamp row) row.after).taken
-
-made_after : (e : Event) (after : Node) (row : Row) → IsRowOf e after row → after.state.made ≡ row.after.made
-made_after e after row r =
-    ap (λ (s : NodeState). s.made) r.state ∙ (recorded (letters_of e.stamp row) row.after).made
 
 issues : (st : Setting) (past : List Event) (nodes : ℕ → Node) (e : Event) (after : Node) (row : Row) → AreAfter st past nodes → IsRowOf e after row →
     row.after.issued ≡ (nodes e.node).state.issued → IssuesPosts past e

@@ -13,4 +13,5 @@ pub mod Names
 pub mod Openings
 pub mod Histories
 pub mod Owners
-pub mod Shared
+pub mod Lifted
+pub mod Applied

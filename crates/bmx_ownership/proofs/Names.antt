@@ -16,7 +16,7 @@ use Rattle.bmx_protocol.specs.Histories.{letters_to, on_way}
 use Rattle.bmx_protocol.specs.Worlds.{world_of}
 use Rattle.bmx_object.specs.Machine.{Holding, Tells, Slip, Move, take_notes, take_no_note, IsNowhere}
 use Rattle.bmx_ownership.specs.Seen.{seen, seen_slip, seen_notes}
-use Rattle.bmx_ownership.proofs.Basics.{eqb_same, Two, Same, Apart, two}
+use Rattle.bmx_ownership.proofs.Basics.{eqb_of, Two, Same, Apart, two}
 use Rattle.bmx_ownership.proofs.Sends.{seen_sends}
 use Rattle.bmx_ownership.proofs.Rows.{seen_known, NoneRefers, MayTell, OnlyTell, Silent, Grows, AsBefore, OneMore, Did, Acts, Passes, Makes}
 use Rattle.bmx_ownership.proofs.Takes.{Issues, Own, Others}
@@ -150,7 +150,7 @@ known_after x nodes e after row r =
     ap (λ (s : NodeState). s.known x) r.state
     ∙ ap (λ (f : ℕ → Option Known). f x) (recorded (letters_of e.stamp row) row.after).known
 
-made_after : (e : Event) (after : Node) (row : Row) → IsRowOf e after row → after.state.made ≡ row.after.made
+pub made_after : (e : Event) (after : Node) (row : Row) → IsRowOf e after row → after.state.made ≡ row.after.made
 made_after e after row r =
     ap (λ (s : NodeState). s.made) r.state ∙ (recorded (letters_of e.stamp row) row.after).made
 
@@ -194,7 +194,7 @@ named_after st x nodes past e after row r out named = record {
 
     counted : Two me (maker x) → Knows (put nodes me after) (maker x) x → count_of x ≤ (put nodes me after (maker x)).state.made
     counted (Same a) knows =
-        let at : (me == maker x) ≡ true = ap (λ (z : ℕ). me == z) (sym a) ∙ eqb_same me in
+        let at : (me == maker x) ≡ true = eqb_of a in
         let here : is_some (seen_known (row.after.known x)) ≡ true =
         ap (λ (k : Option Holding). is_some k) (sym known) ∙ (λ i. is_some (seen_known ((cond (sym at i) after (nodes (maker x))).state.known x))) ∙ knows in
         subst (λ (k : ℕ). count_of x ≤ k) (sym (made_after e after row r) ∙ (λ i. (cond (sym at i) after (nodes (maker x))).state.made)) (out.counted (sym a) here)
@@ -204,7 +204,7 @@ named_after st x nodes past e after row r out named = record {
 
     knows_after : Two me (maker x) → Knows nodes (maker x) x → Knows (put nodes me after) (maker x) x
     knows_after (Same a) knows =
-        let at : (me == maker x) ≡ true = ap (λ (z : ℕ). me == z) (sym a) ∙ eqb_same me in
+        let at : (me == maker x) ≡ true = eqb_of a in
         (λ i. is_some (seen_known ((cond (at i) after (nodes (maker x))).state.known x)))
         ∙ some (out.stays (ap (λ (z : ℕ). is_some (seen_known ((nodes z).state.known x))) a ∙ knows))
     knows_after (Apart h d) knows = (λ i. is_some (seen_known ((cond (h i) after (nodes (maker x))).state.known x))) ∙ knows
@@ -214,7 +214,7 @@ named_after st x nodes past e after row r out named = record {
         ⊎ ((seen_known (row.after.known x) ≡ None) × IsFree x row.after × ((n m : ℕ) → AreSilent x (on_way n m (past ++ e ∷ [])))) →
         Knows (put nodes me after) (maker x) x ⊎ IsClean st x (put nodes me after) (past ++ e ∷ [])
     by_clean clean (inl made) = inl
-        ((λ i. is_some (seen_known ((cond ((ap (λ (z : ℕ). me == z) made.0 ∙ eqb_same me) i) after (nodes (maker x))).state.known x))) ∙ some made.1)
+        ((λ i. is_some (seen_known ((cond (eqb_of (sym made.0) i) after (nodes (maker x))).state.known x))) ∙ some made.1)
     by_clean clean (inr still) = inr (record {
       unknown = at_nodes (λ n. seen_known (n.state.known x) ≡ None) nodes me after (known ∙ still.0) clean.unknown;
       free = at_nodes (λ n. IsFree x n.state) nodes me after (free_after x e after row r still.1) clean.free;

@@ -15,9 +15,9 @@ use Rattle.bmx_protocol.specs.Nodes.{Setting, Known, field_of, birth_of, is_anch
 use Rattle.bmx_protocol.specs.Steps.{first_node}
 use Rattle.bmx_object.specs.Machine.{Holding, IsFirst, Absent, Born, IsFirstElsewhere, Unknown, Heard}
 use Rattle.bmx_ownership.specs.Seen.{seen, first_world}
-use Rattle.bmx_ownership.proofs.Basics.{eqb_is, eqb_same, eqb_apart}
+use Rattle.bmx_ownership.proofs.Basics.{eqb_of, eqb_is, eqb_apart}
 use Rattle.bmx_ownership.proofs.Rows.{seen_known, HasNo, NoRefs}
-use Rattle.bmx_ownership.proofs.Free.{FreeOf}
+use Rattle.bmx_ownership.proofs.Free.{null_free, FreeOf}
 use Rattle.bmx_ownership.proofs.Channels.{Channels}
 use Rattle.bmx_ownership.proofs.Names.{Knows, IsClean, IsNamed}
 
@@ -42,7 +42,7 @@ finds_birth : (births : List Birth) (x i : ℕ) (b : Birth) → slice_get births
 finds_birth [] x i b h n = absurd (cc)
 finds_birth (c ∷ births) x zero b h n =
     let same : c ≡ b = cc in
-    let is : (c.name == x) ≡ true = ap (λ (z : ℕ). c.name == z) (sym n ∙ ap (λ (z : Birth). z.name) (sym same)) ∙ eqb_same c.name in
+    let is : (c.name == x) ≡ true = eqb_of (ap (λ (z : Birth). z.name) same ∙ n) in
     ap (λ (t : Bool). is_some (cond t (Some c) (find (λ b. b.name == x) births))) is
 finds_birth (c ∷ births) x (suc i) b h n = by_test (c.name == x) (finds_birth births x i b h n)
   where
@@ -139,15 +139,12 @@ first_free st opening x n none y k is = by_birth (birth_of st y) refl
         by_tests false true h = subst (NoRefs x) (some_is (heard_birth b) h) tt
         by_tests false false h = absurd (cc)
 
-null_is : (x : ℕ) → val.Null ≢ val.Ref x
-null_is x h = cc
-
 -- ## the invariants
 
 clean_first : (st : Setting) → IsOpening st.nodes st.limit st.births → (x : ℕ) → birth_of st x ≡ None → IsClean st x (first_node st) []
 clean_first st opening x none = record {
   unknown = λ n. unknown_at st x n none;
-  free = λ n. record { fields = first_free st opening x n none; registers = λ r. null_is x };
+  free = λ n. record { fields = first_free st opening x n none; registers = λ r. null_free x };
   silent = λ n m. tt;
   unborn = λ b below is. numbered_birth st opening x b (omega (arith, opening.born.anchors)) is none;
 }

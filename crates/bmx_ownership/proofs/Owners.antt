@@ -18,12 +18,12 @@ use Rattle.bmx_object.specs.Machine.{Note, Asks, Grants, Recalls, Returns, Tells
 use Rattle.bmx_object.specs.Laws.{is_owner, owned_at, handovers, handovers_in, Seat, Moving, IsOwned, HasOneSeat, WriteExcludes}
 use Rattle.bmx_object.specs.Laws.{At as AtNode}
 use Rattle.bmx_ownership.specs.Seen.{seen, seen_slip, seen_notes, seen_holding, note_if, tells}
-use Rattle.bmx_ownership.proofs.Basics.{eqb_is, eqb_same, Two, Same, Apart, two}
+use Rattle.bmx_ownership.proofs.Basics.{eqb_of, eqb_is, eqb_same, Two, Same, Apart, two}
 use Rattle.bmx_ownership.proofs.Rows.{seen_known}
 
 -- ## where a name stands
 
-one_or_more : {A : Type 0} (y : A) (xs : List A) (x : A) → Contains (y ∷ xs) x → (y ≡ x) ⊎ Contains xs x
+pub one_or_more : {A : Type 0} (y : A) (xs : List A) (x : A) → Contains (y ∷ xs) x → (y ≡ x) ⊎ Contains xs x
 one_or_more y xs x (zero, below, is) = inl is
 one_or_more y xs x (suc k, below, is) = inr (k, omega arith, is)
 
@@ -43,7 +43,7 @@ no_note x name n rest h = by_two (two name x)
   where
     by_two : Two name x → (name ≢ x) × (rest ≡ [])
     by_two (Same e) =
-        let some : n ∷ rest ≡ [] = ap (λ (b : Bool). cond b (n ∷ rest) rest) (sym (ap (λ (z : ℕ). name == z) (sym e) ∙ eqb_same name)) ∙ h in
+        let some : n ∷ rest ≡ [] = ap (λ (b : Bool). cond b (n ∷ rest) rest) (sym (eqb_of e)) ∙ h in
         absurd (cc)
     by_two (Apart a d) = (d, ap (λ (b : Bool). cond b (n ∷ rest) rest) (sym a) ∙ h)
 
@@ -165,7 +165,7 @@ among x (l ∷ letters) h = by_letter (hands x l.msg) (among x letters)
 -- a letter that hands x over is counted
 grant_hands : (x : ℕ) (info : Info) (fields : List Field) → info.name ≡ x → handovers (seen_notes x (msg.WriteGrant info fields)) ≡ 1
 grant_hands x info fields named =
-    ap (λ (b : Bool). handovers (cond b (Grants mode.Write ∷ tells x (targets fields)) (tells x (targets fields)))) (ap (λ (z : ℕ). info.name == z) (sym named) ∙ eqb_same info.name)
+    ap (λ (b : Bool). handovers (cond b (Grants mode.Write ∷ tells x (targets fields)) (tells x (targets fields)))) (eqb_of named)
     ∙ (let none : handovers (tells x (targets fields)) ≡ 0 = tells_hand x (targets fields) in omega arith)
 
 counted : (x : ℕ) (letters : List Letter) (l : Letter) → Contains letters l → handovers (seen_notes x l.msg) ≡ 1 → 1 ≤ handovers_in (map (seen_slip x) letters)

@@ -82,12 +82,16 @@ pub data Grows (old new : ℕ) : Type 0 where
   AsBefore : new ≡ old → Grows old new
   OneMore : new ≡ old + 1 → Grows old new
 
--- a row leaves the records and the counts of letters
-pub record Leaves (s : NodeState) (row : Row) : Type 0 where
-  pub entering : row.after.entering ≡ s.entering
-  pub issued : row.after.issued ≡ s.issued
-  pub taken : row.after.taken ≡ s.taken
-  pub made : Grows s.made row.after.made
+-- a state has the records and the counts of letters of another
+pub record Like (s t : NodeState) : Type 0 where
+  pub entering : t.entering ≡ s.entering
+  pub issued : t.issued ≡ s.issued
+  pub taken : t.taken ≡ s.taken
+  pub made : Grows s.made t.made
+
+-- a row leaves them
+abbrev pub Leaves : NodeState → Row → Type 0
+Leaves s row = Like s row.after
 
 -- it leaves them, and for x it does what an act of the machine does, or nothing but that letters may tell of
 -- it, or makes it

@@ -15,7 +15,7 @@ use Rattle.bmx_protocol.specs.Worlds.{world_of}
 use Rattle.bmx_object.specs.Machine.{Note, Slip, Numbers, Object, send, Move, at_one, at_two, with_holding, issue, issue_all, moved, take_notes, is_brought, got_in, popped, IsNowhere, made_holding, Does, Takes, Writes, Run, Goes}
 use Rattle.bmx_object.specs.Machine.{Makes as MakesIt}
 use Rattle.bmx_ownership.specs.Seen.{seen, seen_slip, seen_notes, seen_numbers}
-use Rattle.bmx_ownership.proofs.Basics.{eqb_is, eqb_same, eqb_sym, eqb_apart, Two, Same, Apart, two}
+use Rattle.bmx_ownership.proofs.Basics.{eqb_of, eqb_is, eqb_same, eqb_sym, eqb_apart, Two, Same, Apart, two}
 use Rattle.bmx_ownership.proofs.Sends.{seen_send, seen_sends}
 use Rattle.bmx_ownership.proofs.Rows.{seen_known, NoneRefers, MayTell, OnlyTell, Silent, Leaves, Did, Acts, Passes, Makes}
 use Rattle.bmx_ownership.proofs.Takes.{Issues, Own, Others, Took}
@@ -129,15 +129,15 @@ taking_run x nodes past e after row from l rest start t run = by_sends t.took.se
 
     way : (n m : ℕ) → Two me m → Two from n → map (seen_slip x) (way_left past e from rest n m) ≡ at_two o.way from me left n m
     way n m (Same a) (Same b) =
-        let at : (me == m) ≡ true = ap (λ (z : ℕ). me == z) (sym a) ∙ eqb_same me in
-        let of : (from == n) ≡ true = ap (λ (z : ℕ). from == z) (sym b) ∙ eqb_same from in
+        let at : (me == m) ≡ true = eqb_of a in
+        let of : (from == n) ≡ true = eqb_of b in
         let at_back : true ≡ (m == me) = sym (eqb_sym m me ∙ at) in
         let of_back : true ≡ (n == from) = sym (eqb_sym n from ∙ of) in
         (λ i. map (seen_slip x) (cond (at i) (cond (of i) rest (on_way n m past)) (on_way n m past)))
         ∙ (λ i. cond (at_back i) left (o.way from m))
         ∙ (λ i. cond (of_back i) (at_one (o.way from) me left) (o.way n) m)
     way n m (Same a) (Apart h d) =
-        let at : (me == m) ≡ true = ap (λ (z : ℕ). me == z) (sym a) ∙ eqb_same me in
+        let at : (me == m) ≡ true = eqb_of a in
         let of_back : false ≡ (n == from) = sym (eqb_sym n from ∙ h) in
         (λ i. map (seen_slip x) (cond (at i) (cond (h i) rest (on_way n m past)) (on_way n m past)))
         ∙ (λ i. cond (of_back i) (at_one (o.way from) me left) (o.way n) m)

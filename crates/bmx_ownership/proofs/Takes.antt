@@ -24,7 +24,7 @@ use Rattle.bmx_protocol.specs.Rows.{Post, post, Row, stray, info_in, heard_of, h
 use Rattle.bmx_object.specs.Machine.{Holding, Note, Asks, Grants, Recalls, Returns, Tells, Numbers, Send, send, Move, got_in, take_note, take_notes, take_no_note, take_more, and_then, is_brought, with_it, stays}
 use Rattle.bmx_object.specs.Machine.{requested as requested_move, grant_taken, recalled, returned}
 use Rattle.bmx_ownership.specs.Seen.{note_if, tells, seen_notes, seen_holding, seen_numbers}
-use Rattle.bmx_ownership.proofs.Basics.{eqb_same, Two, Same, Apart, two, put_same, put_apart, note_same, note_apart}
+use Rattle.bmx_ownership.proofs.Basics.{eqb_of, eqb_same, Two, Same, Apart, two, put_same, put_apart, note_same, note_apart}
 use Rattle.bmx_ownership.proofs.Sends.{seen_sends, seen_record, records_of, record_at}
 use Rattle.bmx_ownership.proofs.Rows.{seen_known, Silent, seen_same, seen_apart, asks_same, asks_apart}
 
@@ -341,7 +341,7 @@ heard me from x (told.Ref info ∷ fields) known =
     by_two : Two info.name x → take_notes me from rest (seen_known (hear from known info x)) ≡ Some (take_no_note (seen_known last)) →
         take_notes me from (note_if x info.name Tells rest) (seen_known (known x)) ≡ Some (take_no_note (seen_known last))
     by_two (Same e) more =
-        ap (λ (b : Bool). take_notes me from (cond b (Tells ∷ rest) rest) (seen_known (known x))) (ap (λ (z : ℕ). info.name == z) (sym e) ∙ eqb_same info.name)
+        ap (λ (b : Bool). take_notes me from (cond b (Tells ∷ rest) rest) (seen_known (known x))) (eqb_of e)
         ∙ ap (λ (m : Option Move). and_then m (λ h. take_notes me from rest h))
         (subst (λ (z : ℕ). take_note me from Tells (seen_known (known z)) ≡ Some (take_no_note (seen_known (hear from known info z)))) e
         (hear_same me from known info))

@@ -7,6 +7,7 @@ use Rattle.bmx_protocol.specs.Nodes.{Setting}
 use Rattle.bmx_protocol.specs.Steps.{Node}
 use Rattle.bmx_protocol.specs.Histories.{AreAfter, IsLegal}
 use Rattle.bmx_protocol.specs.Worlds.{World, world_of, EachHasOneOwner, WritesExclude}
+use Rattle.bmx_protocol.specs.Cases.{one_bunch, told_of_the_object}
 use Rattle.bmx_ownership.specs.Seen.{seen, first_world}
 
 -- what a legal history leads to, seen for one name, is the end of a run of the machine of one object
@@ -29,3 +30,9 @@ OneOwner = Always EachHasOneOwner
 -- while a node holds an object for writing, no other node holds it
 abbrev pub WriteExcludes : Type 0
 WriteExcludes = Always WritesExclude
+
+-- the laws speak of something: a store of two nodes opens with one bunch, and a run worked by hand is legal
+-- there
+abbrev pub LawsApply : Type 0
+LawsApply =
+    IsOpening (one_bunch 2).nodes (one_bunch 2).limit (one_bunch 2).births × IsLegal (one_bunch 2) told_of_the_object.past

@@ -1,4 +1,4 @@
-ghost use Rattle.bmx_ownership.specs.Laws.{SeenIsRun, OneOwner, WriteExcludes};
+ghost use Rattle.bmx_ownership.specs.Laws.{SeenIsRun, OneOwner, WriteExcludes, LawsApply};
 
 /// The law that what a legal history leads to, seen for one name, is the end of a run of the machine of
 /// one object. It does nothing.
@@ -15,4 +15,10 @@ pub fn one_owner()
 /// It does nothing.
 pub fn write_excludes()
     ensures { WriteExcludes }
+{}
+
+/// The law that there is a store and a legal history of it, worked by hand, to which the other laws apply.
+/// It does nothing.
+pub fn laws_apply()
+    ensures { LawsApply }
 {}

@@ -1,4 +1,4 @@
-use Rattle.bmx_ownership.proofs.Shared.{one_owner_always}
+use Rattle.bmx_ownership.proofs.Lifted.{one_owner_always}
 use Rattle.bmx_ownership.proofs.laws.one_owner.Goals as goal
 
 pub returns : goal.returns

@@ -1,4 +1,4 @@
-use Rattle.bmx_ownership.proofs.Shared.{write_excludes_always}
+use Rattle.bmx_ownership.proofs.Lifted.{write_excludes_always}
 use Rattle.bmx_ownership.proofs.laws.write_excludes.Goals as goal
 
 pub returns : goal.returns

@@ -1,4 +1,4 @@
--- The machine's laws over legal histories.
+-- The laws of the machine of one object, over legal histories.
 use Rattle.std.proofs.Common.{ℕ, List}
 use Rattle.bmx_types.specs.Openings.{IsOpening}
 use Rattle.bmx_protocol.specs.declared.events.Event.{Event}

@@ -1,0 +1,47 @@
+-- Runs worked by hand, seen for one name, each closed by computing.
+use Rattle.std.specs.Prelude.{◌≡◌, ℕ, [], ◌∷◌, Some, None, refl}
+use Rattle.bmx_types.specs.declared.commands.Command.TheVariants as command
+use Rattle.bmx_types.specs.declared.numbers.Mode.TheVariants as mode
+use Rattle.bmx_protocol.specs.Worlds.{world_of}
+use Rattle.bmx_protocol.specs.Cases.{Play, Do, Serve, Next, played, one_bunch, anchor, r0, told_of_the_object}
+use Rattle.bmx_object.specs.Machine.{Object, Grants, Tells, heard_from, made_holding}
+use Rattle.bmx_ownership.specs.Seen.{seen}
+
+abbrev seen_in : Play → ℕ → Object
+seen_in p x = seen x (world_of p.nodes p.past)
+
+-- 0.2 is stored in 0.1, and a grant of 0.1 is on its way to node 1
+abbrev granted_the_anchor : Play
+granted_the_anchor = played (one_bunch 2) (
+    Do 0 (command.New 0 0 1) ∷ Do 0 (command.Write anchor) ∷ Do 0 (command.Set anchor 0 r0) ∷ Do 0 (command.Done anchor)
+    ∷ Do 1 (command.Read anchor) ∷ Next 1 0 ∷ Serve 0 1 ∷ [])
+
+-- of 0.1 the letter says that it is granted, of 0.2 that a field refers to it, and nothing of 0.3
+of_the_anchor : (seen_in granted_the_anchor 1).way 0 1 ≡ record { seq = 1; notes = Grants mode.Read ∷ [] } ∷ []
+of_the_anchor = refl
+
+of_the_object : (seen_in granted_the_anchor 2).way 0 1 ≡ record { seq = 1; notes = Tells ∷ [] } ∷ []
+of_the_object = refl
+
+of_another : (seen_in granted_the_anchor 3).way 0 1 ≡ record { seq = 1; notes = [] } ∷ []
+of_another = refl
+
+-- both are given to node 1 by letter 1
+the_anchor_is_given : (seen_in granted_the_anchor 1).entering 0 1 ≡ Some (record { sent = 1; got = 0 })
+the_anchor_is_given = refl
+
+the_object_is_given : (seen_in granted_the_anchor 2).entering 0 1 ≡ Some (record { sent = 1; got = 0 })
+the_object_is_given = refl
+
+-- node 0 has what it made, and node 1 has heard of it once it has taken the grant
+its_maker_has_it : (seen_in told_of_the_object 2).holds 0 ≡ Some made_holding
+its_maker_has_it = refl
+
+not_heard_of : (seen_in granted_the_anchor 2).holds 1 ≡ None
+not_heard_of = refl
+
+heard_of : (seen_in told_of_the_object 2).holds 1 ≡ Some (heard_from 0)
+heard_of = refl
+
+no_letter_left : (seen_in told_of_the_object 2).way 0 1 ≡ []
+no_letter_left = refl
