@@ -18,8 +18,16 @@ test:
 try:
 	cd crates/bmx_cli && rt try -- run < $(abspath $(SCRIPT))
 
+# Runs each example and compares what it prints with the file beside it.
+examples: build
+	for script in examples/*.bmx; do ./bin/bmx run < $$script | diff $${script%.bmx}.out - || exit 1; done
+
+# Times a script of 2,000 lines and one of 20,000, and prints the ratio.
+bench: build
+	python3 bench/lines.py bin/bmx
+
 # Proves every crate over what earlier checks kept.
 check:
 	rt all check
 
-.PHONY: run build test try check
+.PHONY: run build test try examples bench check
