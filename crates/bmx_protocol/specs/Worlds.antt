@@ -1,12 +1,11 @@
 -- All nodes and the letters on their way, and what is said of them together: who owns an object, what
 -- its current copy is, how a node finds its owner, which objects are reached, and when all is at rest.
 use Rattle.std.specs.Prelude.{◌≡◌, ℕ, suc, ◌<◌, ◌≤◌, false, List, [], ◌∷◌, Contains, IsSome, map, Some, None}
-use Rattle.bmx_types.specs.Words.{anchor_of}
 use Rattle.bmx_types.specs.Openings.{bunches_of}
 use Rattle.bmx_types.specs.declared.values.Val.{Val}
-use Rattle.bmx_types.specs.declared.values.Val.TheVariants as val
 use Rattle.bmx_types.specs.declared.addresses.Info.{Info}
 use Rattle.bmx_graph.specs.State.{State, fields_of}
+use Rattle.bmx_graph.specs.Reached as Reached
 use Rattle.bmx_msg.specs.declared.letters.Field.{Field}
 use Rattle.bmx_msg.specs.declared.letters.Letter.{Letter}
 use Rattle.bmx_msg.specs.declared.letters.Msg.{Msg}
@@ -129,9 +128,6 @@ pub record IsAtRest (st : Setting) (w : World) : Type 0 where
 
 -- ## reached objects
 
--- x is reached in the graph: from a register of a node, as an anchor, or from the fields of an object
--- that is reached
-pub data IsReached (st : Setting) (g : State) : ℕ → Type 0 where
-  InRegister : {x : ℕ} (n r : ℕ) → n < st.nodes → r < 16 → g.register n r ≡ val.Ref x → IsReached st g x
-  Anchor : (bunch : ℕ) → bunch < bunches_of st.births → IsReached st g (anchor_of bunch)
-  InField : {y : ℕ} (x : ℕ) → IsReached st g x → Contains (fields_of g x) (val.Ref y) → IsReached st g y
+-- x is reached in the graph of a store that opens so
+abbrev pub IsReached : Setting → State → ℕ → Type 0
+IsReached st g x = Reached.IsReached st.nodes (bunches_of st.births) g x
