@@ -4,7 +4,7 @@ use Rattle.std.specs.Prelude.{◌≡◌, ℕ, suc, ◌<◌, ◌≤◌, false, Li
 use Rattle.bmx_types.specs.Openings.{bunches_of}
 use Rattle.bmx_types.specs.declared.values.Val.{Val}
 use Rattle.bmx_types.specs.declared.addresses.Info.{Info}
-use Rattle.bmx_graph.specs.State.{State, fields_of}
+use Rattle.bmx_graph.specs.State.{State}
 use Rattle.bmx_graph.specs.Reached as Reached
 use Rattle.bmx_msg.specs.declared.letters.Field.{Field}
 use Rattle.bmx_msg.specs.declared.letters.Letter.{Letter}
@@ -52,9 +52,12 @@ pub data HasCurrent (w : World) (x : ℕ) (fields : List Val) : Type 0 where
   Sent : (from to : ℕ) (l : Letter) (info : Info) (told : List Field) → IsMoving w x from to l info told →
       map (λ f. value_in (heard_field f)) told ≡ fields → HasCurrent w x fields
 
--- the current copy of x is as the graph has x
-abbrev pub IsCurrent : World → State → ℕ → Type 0
-IsCurrent w g x = HasCurrent w x (fields_of g x)
+-- the current copy of x is as the graph has x: the graph has it, and its owner's copy or the grant on its
+-- way has the same fields
+pub record IsCurrent (w : World) (g : State) (x : ℕ) : Type 0 where
+  pub fields : List Val
+  pub in_graph : g.object x ≡ Some fields
+  pub at_owner : HasCurrent w x fields
 
 -- ## chains
 
