@@ -1,6 +1,6 @@
 -- All nodes and the letters on their way, and what is said of them together: who owns an object, what
 -- its current copy is, how a node finds its owner, which objects are reached, and when all is at rest.
-use Rattle.std.specs.Prelude.{◌≡◌, ℕ, suc, ◌<◌, ◌≤◌, false, List, [], ◌∷◌, Contains, IsSome, map, Some, None}
+use Rattle.std.specs.Prelude.{◌≡◌, ℕ, suc, ◌<◌, ◌≤◌, false, List, [], ◌∷◌, Contains, IsSome, map, Some, None, ◌⊎◌}
 use Rattle.bmx_types.specs.Openings.{bunches_of}
 use Rattle.bmx_types.specs.declared.values.Val.{Val}
 use Rattle.bmx_types.specs.declared.addresses.Info.{Info}
@@ -105,16 +105,38 @@ pub record HasOneOwner (w : World) (x : ℕ) : Type 0 where
 abbrev pub EachHasOneOwner : Setting → World → Type 0
 EachHasOneOwner st w = (x : ℕ) → IsSomewhere st w x → HasOneOwner w x
 
--- from each node that knows a name its parents lead to the owner
-abbrev pub EachHasChain : Setting → World → Type 0
-EachHasChain st w = (n x : ℕ) (k : Known) → n < st.nodes → (w.state n).known x ≡ Some k → HasChain st w x n
-
 -- while a node holds x for writing, no other node holds it
 abbrev pub WritesExclude : Setting → World → Type 0
 WritesExclude st w =
     (n m x : ℕ) (j k : Known) → n < st.nodes → m < st.nodes →
     (w.state n).known x ≡ Some j → (w.state m).known x ≡ Some k →
     j.part.held ≡ Some mode.Write → IsSome k.part.held → m ≡ n
+
+-- ## chains: what a law to come is to state of every legal history
+
+-- from each node that knows a name its parents lead to the owner
+abbrev pub EachHasChain : Setting → World → Type 0
+EachHasChain st w = (n x : ℕ) (k : Known) → n < st.nodes → (w.state n).known x ≡ Some k → HasChain st w x n
+
+-- a grant of ownership of x is on its way from a child to its parent
+pub record IsGivenBack (w : World) (x child parent : ℕ) : Type 0 where
+  pub letter : Letter
+  pub info : Info
+  pub fields : List Field
+  pub moves : IsMoving w x child parent letter info fields
+
+-- a parent answers for x to a node that asks it: it knows x, and has a record of x from that node unless
+-- a grant of ownership of x is on its way from the node to it; then it wants x
+pub record AnswersFor (w : World) (x child parent : ℕ) : Type 0 where
+  pub known : Known
+  pub knows : (w.state parent).known x ≡ Some known
+  pub recorded : IsSome ((w.state parent).entering x child) ⊎ IsGivenBack w x child parent
+  pub wants : IsGivenBack w x child parent → IsSome known.part.want
+
+-- each parent answers for what it is asked for
+abbrev pub EachParentAnswers : Setting → World → Type 0
+EachParentAnswers st w =
+    (n x parent : ℕ) (k : Known) → n < st.nodes → HasParent w x n parent k → AnswersFor w x n parent
 
 -- ## rest
 
