@@ -4,3 +4,4 @@ pub mod Replayed
 pub mod Worked
 mod RunCases
 pub mod Counts
+pub mod Shown

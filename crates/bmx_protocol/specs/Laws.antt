@@ -5,7 +5,8 @@ use Rattle.bmx_protocol.specs.declared.inputs.NodeAnswer.{NodeAnswer}
 use Rattle.bmx_protocol.specs.declared.inputs.NodeAnswer.TheVariants as answer
 use Rattle.bmx_protocol.specs.declared.inputs.Done.{Done}
 use Rattle.bmx_protocol.specs.declared.events.Event.{Event}
-use Rattle.bmx_protocol.specs.Nodes.{Setting, NodeState}
+use Rattle.bmx_protocol.specs.declared.views.View.{View}
+use Rattle.bmx_protocol.specs.Nodes.{Setting, NodeState, Shows}
 use Rattle.bmx_protocol.specs.Steps.{Node, IsStep, hint_of}
 use Rattle.bmx_protocol.specs.Histories.{AreAfter, IsLegal, issued}
 use Rattle.bmx_protocol.specs.Cases.{one_bunch, told_of_the_object}
@@ -69,3 +70,7 @@ abbrev pub IssuedIsCounted : Type 0
 IssuedIsCounted =
     (st : Setting) (history : List Event) (nodes : ℕ → Node) → AreAfter st history nodes →
     (n m : ℕ) → (nodes n).state.issued m ≡ length (issued n m history)
+
+-- a node's state has at most one view that shows it
+abbrev pub StateHasOneView : Type 0
+StateHasOneView = (nodes : ℕ) (s : NodeState) (v w : View) → Shows nodes v s → Shows nodes w s → v ≡ w

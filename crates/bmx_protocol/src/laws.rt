@@ -1,4 +1,4 @@
-ghost use Rattle.bmx_protocol.specs.Laws.{StepIsDetermined, RefusalKeeps, EmptyIsLegal, PrefixIsLegal, ReplayIsDetermined, StampIsWithinPlace, WorkedRunIsLegal, IssuedIsCounted};
+ghost use Rattle.bmx_protocol.specs.Laws.{StepIsDetermined, RefusalKeeps, EmptyIsLegal, PrefixIsLegal, ReplayIsDetermined, StampIsWithinPlace, WorkedRunIsLegal, IssuedIsCounted, StateHasOneView};
 
 /// The law that a step makes one outcome and one node of a node, an input and a stamp. It does nothing.
 pub fn step_is_determined()
@@ -40,4 +40,9 @@ pub fn worked_run_is_legal()
 /// The law that a node counts the letters that its history issued. It does nothing.
 pub fn issued_is_counted()
     ensures { IssuedIsCounted }
+{}
+
+/// The law that a node's state has at most one view that shows it. It does nothing.
+pub fn state_has_one_view()
+    ensures { StateHasOneView }
 {}
