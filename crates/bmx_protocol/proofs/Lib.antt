@@ -1,4 +1,5 @@
 pub mod Refusals
+pub mod Waits
 pub mod Prefixes
 pub mod Replayed
 pub mod Worked

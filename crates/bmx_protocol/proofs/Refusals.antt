@@ -186,8 +186,9 @@ row_keeps st me s h (input.Take from l) r = letter_keeps s _ (letter_taken st me
 
 -- ## the places
 
-made_keeps : (me : ℕ) (n : Node) (c : Command) (a : NodeAnswer) → IsRefusal a → made_places me n c a ≡ n.places
-made_keeps me n (command.New r b size) answer.Nil h = absurd h
+-- no object is made where the answer isn't Nil
+pub made_keeps : (me : ℕ) (n : Node) (c : Command) (a : NodeAnswer) → (a ≡ answer.Nil → ⊥) → made_places me n c a ≡ n.places
+made_keeps me n (command.New r b size) answer.Nil h = absurd (h refl)
 made_keeps me n (command.New r b size) (answer.Value v) h = refl
 made_keeps me n (command.New r b size) answer.Yes h = refl
 made_keeps me n (command.New r b size) answer.No h = refl
@@ -209,7 +210,7 @@ made_keeps me n (command.Same x y) a h = refl
 places_keep : (st : Setting) (me : ℕ) (n : Node) (h : Hint) (i : Input) (places : Places) →
     let row : Row = row_of st me n.state h i in
     IsRefusal row.answer → MovesTo me n i row.answer places → places ≡ n.places
-places_keep st me n h (input.Do c) places r moved = moved ∙ made_keeps me n c _ r
+places_keep st me n h (input.Do c) places r moved = moved ∙ made_keeps me n c _ (λ nil. subst IsRefusal nil r)
 places_keep st me n h (input.Serve name) places r moved = moved
 places_keep st me n h (input.Take from l) places r moved =
     let row : Row = letter_row st me n.state h.clash from l in

@@ -42,6 +42,14 @@ RefusalKeeps =
     IsStep st me n stamp i d n' → IsRefusal d.answer →
     (d.letters ≡ []) × (n' ≡ record n { state = with_step n.state })
 
+-- a step that answers Wait, issues no letter and changes no entry changes nothing of the node but that it
+-- is counted
+abbrev pub WaitKeeps : Type 0
+WaitKeeps =
+    (st : Setting) (me stamp : ℕ) (i : Input) (n n' : Node) (d : Done) →
+    IsStep st me n stamp i d n' → d.answer ≡ answer.Wait → d.letters ≡ [] → n'.state.known ≡ n.state.known →
+    n' ≡ record n { state = with_step n.state }
+
 -- the history of no event is legal
 abbrev pub EmptyIsLegal : Type 0
 EmptyIsLegal = (st : Setting) → IsLegal st []

@@ -1,4 +1,4 @@
-ghost use Rattle.bmx_protocol.specs.Laws.{StepIsDetermined, RefusalKeeps, EmptyIsLegal, PrefixIsLegal, ReplayIsDetermined, StampIsWithinPlace, WorkedRunIsLegal, IssuedIsCounted, StateHasOneView};
+ghost use Rattle.bmx_protocol.specs.Laws.{StepIsDetermined, RefusalKeeps, WaitKeeps, EmptyIsLegal, PrefixIsLegal, ReplayIsDetermined, StampIsWithinPlace, WorkedRunIsLegal, IssuedIsCounted, StateHasOneView};
 
 /// The law that a step makes one outcome and one node of a node, an input and a stamp. It does nothing.
 pub fn step_is_determined()
@@ -9,6 +9,12 @@ pub fn step_is_determined()
 /// nothing.
 pub fn refusal_keeps()
     ensures { RefusalKeeps }
+{}
+
+/// The law that a step that answers Wait, issues no letter and changes no entry changes nothing but the
+/// count of steps. It does nothing.
+pub fn wait_keeps()
+    ensures { WaitKeeps }
 {}
 
 /// The law that the history of no event is legal. It does nothing.
