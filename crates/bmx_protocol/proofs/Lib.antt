@@ -4,5 +4,6 @@ pub mod Prefixes
 pub mod Replayed
 pub mod Worked
 mod RunCases
+mod WorldCases
 pub mod Counts
 pub mod Shown

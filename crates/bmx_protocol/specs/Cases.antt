@@ -126,6 +126,33 @@ the_anchor = record { name = 1; bunch = 0; size = 32; place = record { address =
 abbrev pub the_object : Info
 the_object = record { name = 2; bunch = 0; size = 1; place = record { address = 0x100000024; moves = 0 } }
 
+-- node 1 reads 0.1 and 0.2 of node 0
+one_reader : Says (one_bunch 2) (
+    line (Do 0 (command.New 0 0 1)) 1 answer.Nil []
+    ∷ line (Do 0 (command.Write r0)) 2 answer.Nil []
+    ∷ line (Do 0 (command.Set r0 0 (operand.Int (pos 42)))) 3 answer.Nil []
+    ∷ line (Do 0 (command.Done r0)) 4 answer.Nil []
+    ∷ line (Do 0 (command.Write anchor)) 5 answer.Nil []
+    ∷ line (Do 0 (command.Set anchor 0 r0)) 6 answer.Nil []
+    ∷ line (Do 0 (command.Done anchor)) 7 answer.Nil []
+    ∷ line (Do 1 (command.Read anchor)) 1 answer.Wait (letter 0 1 1 (msg.ReadReq 1 1) ∷ [])
+    ∷ line (Next 1 0) 8 answer.Nil []
+    ∷ line (Serve 0 1) 9 answer.Nil (letter 1 1 9 (msg.ReadGrant the_anchor (told.Ref the_object ∷ replicate 31 told.Null)) ∷ [])
+    ∷ line (Next 0 1) 10 answer.Nil []
+    ∷ line (Do 1 (command.Read anchor)) 11 answer.Nil []
+    ∷ line (Do 1 (command.Get 0 anchor 0)) 12 (answer.Value (val.Ref 2)) []
+    ∷ line (Do 1 (command.Show anchor 0)) 13 (answer.Value (val.Ref 2)) []
+    ∷ line (Do 1 (command.Done anchor)) 14 answer.Nil []
+    ∷ line (Do 1 (command.Read r0)) 15 answer.Wait (letter 0 2 15 (msg.ReadReq 2 1) ∷ [])
+    ∷ line (Next 1 0) 16 answer.Nil []
+    ∷ line (Serve 0 2) 17 answer.Nil (letter 1 2 17 (msg.ReadGrant the_object (told.Int (pos 42) ∷ [])) ∷ [])
+    ∷ line (Next 0 1) 18 answer.Nil []
+    ∷ line (Do 1 (command.Read r0)) 19 answer.Nil []
+    ∷ line (Do 1 (command.Show r0 0)) 20 (answer.Value (val.Int (pos 42))) []
+    ∷ line (Do 1 (command.Done r0)) 21 answer.Nil []
+    ∷ [])
+one_reader = refl
+
 -- nodes 2 and 3 read 0.1 and 0.2 of node 0; node 1 writes 0.2 once both have given it up; then node 0
 -- writes it, and nodes 2 and 3 read it again
 two_readers_and_a_writer : Says (one_bunch 4) (

@@ -118,20 +118,20 @@ WritesExclude st w =
 abbrev pub EachHasChain : Setting → World → Type 0
 EachHasChain st w = (n x : ℕ) (k : Known) → n < st.nodes → (w.state n).known x ≡ Some k → HasChain st w x n
 
--- a grant of ownership of x is on its way from a child to its parent
-pub record IsGivenBack (w : World) (x child parent : ℕ) : Type 0 where
+-- a grant of ownership of x is on its way from one node to another
+pub record IsHandedOver (w : World) (x from to : ℕ) : Type 0 where
   pub letter : Letter
   pub info : Info
   pub fields : List Field
-  pub moves : IsMoving w x child parent letter info fields
+  pub moves : IsMoving w x from to letter info fields
 
 -- a parent answers for x to a node that asks it: it knows x, and has a record of x from that node unless
 -- a grant of ownership of x is on its way from the node to it; then it wants x
 pub record AnswersFor (w : World) (x child parent : ℕ) : Type 0 where
   pub known : Known
   pub knows : (w.state parent).known x ≡ Some known
-  pub recorded : IsSome ((w.state parent).entering x child) ⊎ IsGivenBack w x child parent
-  pub wants : IsGivenBack w x child parent → IsSome known.part.want
+  pub recorded : IsSome ((w.state parent).entering x child) ⊎ IsHandedOver w x child parent
+  pub wants : IsHandedOver w x child parent → IsSome known.part.want
 
 -- each parent answers for what it is asked for
 abbrev pub EachParentAnswers : Setting → World → Type 0
