@@ -6,4 +6,6 @@ pub mod Worked
 mod RunCases
 mod WorldCases
 pub mod Counts
+pub mod Alike
 pub mod Shown
+pub mod ShownSteps

@@ -1,5 +1,5 @@
 -- What holds of the definitions themselves.
-use Rattle.std.specs.Prelude.{◌≡◌, ℕ, ◌+◌, ◌≤◌, List, [], ◌∷◌, ◌++◌, length}
+use Rattle.std.specs.Prelude.{◌≡◌, ℕ, ◌+◌, ◌<◌, ◌≤◌, All, List, [], ◌∷◌, ◌++◌, length}
 use Rattle.bmx_protocol.specs.declared.inputs.Input.{Input}
 use Rattle.bmx_protocol.specs.declared.inputs.NodeAnswer.{NodeAnswer}
 use Rattle.bmx_protocol.specs.declared.inputs.NodeAnswer.TheVariants as answer
@@ -8,7 +8,7 @@ use Rattle.bmx_protocol.specs.declared.events.Event.{Event}
 use Rattle.bmx_protocol.specs.declared.views.View.{View}
 use Rattle.bmx_protocol.specs.Nodes.{Setting, NodeState, Shows}
 use Rattle.bmx_protocol.specs.Steps.{Node, IsStep, hint_of}
-use Rattle.bmx_protocol.specs.Histories.{AreAfter, IsLegal, issued}
+use Rattle.bmx_protocol.specs.Histories.{AreAfter, IsLegal, IsInputOf, issued}
 use Rattle.bmx_protocol.specs.Cases.{one_bunch, told_of_the_object}
 
 -- the answers of a step that is refused: it is stray, has nothing to serve, or may not be done
@@ -82,3 +82,15 @@ IssuedIsCounted =
 -- a node's state has at most one view that shows it
 abbrev pub StateHasOneView : Type 0
 StateHasOneView = (nodes : ℕ) (s : NodeState) (v w : View) → Shows nodes v s → Shows nodes w s → v ≡ w
+
+-- what a step shows depends only on what is shown: nodes whose states one view shows, by an input of the
+-- store, with the same told by their places, make one outcome where its letters go to nodes of the store,
+-- and a view that shows the one after the step shows the other
+abbrev pub ShownStepsAgree : Type 0
+ShownStepsAgree =
+    (st : Setting) (me stamp : ℕ) (i : Input) (n m n' m' : Node) (c d : Done) (v w : View) →
+    Shows st.nodes v n.state → Shows st.nodes v m.state →
+    hint_of st me n i ≡ hint_of st me m i → IsInputOf st i →
+    IsStep st me n stamp i c n' → IsStep st me m stamp i d m' →
+    All (λ l. l.to < st.nodes) c.letters →
+    Shows st.nodes w n'.state → (c ≡ d) × Shows st.nodes w m'.state

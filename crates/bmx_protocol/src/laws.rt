@@ -1,4 +1,4 @@
-ghost use Rattle.bmx_protocol.specs.Laws.{StepIsDetermined, RefusalKeeps, WaitKeeps, EmptyIsLegal, PrefixIsLegal, ReplayIsDetermined, StampIsWithinPlace, WorkedRunIsLegal, IssuedIsCounted, StateHasOneView};
+ghost use Rattle.bmx_protocol.specs.Laws.{StepIsDetermined, RefusalKeeps, WaitKeeps, EmptyIsLegal, PrefixIsLegal, ReplayIsDetermined, StampIsWithinPlace, WorkedRunIsLegal, IssuedIsCounted, StateHasOneView, ShownStepsAgree};
 
 /// The law that a step makes one outcome and one node of a node, an input and a stamp. It does nothing.
 pub fn step_is_determined()
@@ -51,4 +51,11 @@ pub fn issued_is_counted()
 /// The law that a node's state has at most one view that shows it. It does nothing.
 pub fn state_has_one_view()
     ensures { StateHasOneView }
+{}
+
+/// The law that what a step shows depends only on what is shown: of nodes that one view shows, with the
+/// same told by their places, steps by an input of the store whose letters go to its nodes have one
+/// outcome, and one view shows what they lead to. It does nothing.
+pub fn shown_steps_agree()
+    ensures { ShownStepsAgree }
 {}
