@@ -1,7 +1,7 @@
 -- States that differ only outside the registers and the nodes of the store have rows that do so too.
-use Rattle.std.proofs.Common.{◌≡◌, ℕ, ◌<◌, ◌==◌, refl, ap, sym, ◌∙◌, subst, Bool, true, false, cond, List, [], ◌∷◌, map, arith}
+use Rattle.std.proofs.Common.{◌≡◌, ℕ, ◌<◌, ◌==◌, refl, ap, sym, subst, Bool, true, false, cond, List, [], ◌∷◌, map}
 use Rattle.std.specs.Prelude.{◌+◌, ◌||◌, not, nat_le, ℤ, Option, Some, None, unwrap_or}
-use Rattle.std.proofs.lemmas.Bool.{cond_both, eqb-true}
+use Rattle.std.proofs.lemmas.Bool.{eqb-true}
 use Rattle.bmx_types.specs.declared.values.Val.{Val}
 use Rattle.bmx_types.specs.declared.values.Val.TheVariants as val
 use Rattle.bmx_types.specs.declared.commands.Operand.{Operand}
@@ -14,7 +14,7 @@ use Rattle.bmx_types.specs.declared.addresses.Info.{Info}
 use Rattle.bmx_types.specs.declared.addresses.Place.{Place}
 use Rattle.bmx_graph.specs.declared.answers.Answer.{Answer}
 use Rattle.bmx_graph.specs.declared.answers.Answer.TheVariants as graph
-use Rattle.bmx_graph.specs.State.{State, put, put_at}
+use Rattle.bmx_graph.specs.State.{State, put}
 use Rattle.bmx_graph.specs.Step.{value_of, target_of, reference, set_answer, add_answer, get_answer, same_value, field_at}
 use Rattle.bmx_owner.specs.declared.entering.Record.{Record}
 use Rattle.bmx_msg.specs.declared.letters.Field.{Field}
@@ -40,7 +40,7 @@ use Rattle.bmx_protocol.specs.declared.inputs.NodeAnswer.TheVariants as answer
 use Rattle.bmx_protocol.specs.declared.views.ViewField.{ViewField}
 use Rattle.bmx_protocol.specs.declared.views.ViewField.TheVariants as field
 use Rattle.bmx_protocol.specs.Nodes.{Setting, NodeState, Known, seen_graph}
-use Rattle.bmx_protocol.specs.Rows.{Post, post, ask_for, info_of, Row, only_answers, stray, acquired, acquire_known, acquire_row, released, release_known, release_row, with_stored, with_got, raised_by, answered, graph_row, do_row, told_field, served, serve_known, serve_row, requested, take_request, read_granted, take_read_grant, write_granted, take_write_grant, invalidated, take_inval, acknowledged, take_ack, take_row}
+use Rattle.bmx_protocol.specs.Rows.{Post, post, ask_for, info_of, Row, only_answers, stray, acquired, acquire_known, acquire_row, released, release_known, release_row, with_stored, with_got, raised_by, answered, do_row, told_field, served, serve_known, requested, take_request, read_granted, take_read_grant, write_granted, take_write_grant, invalidated, take_inval, acknowledged, take_ack, take_row}
 use Rattle.bmx_protocol.specs.Strays.{too_large, is_bad_msg, is_bad_letter}
 use Rattle.bmx_protocol.specs.Steps.{Hint, row_of, letter_row}
 use Rattle.bmx_protocol.specs.Histories.{IsOperandOf, IsCommandOf, IsInputOf}
@@ -88,7 +88,13 @@ module _ (nodes : ℕ) (s : NodeState) (registers : ℕ → Val) (issues takes :
   -- changes
   with_entries : (known : ℕ → Option Known) → Alike nodes (record s { known = known }) (record t { known = known })
   with_entries known = record {
-    known = refl; register = same_registers; entering = refl; issued = same_issued; taken = same_taken; clock = refl; made = refl;
+    known = refl;
+    register = same_registers;
+    entering = refl;
+    issued = same_issued;
+    taken = same_taken;
+    clock = refl;
+    made = refl;
   }
 
   as_it_was : Alike nodes s t
@@ -216,7 +222,11 @@ module _ (nodes : ℕ) (s : NodeState) (registers : ℕ → Val) (issues takes :
     after = record {
       known = refl;
       register = put_same 16 r _ _ s.register registers same_registers (λ _. refl);
-      entering = refl; issued = same_issued; taken = same_taken; clock = refl; made = refl;
+      entering = refl;
+      issued = same_issued;
+      taken = same_taken;
+      clock = refl;
+      made = refl;
     };
     posts = refl;
     answer = refl;

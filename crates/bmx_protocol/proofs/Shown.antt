@@ -1,16 +1,15 @@
 -- A state has at most one view that shows it: lists in order with the same finds are the same.
-use Rattle.std.proofs.Common.{◌≡◌, ℕ, zero, suc, ⊎_elim, inl, inr, ◌⊎◌, ◌+◌, ◌<◌, Bool, true, false, cond, ◌==◌, List, [], ◌∷◌, length, refl, sym, ap, ◌∙◌, subst, arith, find, All, AllPairs}
-use Rattle.std.specs.Prelude.{Option, Some, None, slice_get}
+use Rattle.std.proofs.Common.{◌≡◌, ℕ, suc, ⊎_elim, inl, inr, ◌⊎◌, ◌<◌, Bool, true, false, ◌==◌, List, [], ◌∷◌, length, refl, sym, ◌∙◌, subst, arith, find, All, AllPairs}
+use Rattle.std.specs.Prelude.{Some, None, slice_get}
 use Rattle.std.proofs.lemmas.Bool.{cond_both, cond-true, cond-false, cases_Bool}
 use Rattle.std.proofs.lemmas.Bool.Decides.{nat_tests}
 use Rattle.bmx_types.specs.declared.values.Val.{Val}
 use Rattle.bmx_owner.specs.declared.entering.Record.{Record}
-use Rattle.bmx_owner.specs.Records.{is_of, IsBefore, find_record}
+use Rattle.bmx_owner.specs.Records.{is_of, IsBefore}
 use Rattle.bmx_owner.proofs.Keys.{is_of-itself, is_of-later}
 use Rattle.bmx_owner.proofs.Parts.{AllPairs-head, AllPairs-tail}
 use Rattle.bmx_protocol.specs.declared.views.Entry.{Entry}
-use Rattle.bmx_protocol.specs.declared.views.View.{View}
-use Rattle.bmx_protocol.specs.Nodes.{NodeState, AreNumbers, Shows}
+use Rattle.bmx_protocol.specs.Nodes.{AreNumbers}
 use Rattle.bmx_protocol.specs.Laws.{StateHasOneView}
 
 -- ## lists with the same elements at each index
@@ -83,15 +82,15 @@ module _ {X K : Type 0} (key : X → K) (hit : K → X → Bool) (R : X → X �
       cc
   same_finds (x ∷ xs) (y ∷ ys) order others e =
       let heads : y ≡ x =
-          ⊎_elim (λ same. same)
-          (λ y_ahead. ⊎_elim (λ same. sym same) (λ x_ahead. absurd (keyed.one_way x y x_ahead y_ahead))
-          (is_first_or_behind y x ys xs order (sym (e (key y)))))
-          (is_first_or_behind x y xs ys others (e (key x))) in
+      ⊎_elim (λ same. same)
+      (λ y_ahead. ⊎_elim (λ same. sym same) (λ x_ahead. absurd (keyed.one_way x y x_ahead y_ahead))
+      (is_first_or_behind y x ys xs order (sym (e (key y)))))
+      (is_first_or_behind x y xs ys others (e (key x))) in
       let others_too : AllPairs R (x ∷ ys) = subst (λ z. AllPairs R (z ∷ ys)) heads others in
       let finds : (k : K) → find (hit k) (x ∷ xs) ≡ find (hit k) (x ∷ ys) = λ k. subst (λ z. find (hit k) (x ∷ xs) ≡ find (hit k) (z ∷ ys)) heads (e k) in
       let tails : xs ≡ ys =
-          same_finds xs ys (AllPairs-tail R x xs order) (AllPairs-tail R x ys others_too)
-          (λ k. same_tails x xs ys k order others_too (finds k)) in
+      same_finds xs ys (AllPairs-tail R x xs order) (AllPairs-tail R x ys others_too)
+      (λ k. same_tails x xs ys k order others_too (finds k)) in
       cc
 
 -- ## the lists of a view
@@ -129,13 +128,13 @@ registers_same f xs ys many others a b =
 pub state_has_one_view : StateHasOneView
 state_has_one_view nodes s v w a b =
     let entries : v.entries ≡ w.entries =
-        same_finds (λ (e : Entry). e.name) (λ name (e : Entry). e.name == name) (λ (d e : Entry). d.name < e.name) entries_keyed
-        v.entries w.entries a.rising b.rising (λ name. a.entries name ∙ sym (b.entries name)) in
+    same_finds (λ (e : Entry). e.name) (λ name (e : Entry). e.name == name) (λ (d e : Entry). d.name < e.name) entries_keyed
+    v.entries w.entries a.rising b.rising (λ name. a.entries name ∙ sym (b.entries name)) in
     let records : v.records ≡ w.records =
-        same_finds (λ (r : Record). (r.name, r.from)) (λ (k : ℕ × ℕ) (r : Record). is_of k.0 k.1 r) IsBefore records_keyed
-        v.records w.records a.in_order b.in_order (λ k. a.records k.0 k.1 ∙ sym (b.records k.0 k.1)) in
+    same_finds (λ (r : Record). (r.name, r.from)) (λ (k : ℕ × ℕ) (r : Record). is_of k.0 k.1 r) IsBefore records_keyed
+    v.records w.records a.in_order b.in_order (λ k. a.records k.0 k.1 ∙ sym (b.records k.0 k.1)) in
     let registers : v.registers ≡ w.registers =
-        registers_same s.register v.registers w.registers a.all_registers b.all_registers a.registers b.registers in
+    registers_same s.register v.registers w.registers a.all_registers b.all_registers a.registers b.registers in
     let issued : v.issued ≡ w.issued = numbers_same nodes v.issued w.issued s.issued a.issued b.issued in
     let taken : v.taken ≡ w.taken = numbers_same nodes v.taken w.taken s.taken a.taken b.taken in
     let clock : v.clock ≡ w.clock = a.clock ∙ sym b.clock in

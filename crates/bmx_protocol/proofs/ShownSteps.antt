@@ -1,5 +1,5 @@
 -- What a step shows depends only on what is shown.
-use Rattle.std.proofs.Common.{◌≡◌, ℕ, suc, ◌<◌, refl, ap, sym, ◌∙◌, subst, List, [], ◌∷◌, find, arith, All}
+use Rattle.std.proofs.Common.{◌≡◌, ℕ, suc, ◌<◌, refl, ap, sym, ◌∙◌, subst, List, [], ◌∷◌, arith, All}
 use Rattle.std.specs.Prelude.{◌+◌, Option, Some, None, unwrap_or}
 use Rattle.std.specs.Option.{option_map, option_map_or}
 use Rattle.bmx_graph.specs.State.{put, put_at}
@@ -114,9 +114,9 @@ numbered_same nodes stamp f g (p ∷ posts) same within =
     let lt : p.to < nodes = within 0 first (omega arith) in
     let count : f p.to + 1 ≡ g p.to + 1 = ap (λ k. k + 1) (same p.to lt) in
     let rest : numbered (put f p.to (f p.to + 1)) stamp posts ≡ numbered (put g p.to (g p.to + 1)) stamp posts =
-        numbered_same nodes stamp (put f p.to (f p.to + 1)) (put g p.to (g p.to + 1)) posts
-        (put_same nodes p.to (f p.to + 1) (g p.to + 1) f g same (λ _. count))
-        (λ k d below. within (suc k) d (omega arith)) in
+    numbered_same nodes stamp (put f p.to (f p.to + 1)) (put g p.to (g p.to + 1)) posts
+    (put_same nodes p.to (f p.to + 1) (g p.to + 1) f g same (λ _. count))
+    (λ k d below. within (suc k) d (omega arith)) in
     λ i. record { to = p.to; letter = record { seq = count i; stamp = stamp; msg = p.msg } } ∷ rest i
 
 issued_same : (nodes : ℕ) (f g : ℕ → ℕ) (posts : List Post) → SameBelow nodes f g → SameBelow nodes (issued_after f posts) (issued_after g posts)
@@ -163,7 +163,7 @@ closed_alike nodes stamp a b same within =
     let u : NodeState = with_records a.after (letters_of stamp a) in
     let v : NodeState = with_records b.after (letters_of stamp b) in
     let states : Alike nodes u v =
-        subst (λ l. Alike nodes u (with_records b.after l)) letters (records_alike nodes a.after b.after (letters_of stamp a) same.after) in
+    subst (λ l. Alike nodes u (with_records b.after l)) letters (records_alike nodes a.after b.after (letters_of stamp a) same.after) in
     record {
       known = states.known;
       register = states.register;

@@ -21,11 +21,10 @@ use Rattle.bmx_protocol.specs.declared.inputs.Input.TheVariants as input
 use Rattle.bmx_protocol.specs.declared.inputs.NodeAnswer.{NodeAnswer}
 use Rattle.bmx_protocol.specs.declared.inputs.NodeAnswer.TheVariants as answer
 use Rattle.bmx_protocol.specs.declared.inputs.Done.{Done}
-use Rattle.bmx_protocol.specs.declared.inputs.Sending.{Sending}
 use Rattle.bmx_protocol.specs.Nodes.{Setting, NodeState, Known, seen_graph}
 use Rattle.bmx_protocol.specs.Places.{Places}
-use Rattle.bmx_protocol.specs.Rows.{Post, Row, only_answers, stray, acquired, acquire_known, acquire_row, released, release_known, release_row, answered, graph_row, effect_of, do_row, served, serve_known}
-use Rattle.bmx_protocol.specs.Steps.{Node, Hint, hint_of, row_of, letters_of, done_of, closed, MovesTo, IsStep}
+use Rattle.bmx_protocol.specs.Rows.{Post, Row, acquired, acquire_known, acquire_row, released, release_known, release_row, answered, graph_row, effect_of, do_row, served, serve_known}
+use Rattle.bmx_protocol.specs.Steps.{Node, Hint, hint_of, row_of, letters_of, closed, MovesTo}
 use Rattle.bmx_protocol.specs.Laws.{with_step, WaitKeeps}
 use Rattle.bmx_protocol.proofs.Refusals.{IsTaken, Took, Strayed, letter_taken, made_keeps}
 
@@ -153,7 +152,7 @@ wait_keeps st me stamp i n n' d step waits none same =
     let letters : letters_of stamp row ≡ [] = sym (ap (λ (x : Done). x.letters) step.outcome) ∙ none in
     let known : (closed stamp row).known ≡ n.state.known = sym (ap (λ (t : NodeState). t.known) step.state) ∙ same in
     let state : n'.state ≡ with_step n.state =
-        step.state ∙ closed_keeps stamp n.state row (row_waits st me n.state (hint_of st me n i) i wait) letters known in
+    step.state ∙ closed_keeps stamp n.state row (row_waits st me n.state (hint_of st me n i) i wait) letters known in
     let moved : MovesTo me n i row.answer n'.places = subst (λ (a : NodeAnswer). MovesTo me n i a n'.places) answered step.places in
     let places : n'.places ≡ n.places = places_wait st me n (hint_of st me n i) i n'.places wait moved in
     λ j. record { state = state j; places = places j }

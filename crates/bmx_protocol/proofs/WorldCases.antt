@@ -1,7 +1,7 @@
 -- What is said of nodes together, at the opening: all is quiet and at rest; and of two nodes and one
 -- bunch the anchor has its chain, its parent answers for it, its copy is current, and a view shows node 1.
-use Rattle.std.proofs.Common.{◌≡◌, ℕ, zero, suc, ◌<◌, ◌==◌, Bool, true, false, cond, List, [], ◌∷◌, replicate, find, refl, sym, ap, ◌∙◌, subst, arith, inl}
-use Rattle.std.specs.Prelude.{Option, Some, None, nat_lt, nat_le, ◌&&◌, slice_get}
+use Rattle.std.proofs.Common.{◌≡◌, ℕ, zero, suc, ◌<◌, ◌==◌, Bool, true, false, cond, [], ◌∷◌, replicate, find, refl, sym, ap, ◌∙◌, subst, arith, inl}
+use Rattle.std.specs.Prelude.{Option, Some, None, slice_get}
 use Rattle.std.specs.Option.{option_map}
 use Rattle.std.proofs.lemmas.Bool.{cond_both}
 use Rattle.std.proofs.lemmas.Bool.Decides.{nat_tests}
@@ -16,7 +16,6 @@ use Rattle.bmx_protocol.specs.declared.views.View.{View}
 use Rattle.bmx_protocol.specs.Nodes.{Setting, Known, owned_birth, heard_birth, birth_of, is_anchor, first_known, first_state, entry_of, AreNumbers, Shows}
 use Rattle.bmx_protocol.specs.Rows.{serve_known}
 use Rattle.bmx_protocol.specs.Steps.{Node, first_node}
-use Rattle.bmx_protocol.specs.Histories.{AreAfter}
 use Rattle.bmx_protocol.specs.Worlds.{World, world_of, Has, Kept, Here, On, HasChain, IsCurrent, IsHandedOver, AnswersFor, IsIdle, IsAtRest}
 use Rattle.bmx_protocol.specs.Runs.Programs.{CanServe, IsQuiet}
 use Rattle.bmx_protocol.specs.Cases.{one_bunch}
@@ -73,9 +72,12 @@ abbrev the_birth : Birth
 the_birth = record { name = 1; bunch = 0; fields = replicate 32 val.Null }
 
 the_anchor_has_its_chain : HasChain two (at_first two) 1 1
-the_anchor_has_its_chain =
-    (1, omega arith, On (heard_birth the_birth) (record { known = refl; asks = refl })
-    (Here (Has (owned_birth the_birth) (record { known = refl; owns = refl }))))
+the_anchor_has_its_chain = (
+  1,
+  omega arith,
+  On (heard_birth the_birth) (record { known = refl; asks = refl })
+      (Here (Has (owned_birth the_birth) (record { known = refl; owns = refl }))),
+)
 
 nothing_is_handed_over : (x child parent : ℕ) → IsHandedOver (at_first two) x child parent → ⊥
 nothing_is_handed_over x child parent given = let within : given.moves.there.0 < 0 = given.moves.there.1 in omega (arith, within)
