@@ -1,20 +1,18 @@
 -- What the words of a command come to is what the grammar says of commands.
-use Rattle.std.proofs.Common.{◌≡◌, ℕ, ◌+◌, ◌<◌, ◌≤◌, ◌==◌, ℤ, Bool, true, false, cond, ◌&&◌, nat_lt, nat_le, List, [], ◌∷◌, ◌++◌, length, refl, ap, sym, ◌∙◌, subst, arith}
+use Rattle.std.proofs.Common.{◌≡◌, ℕ, ℤ, true, false, ◌&&◌, nat_lt, nat_le, List, [], ◌∷◌, length, refl, ap, ◌∙◌, subst, arith}
 use Rattle.std.specs.Prelude.{codes}
-use Rattle.std.specs.List.{list_all}
 use Rattle.std.proofs.lemmas.Bool.{and_parts, ltb-true, lt-ltb, leb-true, le-leb}
 use Rattle.bmx_types.specs.declared.commands.Operand.{Operand}
-use Rattle.bmx_types.specs.declared.commands.Operand.TheVariants as operand
 use Rattle.bmx_types.specs.declared.commands.Command.{Command}
 use Rattle.bmx_types.specs.declared.commands.Command.TheVariants as command
 use Rattle.bmx_numerals.specs.declared.fields.Field.{Field}
-use Rattle.bmx_numerals.specs.declared.fields.Field.TheVariants.{Form, Range, Good}
+use Rattle.bmx_numerals.specs.declared.fields.Field.TheVariants.{Good}
 use Rattle.bmx_numerals.specs.Numerals.{numeral, signed_numeral}
 use Rattle.bmx_types.specs.Integers.{is_i64}
 use Rattle.bmx_numerals.specs.Fields.{field_below, field_integer, field_and}
 use Rattle.bmx_script.specs.declared.knowledge.Known.{Known}
 use Rattle.bmx_script.specs.Spelling.{word_of, register_word, operand_word, verb_word, operand_words, command_words}
-use Rattle.bmx_script.specs.Grammar.{is_source, is_built_command, is_bunch_word, same_word, named_by, named_in, fits_operand, fits_command}
+use Rattle.bmx_script.specs.Grammar.{is_source, is_built_command, same_word, named_by, named_in, fits_operand, fits_command}
 use Rattle.bmx_script.specs.Distinct.{AreDistinct}
 use Rattle.bmx_script.specs.Parsing.{field_map, register_field, bunch_field, source_field, value_field, place_field, of_one, of_two, of_three, command_field}
 use Rattle.bmx_script.proofs.FieldLemmas.{is_form, split_if, form_and, form_map, and_form, map_form, good_and, good_map, and_good, map_good, form_below, below_form, below_good, good_below, form_integer, integer_form, integer_good, good_integer, form_register, register_form, register_good, good_register}

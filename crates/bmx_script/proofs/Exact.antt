@@ -1,26 +1,26 @@
 -- What the reader computes of a line is what the grammar says of it.
-use Rattle.std.proofs.Common.{◌≡◌, ℕ, ◌+◌, ◌<◌, ◌≤◌, ◌==◌, Bool, true, false, cond, not, ◌&&◌, ◌||◌, nat_lt, nat_le, List, [], ◌∷◌, ◌++◌, length, Option, Some, None, is_none, refl, ap, sym, ◌∙◌, subst, arith}
-use Rattle.std.specs.Prelude.{IsTrue, codes}
-use Rattle.std.specs.List.{list_any, list_all, slice_split, join_with_byte}
+use Rattle.std.proofs.Common.{◌≡◌, ℕ, ◌<◌, ◌==◌, Bool, true, false, cond, not, ◌&&◌, ◌||◌, nat_lt, nat_le, List, [], ◌∷◌, length, Option, Some, None, is_none, refl, ap, sym, ◌∙◌, subst, arith}
+use Rattle.std.specs.Prelude.{codes}
+use Rattle.std.specs.List.{list_any, slice_split, join_with_byte}
 use Rattle.std.proofs.lemmas.List.Splits.{join_with_byte-slice_split}
-use Rattle.std.proofs.lemmas.Bool.{and_parts, and_from, leb-true, eq-eqb, eqb-true, or_parts, or_from, not-true, not_from_false}
+use Rattle.std.proofs.lemmas.Bool.{and_parts, leb-true, eq-eqb, eqb-true, or_parts, or_from, not-true, not_from_false}
 use Rattle.bmx_types.specs.declared.commands.Command.{Command}
 use Rattle.bmx_types.specs.declared.commands.Command.TheVariants as command
 use Rattle.bmx_numerals.specs.declared.fields.Field.{Field}
 use Rattle.bmx_numerals.specs.declared.fields.Field.TheVariants.{Form, Range, Good}
 use Rattle.bmx_numerals.specs.Numerals.{numeral}
-use Rattle.bmx_numerals.specs.Fields.{field_below, field_within, field_and}
+use Rattle.bmx_numerals.specs.Fields.{field_below, field_within}
 use Rattle.bmx_script.specs.declared.knowledge.Known.{Known}
 use Rattle.bmx_script.specs.declared.lines.LineKind.{LineKind}
 use Rattle.bmx_script.specs.declared.lines.LineKind.TheVariants as line
-use Rattle.bmx_script.specs.Spelling.{word_of, verb_word, operand_words, command_words, line_words, spelling}
-use Rattle.bmx_script.specs.Grammar.{is_within, may_follow, section_of, is_built, is_built_command, is_no_file, is_bunch_word, same_word, named_on, named_in, in_range, fits_command, IsSpelled, HasForm, IsGood}
+use Rattle.bmx_script.specs.Spelling.{verb_word, operand_words, command_words, line_words, spelling}
+use Rattle.bmx_script.specs.Grammar.{is_within, may_follow, section_of, is_built, is_built_command, is_bunch_word, same_word, named_on, named_in, in_range, fits_command, IsSpelled, HasForm, IsGood}
 use Rattle.bmx_script.specs.Distinct.{AreDistinct}
-use Rattle.bmx_script.specs.Parsing.{field_map, command_field, node_line, version_field, nodes_field, first_limit, segments_field, declared_bunch, setting_line, head_line, line_field, read_line}
+use Rattle.bmx_script.specs.Parsing.{field_map, command_field, node_line, first_limit, declared_bunch, setting_line, head_line, line_field, read_line}
 use Rattle.bmx_script.proofs.FieldLemmas.{is_form, split_if, if_true, if_false, form_and, form_map, and_form, map_form, good_and, good_map, and_good, map_good, form_below, below_form, below_good, good_below, form_within, within_form, within_good, good_within}
 use Rattle.bmx_script.proofs.Words.{is_space, same_word-true}
 use Rattle.bmx_script.proofs.Plain.{are_words, plain_line}
-use Rattle.bmx_script.proofs.Operands.{both, choose_form, form_if, if_form, if_good, good_if}
+use Rattle.bmx_script.proofs.Operands.{both, choose_form, if_form, if_good}
 use Rattle.bmx_script.proofs.Commands.{form_command, good_command, command_form, command_good, HasCommand, IsCommand}
 
 -- ## what a line that is spelled so comes to

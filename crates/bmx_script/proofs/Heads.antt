@@ -1,5 +1,5 @@
 -- What the head of a script says: its nodes and its bunches.
-use Rattle.std.proofs.Common.{◌≡◌, ℕ, ◌+◌, ◌<◌, ◌≤◌, ◌==◌, true, cond, ◌&&◌, ◌||◌, nat_lt, nat_le, List, [], ◌∷◌, length, ⊎_elim, inl, inr, arith, Option, Some, None, is_none}
+use Rattle.std.proofs.Common.{◌≡◌, ℕ, ◌+◌, ◌<◌, ◌≤◌, ◌==◌, true, cond, ◌&&◌, ◌||◌, nat_lt, nat_le, List, [], ◌∷◌, length, ⊎_elim, inl, inr, arith, Option, Some, is_none}
 use Rattle.std.specs.Prelude.{◌⊎◌}
 use Rattle.std.proofs.lemmas.Bool.{and_parts, or_cases, eqb-true, ltb-true, ltb-false, leb-true, cases_lt, cond_both}
 use Rattle.std.proofs.Math.ListN.{length-append}

@@ -1,16 +1,16 @@
 -- What a word that is an operand comes to is what the grammar says of operands.
-use Rattle.std.proofs.Common.{◌≡◌, ℕ, ◌+◌, ◌<◌, ◌≤◌, ◌==◌, ℤ, pos, negsuc, Bool, true, false, cond, not, ◌&&◌, ◌||◌, nat_lt, nat_le, List, [], ◌∷◌, ◌++◌, length, Option, Some, None, refl, ap, sym, ◌∙◌, subst, ⊎_elim, arith}
+use Rattle.std.proofs.Common.{◌≡◌, ℕ, ◌+◌, ◌<◌, ◌≤◌, ◌==◌, ℤ, Bool, true, false, cond, ◌&&◌, ◌||◌, nat_lt, List, [], ◌∷◌, ◌++◌, length, Option, Some, None, refl, ap, sym, ◌∙◌, subst, ⊎_elim, arith}
 use Rattle.std.specs.Prelude.{codes}
-use Rattle.std.specs.List.{list_any, list_all, position_from}
-use Rattle.std.proofs.lemmas.Bool.{and_parts, and_from, or_cases, ltb-true, lt-ltb, eqb-true, ne_eqb}
+use Rattle.std.specs.List.{position_from}
+use Rattle.std.proofs.lemmas.Bool.{and_from, or_cases, ltb-true, lt-ltb, eqb-true, ne_eqb}
 use Rattle.std.proofs.lemmas.List.Folds.{list_all-append}
 use Rattle.bmx_types.specs.declared.commands.Operand.{Operand}
 use Rattle.bmx_types.specs.declared.commands.Operand.TheVariants as operand
 use Rattle.bmx_numerals.specs.declared.fields.Field.{Field}
-use Rattle.bmx_numerals.specs.declared.fields.Field.TheVariants.{Form, Range, Good}
+use Rattle.bmx_numerals.specs.declared.fields.Field.TheVariants.{Form, Good}
 use Rattle.bmx_numerals.specs.Numerals.{numeral, signed_numeral, is_digit}
 use Rattle.bmx_types.specs.Integers.{is_i64}
-use Rattle.bmx_numerals.specs.Fields.{field_below, field_integer, field_and}
+use Rattle.bmx_numerals.specs.Fields.{field_below, field_integer}
 use Rattle.bmx_numerals.proofs.NumeralLemmas.{is_digit_range, signed_numeral_first}
 use Rattle.bmx_script.specs.declared.knowledge.Known.{Known}
 use Rattle.bmx_script.specs.Spelling.{word_of, register_word, operand_word}

@@ -96,6 +96,12 @@ spaced (w ∷ ws) = 32 ∷ (w ++ spaced ws)
 abbrev pub spelling : List (List ℕ) → LineKind → List ℕ
 spelling bunches what = join_with_byte 32 (line_words bunches what)
 
+a_value_by_its_anchor : spelling (codes "main" ∷ []) (line.Do 0 (command.Set (operand.Register 5) 31 (operand.Anchor 0))) ≡ codes "0 set r5 31 @main"
+a_value_by_its_anchor = refl
+
+a_table_of_a_late_phase : spelling [] (line.Table 1 0 2 (record { times = 1; phase = 8 })) ≡ codes "table 1 0 2 after 8"
+a_table_of_a_late_phase = refl
+
 -- lines from a line number on, each at its own number and with a line feed (the byte 10) behind it;
 -- what was skipped between them is empty lines
 abbrev pub printed : List (List ℕ) → ℕ → List Line → List ℕ

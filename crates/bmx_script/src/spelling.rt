@@ -51,25 +51,21 @@ fn push_line(text: &mut String, bunches: &BunchWords, what: &LineKind) -> Result
 {
     match what {
         LineKind::Version => text.push_str("bmx 1"),
-        LineKind::Nodes { count } => push_setting(text, "nodes", u64::from(*count)),
+        LineKind::Nodes { count } => push_key(text, "nodes", u64::from(*count)),
         LineKind::Bunch { word, file } => push_bunch(text, word, file),
-        LineKind::Segments { limit } => push_setting(text, "segments", u64::from(*limit)),
+        LineKind::Segments { limit } => push_key(text, "segments", u64::from(*limit)),
         LineKind::Table {
             from,
             to,
             number,
             fate,
         } => {
-            push_setting(text, "table", u64::from(from.get()))?;
+            push_key(text, "table", u64::from(from.get()))?;
             push_number_word(text, u64::from(to.get()))?;
             push_number_word(text, *number)?;
             push_fate(text, *fate)
         }
-        LineKind::TablesLose { every } => push_setting(
-            text,
-            "tables lose every",
-            u64::from(*every),
-        ),
+        LineKind::TablesLose { every } => push_key(text, "tables lose every", u64::from(*every)),
         LineKind::Save { bunch, file } => {
             text.push_str("save")?;
             push_word(text, word_of(bunches, *bunch))?;
@@ -166,8 +162,7 @@ fn push_operands(
             push_number_word(text, u64::from(size))
         }
         Command::Copy { register, value } => {
-            push_register(text, register)?;
-            push_operand(text, bunches, value)
+            push_two(text, bunches, Operand::Register(register), value)
         }
         Command::Drop { register } => push_register(text, register),
         Command::Read { on } => push_operand(text, bunches, on),
@@ -191,11 +186,21 @@ fn push_operands(
             push_place(text, bunches, on, index)
         }
         Command::Show { on, index } => push_place(text, bunches, on, index),
-        Command::Same { left, right } => {
-            push_operand(text, bunches, left)?;
-            push_operand(text, bunches, right)
-        }
+        Command::Same { left, right } => push_two(text, bunches, left, right),
     }
+}
+
+/// Adds two operands.
+fn push_two(
+    text: &mut String,
+    bunches: &BunchWords,
+    left: Operand,
+    right: Operand,
+) -> Result<(), AllocError>
+    ensures { OnOk result (string_bytes text.new ≡ string_bytes text.old ++ spaced (operand_word bunches.now left ∷ operand_word bunches.now right ∷ [])) }
+{
+    push_operand(text, bunches, left)?;
+    push_operand(text, bunches, right)
 }
 
 /// Adds an operand and the number of its field.
@@ -238,7 +243,7 @@ fn push_register(text: &mut String, register: u8) -> Result<(), AllocError>
 }
 
 /// Adds words and a number.
-fn push_setting(text: &mut String, words: &str, number: u64) -> Result<(), AllocError>
+fn push_key(text: &mut String, words: &str, number: u64) -> Result<(), AllocError>
     ensures { OnOk result (string_bytes text.new ≡ string_bytes text.old ++ (words.now ++ 32 ∷ numeral number)) }
 {
     text.push_str(words)?;

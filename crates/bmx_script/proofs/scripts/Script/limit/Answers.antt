@@ -1,5 +1,4 @@
 use Rattle.std.proofs.Common.{◌<◌, ◌≤◌, ◌≡◌, ℕ, rules, subst, sym}
-use Rattle.bmx_script.specs.declared.knowledge.Known.{Known}
 use Rattle.bmx_script.specs.Grammar.{limit_of, known_after_all, nothing_known}
 use Rattle.bmx_script.proofs.Heads.{HasCounts, counts_of}
 use Rattle.bmx_script.proofs.scripts.Script.limit.Goals as goal
