@@ -11,9 +11,9 @@ use Rattle.bmx_object.specs.Laws.{HasOneSeat, WriteExcludes as Excludes}
 use Rattle.bmx_object.proofs.Owners.{ownership_is_one}
 use Rattle.bmx_object.proofs.Shared.{tokens_exclude}
 use Rattle.bmx_ownership.specs.Seen.{seen, first_world}
-use Rattle.bmx_ownership.specs.Laws.{OneOwner, WriteExcludes}
+use Rattle.bmx_ownership.specs.Laws.{OneOwner, OneSeat, WriteExcludes}
 use Rattle.bmx_ownership.proofs.Histories.{seen_is_run}
-use Rattle.bmx_ownership.proofs.Owners.{each_has_one, writes_exclude}
+use Rattle.bmx_ownership.proofs.Owners.{each_has_one, each_has_seat, writes_exclude}
 
 -- what holds of each object of the machine after a run holds of each name after a legal history
 each_name : (Holds : Object → Type 0) → ((o p : Object) → IsFirst o → Run o p → Holds p) →
@@ -27,6 +27,10 @@ each_name Holds law st history nodes opening legal after x =
 pub one_owner_always : OneOwner
 one_owner_always st history nodes opening legal after =
     each_has_one st (world_of nodes history) (each_name HasOneSeat ownership_is_one st history nodes opening legal after)
+
+pub one_seat_always : OneSeat
+one_seat_always st history nodes opening legal after =
+    each_has_seat st (world_of nodes history) (each_name HasOneSeat ownership_is_one st history nodes opening legal after)
 
 pub write_excludes_always : WriteExcludes
 write_excludes_always st history nodes opening legal after =

@@ -18,6 +18,7 @@ use Rattle.bmx_object.specs.Machine.{Note, Asks, Grants, Recalls, Returns, Tells
 use Rattle.bmx_object.specs.Laws.{is_owner, owned_at, handovers, handovers_in, Seat, Moving, IsOwned, HasOneSeat, WriteExcludes}
 use Rattle.bmx_object.specs.Laws.{At as AtNode}
 use Rattle.bmx_ownership.specs.Seen.{seen, seen_slip, seen_notes, seen_holding, note_if, tells}
+use Rattle.bmx_ownership.specs.Laws.{EachHasOneSeat}
 use Rattle.bmx_ownership.proofs.Basics.{eqb_of, eqb_is, eqb_same, Two, Same, Apart, two}
 use Rattle.bmx_ownership.proofs.Rows.{seen_known}
 
@@ -240,6 +241,13 @@ each_has_one st w seats x somewhere = by_seat (seats x)
     by_seat : HasOneSeat (seen x w) → HasOneOwner w x
     by_seat (inl nowhere) = absurd (not_nowhere st w x somewhere nowhere)
     by_seat (inr seat) = one_owner w x seat.0 seat.1
+
+pub each_has_seat : (st : Setting) (w : World) → ((x : ℕ) → HasOneSeat (seen x w)) → EachHasOneSeat st w
+each_has_seat st w seats x somewhere = by_seat (seats x)
+  where
+    by_seat : HasOneSeat (seen x w) → (s : Seat) × IsOwned (seen x w) s
+    by_seat (inl nowhere) = absurd (not_nowhere st w x somewhere nowhere)
+    by_seat (inr seat) = seat
 
 -- ## a write excludes
 

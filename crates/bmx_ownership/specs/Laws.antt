@@ -2,11 +2,12 @@
 use Rattle.std.specs.Prelude.{ℕ, List}
 use Rattle.bmx_types.specs.Openings.{IsOpening}
 use Rattle.bmx_object.specs.Machine.{IsFirst, Run}
+use Rattle.bmx_object.specs.Laws.{Seat, IsOwned}
 use Rattle.bmx_protocol.specs.declared.events.Event.{Event}
 use Rattle.bmx_protocol.specs.Nodes.{Setting}
 use Rattle.bmx_protocol.specs.Steps.{Node}
 use Rattle.bmx_protocol.specs.Histories.{AreAfter, IsLegal}
-use Rattle.bmx_protocol.specs.Worlds.{World, world_of, EachHasOneOwner, WritesExclude}
+use Rattle.bmx_protocol.specs.Worlds.{World, world_of, IsSomewhere, EachHasOneOwner, WritesExclude}
 use Rattle.bmx_protocol.specs.Cases.{one_bunch, told_of_the_object}
 use Rattle.bmx_ownership.specs.Seen.{seen, first_world}
 
@@ -26,6 +27,15 @@ Always Holds =
 -- each name that stands somewhere has one owner
 abbrev pub OneOwner : Type 0
 OneOwner = Always EachHasOneOwner
+
+-- ownership of each name that stands somewhere has one seat: one node has the owner's role and no grant of
+-- it is on its way, or no node has and exactly one grant is
+abbrev pub EachHasOneSeat : Setting → World → Type 0
+EachHasOneSeat st w = (x : ℕ) → IsSomewhere st w x → (s : Seat) × IsOwned (seen x w) s
+
+-- ownership of each name that stands somewhere has one seat
+abbrev pub OneSeat : Type 0
+OneSeat = Always EachHasOneSeat
 
 -- while a node holds an object for writing, no other node holds it
 abbrev pub WriteExcludes : Type 0

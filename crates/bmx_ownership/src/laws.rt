@@ -1,4 +1,4 @@
-ghost use Rattle.bmx_ownership.specs.Laws.{SeenIsRun, OneOwner, WriteExcludes, LawsApply};
+ghost use Rattle.bmx_ownership.specs.Laws.{SeenIsRun, OneOwner, OneSeat, WriteExcludes, LawsApply};
 
 /// The law that what a legal history leads to, seen for one name, is the end of a run of the machine of
 /// one object. It does nothing.
@@ -9,6 +9,13 @@ pub fn seen_is_run()
 /// The law that in every legal history each name that stands somewhere has one owner. It does nothing.
 pub fn one_owner()
     ensures { OneOwner }
+{}
+
+/// The law that in every legal history the ownership of each name that stands somewhere has one seat: one
+/// node has the owner's role and no grant of ownership is on its way, or no node has and exactly one grant
+/// is. It does nothing.
+pub fn one_seat()
+    ensures { OneSeat }
 {}
 
 /// The law that in every legal history, while a node holds an object for writing, no other node holds it.
