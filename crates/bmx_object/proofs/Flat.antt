@@ -40,7 +40,7 @@ pub data Turn (w v : World) : Type 0 where
   Does : (me selves : ℕ) (a : Act) (h : Holding) → w.holds me ≡ Some h → v ≡ after_move w me (move_of me selves a h) → Turn w v
   Takes : (from me : ℕ) (note : Note) (rest : List Note) (m : Move) → w.mail from me ≡ note ∷ rest →
       take_note me from note (w.holds me) ≡ Some m → v ≡ after_move (with_rest w from me rest) me m → Turn w v
-  Writes : (me to tells : ℕ) → (IsEmpty w → tells ≡ 0) →
+  Writes : (me to tells : ℕ) → (w.holds me ≡ None → tells ≡ 0) →
       v ≡ after_move w me record { after = w.holds me; sends = send to (replicate tells Tells) ∷ [] } → Turn w v
 
 -- ## functions of numbers

@@ -247,7 +247,7 @@ pub seated_kept : IsKept IsSeated
 seated_kept w v (inl none) (Turn.Makes me empty e) = made w v me none e
 seated_kept w v (inl none) (Turn.Does me selves a h has e) = none_is_not (w.holds me) h (none.unknown me) has
 seated_kept w v (inl none) (Turn.Takes from me note rest m way t e) = nil_is_not (w.mail from me) note rest (none.untold from me) way
-seated_kept w v (inl none) (Turn.Writes me to tells told e) = inl (empty_writes w v me to tells none (told none) e)
+seated_kept w v (inl none) (Turn.Writes me to tells told e) = inl (empty_writes w v me to tells none (told (none.unknown me)) e)
 seated_kept w v (inr at) (Turn.Makes me empty e) = made w v me empty e
 seated_kept w v (inr at) (Turn.Does me selves a h has e) = seated_after w v (does_acted w v me selves a h has e) at
 seated_kept w v (inr at) (Turn.Takes from me note rest m way t e) = seated_after w v (takes_acted w v from me note rest m way t e) at

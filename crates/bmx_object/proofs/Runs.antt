@@ -237,7 +237,7 @@ kept_step P kept o p h (Takes from me l rest m way t e) =
     let done : P (after_move (with_rest (seen o) from me (flat rest)) me m) = kept_takes P kept from me l.notes (seen o) (flat rest) m h (ap flat way) t in
     subst P (sym (ap seen e ∙ seen-moved (popped o from me l rest) me m ∙ ap (λ (w : World). after_move w me m) (seen-popped o from me l rest))) done
 kept_step P kept o p h (Writes me to tells told e) =
-    kept (seen o) (seen p) h (Turn.Writes me to tells (λ empty. told (nowhere_of o empty))
+    kept (seen o) (seen p) h (Turn.Writes me to tells told
     (ap seen e ∙ world_path _ _ (λ n. sym (at_one-same o.holds me n)) (λ n k. issued_notes o me (send to (replicate tells Tells)) n k)))
 
 pub kept_run : (P : World → Type 0) → IsKept P → (o p : Object) → P (seen o) → Run o p → P (seen p)

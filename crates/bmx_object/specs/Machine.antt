@@ -279,8 +279,8 @@ pub data Step (o p : Object) : Type 0 where
   -- it takes the first letter from a node, which isn't stray
   Takes : (from me : ℕ) (l : Slip) (rest : List Slip) (m : Move) → o.way from me ≡ l ∷ rest →
       take_notes me from l.notes (o.holds me) ≡ Some m → p ≡ moved (popped o from me l rest) me m → Step o p
-  -- it issues a letter about another object, some of whose fields may refer to this one, if it is anywhere
-  Writes : (me to tells : ℕ) → (IsNowhere o → tells ≡ 0) → p ≡ issue o me (send to (replicate tells Tells)) → Step o p
+  -- it issues a letter about another object, some of whose fields may refer to this one, if it knows this one
+  Writes : (me to tells : ℕ) → (o.holds me ≡ None → tells ≡ 0) → p ≡ issue o me (send to (replicate tells Tells)) → Step o p
 
 -- steps one after another
 pub data Run (o : Object) : Object → Type 0 where

@@ -377,7 +377,7 @@ write_free x me s from seq info fields (Some k) quiet free = by_answer _ _
     by_answer p true = record { fields = granted_fields x from s info fields k p quiet free; registers = free.registers }
     by_answer p false = free
 
-inval_free : (x : ℕ) (s : NodeState) (from name : ℕ) (k : Option Known) → s.known name ≡ k → IsFree x s → IsFree x (take_inval s from name k).after
+pub inval_free : (x : ℕ) (s : NodeState) (from name : ℕ) (k : Option Known) → s.known name ≡ k → IsFree x s → IsFree x (take_inval s from name k).after
 inval_free x s from name None is free = record { fields = free.fields; registers = free.registers }
 inval_free x s from name (Some k) is free = by_answer _ _
   where

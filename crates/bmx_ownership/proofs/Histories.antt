@@ -26,28 +26,30 @@ use Rattle.bmx_object.specs.Machine.{Object, Run, Stays, is_brought, take_notes}
 use Rattle.bmx_ownership.specs.Seen.{seen, seen_notes, first_world}
 use Rattle.bmx_ownership.specs.Laws.{SeenIsRun}
 use Rattle.bmx_ownership.proofs.Basics.{eqb_is}
-use Rattle.bmx_ownership.proofs.Rows.{seen_known, Grows, AsBefore, OneMore, Leaves, Did, Passes}
+use Rattle.bmx_ownership.proofs.Rows.{seen_known, NoneRefers, Grows, AsBefore, OneMore, Leaves, Did, Passes}
 use Rattle.bmx_ownership.proofs.Serves.{serve_did, serve_leaves}
 use Rattle.bmx_ownership.proofs.Commands.{do_did, do_leaves}
 use Rattle.bmx_ownership.proofs.Takes.{Taken, Strayed, Taking, take_taken}
-use Rattle.bmx_ownership.proofs.Free.{IsFree, IsUnborn, Freed, Still, do_free, serve_free, take_free}
+use Rattle.bmx_ownership.proofs.Free.{IsFree, IsUnborn, Freed, Still, do_free, serve_free}
 use Rattle.bmx_ownership.proofs.Channels.{Channels, Nothing, First, numbered_at, slice_drop, IssuesPosts, channels_more, way_nothing, way_taken}
 use Rattle.bmx_ownership.proofs.Afters.{recorded, IsRowOf}
 use Rattle.bmx_ownership.proofs.Runs.{IsQuiet, quiet_run, IsTaking, taking_run}
-use Rattle.bmx_ownership.proofs.Names.{IsNamed, made_after, unknown_free, new_clean, clean_nowhere, quiet_named, taking_named}
-use Rattle.bmx_ownership.proofs.Openings.{is_first, named_first, channels_first, few_first}
+use Rattle.bmx_ownership.proofs.Knowing.{IsAware, quiet_aware, taking_aware}
+use Rattle.bmx_ownership.proofs.Names.{IsNamed, made_after, new_clean, clean_nowhere, quiet_named, taking_named}
+use Rattle.bmx_ownership.proofs.Openings.{is_first, aware_first, named_first, channels_first, few_first}
 
 -- ## what has come about
 
 abbrev steps_of : ℕ → List Event → ℕ
 steps_of n past = count_by (λ f. f.node == n) past
 
--- after events: counts, names, and the run so far
+-- after events: counts, what nodes know, names, and the run so far
 record Came (st : Setting) (x : ℕ) (start : Object) (past : List Event) (nodes : ℕ → Node) : Type 0 where
   replay : AreAfter st past nodes
   channels : Channels past nodes
   few : (n : ℕ) → (nodes n).state.made ≤ 320000 + steps_of n past
-  named : IsNamed st x nodes past
+  aware : (n : ℕ) → IsAware st x (nodes n).state
+  named : IsNamed x nodes past
   run : Run start (seen x (world_of nodes past))
 
 replay_more : (st : Setting) (past : List Event) (e : Event) (start mid : ℕ → Node) (n : Node) → Replays st start past mid →
@@ -170,10 +172,10 @@ quiet st x start past nodes e after row ev r leaves did freed none = record {
       (Nothing none (λ m. ap (λ (f : ℕ → ℕ). f m) (taken_after e after row r ∙ leaves.taken))) came.channels;
   few = few_more past nodes e after
       (subst (λ (k : ℕ). k ≤ (nodes e.node).state.made + 1) (sym (made_after e after row r)) (at_most_one (nodes e.node).state.made row.after.made leaves.made)) came.few;
-  named = quiet_named st x nodes past e after row is enough did freed came.named;
-  run = quiet_run x nodes past e after row start is did
-      (λ unknown. unknown_free st x nodes past e.node came.named unknown)
-      (λ new. clean_nowhere st x nodes past (new_clean st x nodes past e.node came.named enough new)) came.run;
+  aware = quiet_aware st x nodes e after row r did freed came.aware;
+  named = quiet_named x nodes past e after row is enough did unknown came.named;
+  run = quiet_run x nodes past e after row start is did unknown
+      (λ new. clean_nowhere x nodes past (new_clean x nodes past e.node came.named enough new)) came.run;
 }
   where
     came : Came st x start past nodes
@@ -181,6 +183,9 @@ quiet st x start past nodes e after row ev r leaves did freed none = record {
 
     enough : (nodes e.node).state.made + 1 < 2 ^ 56
     enough = enough_names st x start past nodes e after ev
+
+    unknown : seen_known ((nodes e.node).state.known x) ≡ None → NoneRefers x (nodes e.node).state
+    unknown none = (came.aware e.node none).0.fields
 
     is : IsQuiet x nodes past e after row
     is = record { row_of = r; leaves = leaves; way = λ n m. way_nothing n m past e (came.channels.within n m) (none n m) }
@@ -227,7 +232,8 @@ taking st x start past nodes e after from l ev is next good row r answered same 
           (First from l rest first one (λ m. ap (λ (f : ℕ → ℕ). f m) (taken_after e after took_row here ∙ took.taken))) came.channels;
       few = few_more past nodes e after
           (subst (λ (k : ℕ). k ≤ s.made + 1) (sym (made_after e after took_row here ∙ took.names)) (omega arith)) came.few;
-      named = taking_named st x nodes past e after took_row from l rest t (λ silent free. take_free x e.node s from l.seq l.msg silent free) came.named;
+      aware = taking_aware st x nodes past e after from l rest t came.aware;
+      named = taking_named x nodes past e after took_row from l rest t came.named;
       run = taking_run x nodes past e after took_row from l rest start t came.run;
     }
       where
@@ -302,6 +308,7 @@ first_came st x opening = record {
   replay = refl;
   channels = channels_first st;
   few = λ n. (let few : (first_node st n).state.made ≤ 320000 = few_first st opening n in omega arith);
+  aware = aware_first st opening x;
   named = named_first st opening x;
   run = Stays;
 }

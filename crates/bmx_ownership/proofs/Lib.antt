@@ -9,6 +9,7 @@ pub mod Channels
 pub mod Afters
 pub mod Runs
 pub mod Stays
+pub mod Knowing
 pub mod Names
 pub mod Openings
 pub mod Histories

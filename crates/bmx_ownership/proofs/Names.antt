@@ -1,15 +1,14 @@
 -- Names: one that isn't made stands nowhere, and one that is made is known to its maker. After one more event too.
 use Rattle.std.proofs.Common.{◌≡◌, ℕ, ◌+◌, ◌^◌, ◌<◌, ◌≤◌, arith, ap, sym, subst, ◌∙◌, Bool, true, false, cond, List, [], ◌∷◌, ◌++◌, map}
-use Rattle.std.specs.Prelude.{◌==◌, ◌⊎◌, Option, Some, None, is_some, replicate}
+use Rattle.std.specs.Prelude.{◌==◌, ◌⊎◌, Option, None, is_some, replicate}
 use Rattle.std.proofs.Common.{inl, inr}
 use Rattle.std.proofs.lemmas.Nat.{div-mul-add, mod-mul-add}
 use Rattle.bmx_types.specs.Words.{name_word, maker, count_of}
-use Rattle.bmx_types.specs.declared.values.Val.{Val}
 use Rattle.bmx_graph.specs.State.{put}
 use Rattle.bmx_msg.specs.declared.letters.Letter.{Letter}
 use Rattle.bmx_protocol.specs.declared.inputs.Sending.{Sending}
 use Rattle.bmx_protocol.specs.declared.events.Event.{Event}
-use Rattle.bmx_protocol.specs.Nodes.{Setting, NodeState, Known}
+use Rattle.bmx_protocol.specs.Nodes.{NodeState}
 use Rattle.bmx_protocol.specs.Rows.{Post, Row, next_name}
 use Rattle.bmx_protocol.specs.Steps.{Node, letters_of, numbered}
 use Rattle.bmx_protocol.specs.Histories.{letters_to, on_way}
@@ -20,11 +19,10 @@ use Rattle.bmx_ownership.proofs.Basics.{eqb_of, Two, Same, Apart, two}
 use Rattle.bmx_ownership.proofs.Sends.{seen_sends}
 use Rattle.bmx_ownership.proofs.Rows.{seen_known, NoneRefers, MayTell, OnlyTell, Silent, Grows, AsBefore, OneMore, Did, Acts, Passes, Makes}
 use Rattle.bmx_ownership.proofs.Takes.{Issues, Own, Others}
-use Rattle.bmx_ownership.proofs.Free.{IsFree, IsUnborn, Freed, Still, Born}
 use Rattle.bmx_ownership.proofs.Channels.{letters_by, way_left}
 use Rattle.bmx_ownership.proofs.Afters.{recorded, IsRowOf}
 use Rattle.bmx_ownership.proofs.Runs.{IsQuiet, IsTaking}
-use Rattle.bmx_ownership.proofs.Stays.{move_some, Keeps, notes_keep}
+use Rattle.bmx_ownership.proofs.Knowing.{none_known, known_after, at_nodes, did_stays, some_move, taking_stays}
 
 -- ## what stands of a name
 
@@ -37,17 +35,15 @@ abbrev pub AreSilent : ℕ → List Letter → Type 0
 AreSilent x [] = Unit {0}
 AreSilent x (l ∷ letters) = (seen_notes x l.msg ≡ []) × AreSilent x letters
 
--- x stands nowhere, and is no anchor
-pub record IsClean (st : Setting) (x : ℕ) (nodes : ℕ → Node) (past : List Event) : Type 0 where
+-- x stands nowhere
+pub record IsClean (x : ℕ) (nodes : ℕ → Node) (past : List Event) : Type 0 where
   pub unknown : (n : ℕ) → seen_known ((nodes n).state.known x) ≡ None
-  pub free : (n : ℕ) → IsFree x (nodes n).state
   pub silent : (n m : ℕ) → AreSilent x (on_way n m past)
-  pub unborn : IsUnborn st x
 
 -- x is among its maker's names, where its maker knows it; and its maker knows it, or it stands nowhere
-pub record IsNamed (st : Setting) (x : ℕ) (nodes : ℕ → Node) (past : List Event) : Type 0 where
+pub record IsNamed (x : ℕ) (nodes : ℕ → Node) (past : List Event) : Type 0 where
   pub counted : Knows nodes (maker x) x → count_of x ≤ (nodes (maker x)).state.made
-  pub stands : Knows nodes (maker x) x ⊎ IsClean st x nodes past
+  pub stands : Knows nodes (maker x) x ⊎ IsClean x nodes past
 
 -- ## what follows
 
@@ -62,25 +58,11 @@ untold x (k ∷ letters) silent l (b ∷ before) after h =
     let rest : map (seen_slip x) letters ≡ before ++ l ∷ after = cc in
     untold x letters silent.1 l before after rest
 
-pub clean_nowhere : (st : Setting) (x : ℕ) (nodes : ℕ → Node) (past : List Event) → IsClean st x nodes past → IsNowhere (seen x (world_of nodes past))
-clean_nowhere st x nodes past clean = record {
+pub clean_nowhere : (x : ℕ) (nodes : ℕ → Node) (past : List Event) → IsClean x nodes past → IsNowhere (seen x (world_of nodes past))
+clean_nowhere x nodes past clean = record {
   unknown = clean.unknown;
   untold = λ n m l before after h. untold x (on_way n m past) (clean.silent n m) l before after h;
 }
-
-none_known : (k : Option Holding) → k ≡ None → is_some k ≡ true → ⊥
-none_known k none some =
-    let both : false ≡ true = ap (λ (h : Option Holding). is_some h) (sym none) ∙ some in
-    cc
-
--- where no node knows x, nothing refers to it
-pub unknown_free : (st : Setting) (x : ℕ) (nodes : ℕ → Node) (past : List Event) (me : ℕ) → IsNamed st x nodes past →
-    ((n : ℕ) → seen_known ((nodes n).state.known x) ≡ None) → NoneRefers x (nodes me).state
-unknown_free st x nodes past me named none = by_stands named.stands
-  where
-    by_stands : Knows nodes (maker x) x ⊎ IsClean st x nodes past → NoneRefers x (nodes me).state
-    by_stands (inl knows) = absurd (none_known (seen_known ((nodes (maker x)).state.known x)) (none (maker x)) knows)
-    by_stands (inr clean) = (clean.free me).fields
 
 -- the next name of a node
 pub maker_is : (n c : ℕ) → c < 2 ^ 56 → maker (name_word n c) ≡ n
@@ -90,9 +72,9 @@ pub count_is : (n c : ℕ) → c < 2 ^ 56 → count_of (name_word n c) ≡ c
 count_is n c h = mod-mul-add n (2 ^ 56) c h
 
 -- the next name of a node stands nowhere
-pub new_clean : (st : Setting) (x : ℕ) (nodes : ℕ → Node) (past : List Event) (me : ℕ) → IsNamed st x nodes past →
-    (nodes me).state.made + 1 < 2 ^ 56 → x ≡ next_name me (nodes me).state → IsClean st x nodes past
-new_clean st x nodes past me named few new = by_stands named.stands
+pub new_clean : (x : ℕ) (nodes : ℕ → Node) (past : List Event) (me : ℕ) → IsNamed x nodes past →
+    (nodes me).state.made + 1 < 2 ^ 56 → x ≡ next_name me (nodes me).state → IsClean x nodes past
+new_clean x nodes past me named few new = by_stands named.stands
   where
     made_by : maker x ≡ me
     made_by = ap maker new ∙ maker_is me ((nodes me).state.made + 1) few
@@ -100,7 +82,7 @@ new_clean st x nodes past me named few new = by_stands named.stands
     number : count_of x ≡ (nodes me).state.made + 1
     number = ap count_of new ∙ count_is me ((nodes me).state.made + 1) few
 
-    by_stands : Knows nodes (maker x) x ⊎ IsClean st x nodes past → IsClean st x nodes past
+    by_stands : Knows nodes (maker x) x ⊎ IsClean x nodes past → IsClean x nodes past
     by_stands (inl knows) =
         let at_most : count_of x ≤ (nodes me).state.made = subst (λ (z : ℕ). count_of x ≤ (nodes z).state.made) made_by (named.counted knows) in
         absurd (omega arith)
@@ -143,42 +125,22 @@ sends_none x (p ∷ posts) h = absurd (cc)
 
 -- ## after an event
 
--- what node n knows after the event, and its count of names
-known_after : (x : ℕ) (nodes : ℕ → Node) (e : Event) (after : Node) (row : Row) → IsRowOf e after row →
-    after.state.known x ≡ row.after.known x
-known_after x nodes e after row r =
-    ap (λ (s : NodeState). s.known x) r.state
-    ∙ ap (λ (f : ℕ → Option Known). f x) (recorded (letters_of e.stamp row) row.after).known
-
+-- a node's count of names after the event
 pub made_after : (e : Event) (after : Node) (row : Row) → IsRowOf e after row → after.state.made ≡ row.after.made
 made_after e after row r =
     ap (λ (s : NodeState). s.made) r.state ∙ (recorded (letters_of e.stamp row) row.after).made
 
-free_after : (x : ℕ) (e : Event) (after : Node) (row : Row) → IsRowOf e after row → IsFree x row.after → IsFree x after.state
-free_after x e after row r free = subst (IsFree x) (sym r.state) (record {
-  fields = λ y k is. free.fields y k (ap (λ (f : ℕ → Option Known). f y) (sym (recorded (letters_of e.stamp row) row.after).known) ∙ is);
-  registers = λ q is. free.registers q (ap (λ (f : ℕ → Val). f q) (sym (recorded (letters_of e.stamp row) row.after).register) ∙ is);
-})
-
--- a fact of each node that holds of the one that changes and of the others
-at_nodes : (P : Node → Type 0) (nodes : ℕ → Node) (me : ℕ) (after : Node) → P after → ((n : ℕ) → P (nodes n)) → (n : ℕ) → P (put nodes me after n)
-at_nodes P nodes me after here others n = by_test (me == n)
-  where
-    by_test : (b : Bool) → P (cond b after (nodes n))
-    by_test true = here
-    by_test false = others n
-
 -- what an event is for a name, however it came about
-record Outcome (st : Setting) (x : ℕ) (nodes : ℕ → Node) (past : List Event) (e : Event) (row : Row) : Type 0 where
+record Outcome (x : ℕ) (nodes : ℕ → Node) (past : List Event) (e : Event) (row : Row) : Type 0 where
   stays : is_some (seen_known ((nodes e.node).state.known x)) ≡ true → is_some (seen_known (row.after.known x)) ≡ true
   counted : maker x ≡ e.node → is_some (seen_known (row.after.known x)) ≡ true → count_of x ≤ row.after.made
-  clean : IsClean st x nodes past →
+  clean : IsClean x nodes past →
       ((maker x ≡ e.node) × (is_some (seen_known (row.after.known x)) ≡ true))
-      ⊎ ((seen_known (row.after.known x) ≡ None) × IsFree x row.after × ((n m : ℕ) → AreSilent x (on_way n m (past ++ e ∷ []))))
+      ⊎ ((seen_known (row.after.known x) ≡ None) × ((n m : ℕ) → AreSilent x (on_way n m (past ++ e ∷ []))))
 
-named_after : (st : Setting) (x : ℕ) (nodes : ℕ → Node) (past : List Event) (e : Event) (after : Node) (row : Row) →
-    IsRowOf e after row → Outcome st x nodes past e row → IsNamed st x nodes past → IsNamed st x (put nodes e.node after) (past ++ e ∷ [])
-named_after st x nodes past e after row r out named = record {
+named_after : (x : ℕ) (nodes : ℕ → Node) (past : List Event) (e : Event) (after : Node) (row : Row) →
+    IsRowOf e after row → Outcome x nodes past e row → IsNamed x nodes past → IsNamed x (put nodes e.node after) (past ++ e ∷ [])
+named_after x nodes past e after row r out named = record {
   counted = counted (two me (maker x));
   stands = by_stands named.stands;
 }
@@ -187,7 +149,7 @@ named_after st x nodes past e after row r out named = record {
     me = e.node
 
     known : seen_known (after.state.known x) ≡ seen_known (row.after.known x)
-    known = ap seen_known (known_after x nodes e after row r)
+    known = ap seen_known (known_after x e after row r)
 
     some : is_some (seen_known (row.after.known x)) ≡ true → is_some (seen_known (after.state.known x)) ≡ true
     some h = ap (λ (k : Option Holding). is_some k) known ∙ h
@@ -209,20 +171,18 @@ named_after st x nodes past e after row r out named = record {
         ∙ some (out.stays (ap (λ (z : ℕ). is_some (seen_known ((nodes z).state.known x))) a ∙ knows))
     knows_after (Apart h d) knows = (λ i. is_some (seen_known ((cond (h i) after (nodes (maker x))).state.known x))) ∙ knows
 
-    by_clean : IsClean st x nodes past →
+    by_clean : IsClean x nodes past →
         ((maker x ≡ me) × (is_some (seen_known (row.after.known x)) ≡ true))
-        ⊎ ((seen_known (row.after.known x) ≡ None) × IsFree x row.after × ((n m : ℕ) → AreSilent x (on_way n m (past ++ e ∷ [])))) →
-        Knows (put nodes me after) (maker x) x ⊎ IsClean st x (put nodes me after) (past ++ e ∷ [])
+        ⊎ ((seen_known (row.after.known x) ≡ None) × ((n m : ℕ) → AreSilent x (on_way n m (past ++ e ∷ [])))) →
+        Knows (put nodes me after) (maker x) x ⊎ IsClean x (put nodes me after) (past ++ e ∷ [])
     by_clean clean (inl made) = inl
         ((λ i. is_some (seen_known ((cond (eqb_of (sym made.0) i) after (nodes (maker x))).state.known x))) ∙ some made.1)
     by_clean clean (inr still) = inr (record {
       unknown = at_nodes (λ n. seen_known (n.state.known x) ≡ None) nodes me after (known ∙ still.0) clean.unknown;
-      free = at_nodes (λ n. IsFree x n.state) nodes me after (free_after x e after row r still.1) clean.free;
-      silent = still.2;
-      unborn = clean.unborn;
+      silent = still.1;
     })
 
-    by_stands : Knows nodes (maker x) x ⊎ IsClean st x nodes past → Knows (put nodes me after) (maker x) x ⊎ IsClean st x (put nodes me after) (past ++ e ∷ [])
+    by_stands : Knows nodes (maker x) x ⊎ IsClean x nodes past → Knows (put nodes me after) (maker x) x ⊎ IsClean x (put nodes me after) (past ++ e ∷ [])
     by_stands (inl knows) = inl (knows_after (two me (maker x)) knows)
     by_stands (inr clean) = by_clean clean (out.clean clean)
 
@@ -232,28 +192,29 @@ grows_more : (old new : ℕ) → Grows old new → old ≤ new
 grows_more old new (AsBefore h) = omega arith
 grows_more old new (OneMore h) = omega arith
 
-quiet_outcome : (st : Setting) (x : ℕ) (nodes : ℕ → Node) (past : List Event) (e : Event) (after : Node) (row : Row) →
+quiet_outcome : (x : ℕ) (nodes : ℕ → Node) (past : List Event) (e : Event) (after : Node) (row : Row) →
     IsQuiet x nodes past e after row → (nodes e.node).state.made + 1 < 2 ^ 56 → Did x e.node (nodes e.node).state row →
-    (IsUnborn st x → IsFree x (nodes e.node).state → Freed x row.after) → IsNamed st x nodes past → Outcome st x nodes past e row
-quiet_outcome st x nodes past e after row q few (Acts selves a h m known is here sends) freed named = record {
-  stays = λ old. some;
+    (seen_known ((nodes e.node).state.known x) ≡ None → NoneRefers x (nodes e.node).state) → IsNamed x nodes past → Outcome x nodes past e row
+quiet_outcome x nodes past e after row q few (Acts selves a h m known is here sends) clean named = record {
+  stays = did_stays x e.node (nodes e.node).state row (Acts selves a h m known is here sends);
   counted = λ made now. counted made;
   clean = λ clean. absurd (none_known (seen_known ((nodes e.node).state.known x)) (clean.unknown e.node) (ap (λ (k : Option Holding). is_some k) known));
 }
   where
-    some : is_some (seen_known (row.after.known x)) ≡ true
-    some = ap (λ (k : Option Holding). is_some k) here ∙ ap (λ (v : Move). is_some v.after) (sym is) ∙ move_some e.node selves a h
-
     counted : maker x ≡ e.node → count_of x ≤ row.after.made
     counted made =
         let before : count_of x ≤ (nodes e.node).state.made =
         subst (λ (z : ℕ). count_of x ≤ (nodes z).state.made) made
         (named.counted (ap (λ (z : ℕ). is_some (seen_known ((nodes z).state.known x))) made ∙ ap (λ (k : Option Holding). is_some k) known)) in
         omega (arith, grows_more (nodes e.node).state.made row.after.made q.leaves.made)
-quiet_outcome st x nodes past e after row q few (Passes same only) freed named = record {
-  stays = λ old. ap (λ (k : Option Holding). is_some k) same ∙ old;
+quiet_outcome x nodes past e after row q few (Passes same only) clean named = record {
+  stays = did_stays x e.node (nodes e.node).state row (Passes same only);
   counted = counted;
-  clean = λ clean. by_freed clean (freed clean.unborn (clean.free e.node));
+  clean = λ here. inr (
+    same ∙ here.unknown e.node,
+    λ n m. subst (AreSilent x) (sym (q.way n m)) (silent_append x (on_way n m past) (letters_by e n m) (here.silent n m)
+        (by_silent x e after row q.row_of (tell_silent x (nodes e.node).state row.posts (clean (here.unknown e.node)) only) n m)),
+  );
 }
   where
     counted : maker x ≡ e.node → is_some (seen_known (row.after.known x)) ≡ true → count_of x ≤ row.after.made
@@ -262,23 +223,8 @@ quiet_outcome st x nodes past e after row q few (Passes same only) freed named =
         subst (λ (z : ℕ). count_of x ≤ (nodes z).state.made) made
         (named.counted (ap (λ (z : ℕ). is_some (seen_known ((nodes z).state.known x))) made ∙ ap (λ (k : Option Holding). is_some k) (sym same) ∙ now)) in
         omega (arith, grows_more (nodes e.node).state.made row.after.made q.leaves.made)
-
-    seen_some : (k : Option Known) → is_some k ≡ true → seen_known k ≡ None → ⊥
-    seen_some None h n = cc
-    seen_some (Some k) h n = cc
-
-    by_freed : IsClean st x nodes past → Freed x row.after →
-        ((maker x ≡ e.node) × (is_some (seen_known (row.after.known x)) ≡ true))
-        ⊎ ((seen_known (row.after.known x) ≡ None) × IsFree x row.after × ((n m : ℕ) → AreSilent x (on_way n m (past ++ e ∷ []))))
-    by_freed clean (Still free) = inr (
-      same ∙ clean.unknown e.node,
-      free,
-      λ n m. subst (AreSilent x) (sym (q.way n m)) (silent_append x (on_way n m past) (letters_by e n m) (clean.silent n m)
-          (by_silent x e after row q.row_of (tell_silent x (nodes e.node).state row.posts (clean.free e.node).fields only) n m)),
-    )
-    by_freed clean (Born some) = absurd (seen_some (row.after.known x) some (same ∙ clean.unknown e.node))
-quiet_outcome st x nodes past e after row q few (Makes new more here none) freed named = record {
-  stays = λ old. some;
+quiet_outcome x nodes past e after row q few (Makes new more here none) clean named = record {
+  stays = did_stays x e.node (nodes e.node).state row (Makes new more here none);
   counted = λ made now. omega (arith, ap count_of new ∙ count_is e.node ((nodes e.node).state.made + 1) few);
   clean = λ clean. inl (ap maker new ∙ maker_is e.node ((nodes e.node).state.made + 1) few, some);
 }
@@ -286,11 +232,11 @@ quiet_outcome st x nodes past e after row q few (Makes new more here none) freed
     some : is_some (seen_known (row.after.known x)) ≡ true
     some = ap (λ (k : Option Holding). is_some k) here
 
-pub quiet_named : (st : Setting) (x : ℕ) (nodes : ℕ → Node) (past : List Event) (e : Event) (after : Node) (row : Row) →
+pub quiet_named : (x : ℕ) (nodes : ℕ → Node) (past : List Event) (e : Event) (after : Node) (row : Row) →
     IsQuiet x nodes past e after row → (nodes e.node).state.made + 1 < 2 ^ 56 → Did x e.node (nodes e.node).state row →
-    (IsUnborn st x → IsFree x (nodes e.node).state → Freed x row.after) → IsNamed st x nodes past → IsNamed st x (put nodes e.node after) (past ++ e ∷ [])
-quiet_named st x nodes past e after row q few did freed named =
-    named_after st x nodes past e after row q.row_of (quiet_outcome st x nodes past e after row q few did freed named) named
+    (seen_known ((nodes e.node).state.known x) ≡ None → NoneRefers x (nodes e.node).state) → IsNamed x nodes past → IsNamed x (put nodes e.node after) (past ++ e ∷ [])
+quiet_named x nodes past e after row q few did clean named =
+    named_after x nodes past e after row q.row_of (quiet_outcome x nodes past e after row q few did clean named) named
 
 -- ## letters taken
 
@@ -303,16 +249,12 @@ left_silent x past e from rest n m hr hw = by_tests (e.node == m) (from == n)
     by_tests true false = hw
     by_tests false b = hw
 
-some_move : (a b : Move) → Some a ≡ Some b → a ≡ b
-some_move a b h = cc
-
-pub taking_named : (st : Setting) (x : ℕ) (nodes : ℕ → Node) (past : List Event) (e : Event) (after : Node) (row : Row) (from : ℕ) (l : Letter) (rest : List Letter) →
-    IsTaking x nodes past e after row from l rest → (seen_notes x l.msg ≡ [] → IsFree x (nodes e.node).state → IsFree x row.after) →
-    IsNamed st x nodes past → IsNamed st x (put nodes e.node after) (past ++ e ∷ [])
-taking_named st x nodes past e after row from l rest t freed named = named_after st x nodes past e after row t.row_of (record {
-  stays = stays;
+pub taking_named : (x : ℕ) (nodes : ℕ → Node) (past : List Event) (e : Event) (after : Node) (row : Row) (from : ℕ) (l : Letter) (rest : List Letter) →
+    IsTaking x nodes past e after row from l rest → IsNamed x nodes past → IsNamed x (put nodes e.node after) (past ++ e ∷ [])
+taking_named x nodes past e after row from l rest t named = named_after x nodes past e after row t.row_of (record {
+  stays = taking_stays x nodes past e after row from l rest t;
   counted = λ made now. counted made now named.stands;
-  clean = λ clean. inr (gone clean, freed (quiet clean) (clean.free e.node), λ n m. silent clean n m);
+  clean = λ clean. inr (gone clean, λ n m. silent clean n m);
 }) named
   where
     s : NodeState
@@ -321,34 +263,29 @@ taking_named st x nodes past e after row from l rest t freed named = named_after
     move : Move
     move = t.took.move
 
-    stays : is_some (seen_known (s.known x)) ≡ true → is_some (seen_known (row.after.known x)) ≡ true
-    stays old =
-        let kept : Keeps (Some move) = subst Keeps t.took.makes (notes_keep e.node from (seen_notes x l.msg) (seen_known (s.known x)) old) in
-        ap (λ (k : Option Holding). is_some k) t.took.after ∙ kept
-
-    all : IsClean st x nodes past → AreSilent x (l ∷ rest)
+    all : IsClean x nodes past → AreSilent x (l ∷ rest)
     all clean = subst (AreSilent x) t.first (clean.silent from e.node)
 
-    quiet : IsClean st x nodes past → seen_notes x l.msg ≡ []
+    quiet : IsClean x nodes past → seen_notes x l.msg ≡ []
     quiet clean = (all clean).0
 
-    nothing : IsClean st x nodes past → move ≡ take_no_note None
+    nothing : IsClean x nodes past → move ≡ take_no_note None
     nothing clean = some_move move (take_no_note None)
         (sym t.took.makes ∙ (λ i. take_notes e.node from (quiet clean i) (clean.unknown e.node i)))
 
-    gone : IsClean st x nodes past → seen_known (row.after.known x) ≡ None
+    gone : IsClean x nodes past → seen_known (row.after.known x) ≡ None
     gone clean = t.took.after ∙ ap (λ (m : Move). m.after) (nothing clean)
 
-    counted : maker x ≡ e.node → is_some (seen_known (row.after.known x)) ≡ true → Knows nodes (maker x) x ⊎ IsClean st x nodes past → count_of x ≤ row.after.made
+    counted : maker x ≡ e.node → is_some (seen_known (row.after.known x)) ≡ true → Knows nodes (maker x) x ⊎ IsClean x nodes past → count_of x ≤ row.after.made
     counted made now (inl knows) =
         subst (λ (k : ℕ). count_of x ≤ k) (ap (λ (z : ℕ). (nodes z).state.made) made ∙ sym t.took.names) (named.counted knows)
     counted made now (inr clean) = absurd (none_known (seen_known (row.after.known x)) (gone clean) now)
 
-    issues_silent : IsClean st x nodes past → Issues x s row.posts move.sends → Silent x row.posts
+    issues_silent : IsClean x nodes past → Issues x s row.posts move.sends → Silent x row.posts
     issues_silent clean (Own sends) = sends_none x row.posts (sends ∙ ap (λ (m : Move). m.sends) (nothing clean))
     issues_silent clean (Others none silent) = silent
 
-    silent : IsClean st x nodes past → (n m : ℕ) → AreSilent x (on_way n m (past ++ e ∷ []))
+    silent : IsClean x nodes past → (n m : ℕ) → AreSilent x (on_way n m (past ++ e ∷ []))
     silent clean n m = subst (AreSilent x) (sym (t.way n m))
         (silent_append x (way_left past e from rest n m) (letters_by e n m)
         (left_silent x past e from rest n m (all clean).1 (clean.silent n m))

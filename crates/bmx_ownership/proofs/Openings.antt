@@ -1,24 +1,26 @@
 -- The opening of a store, seen for one name: nowhere, or one that the store opens with.
 use Rattle.std.proofs.Common.{◌≡◌, ℕ, ◌+◌, ◌-◌, ◌^◌, ◌<◌, ◌≤◌, arith, refl, ap, sym, subst, ◌∙◌, Bool, true, false, cond, List, [], ◌∷◌, map, length, zero, suc, get_or}
-use Rattle.std.specs.Prelude.{◌==◌, ◌≢◌, ◌⊎◌, Option, Some, None, is_some, find, slice_get, Contains}
+use Rattle.std.specs.Prelude.{◌==◌, ◌||◌, ◌≢◌, ◌⊎◌, Option, Some, None, is_some, find, slice_get, Contains}
 use Rattle.std.specs.Option.{option_map}
 use Rattle.std.proofs.Common.{inl, inr}
 use Rattle.std.proofs.lemmas.Option.{slice_get_within, get_or_from_slice_get, slice_get_cases}
 use Rattle.std.proofs.lemmas.List.Elements.{Contains-get_or, Contains-append_left, Contains-append_right, Contains-push}
-use Rattle.bmx_types.specs.Words.{maker, count_of}
-use Rattle.bmx_types.specs.Openings.{IsBorn, IsOpening}
+use Rattle.bmx_types.specs.Words.{maker, count_of, anchor_of}
+use Rattle.bmx_types.specs.Openings.{IsBorn, IsOpening, bunches_of}
+use Rattle.std.proofs.lemmas.Bool.Decides.{nat_tests}
 use Rattle.bmx_types.specs.declared.openings.Birth.{Birth}
 use Rattle.bmx_types.specs.declared.values.Val.{Val}
 use Rattle.bmx_types.specs.declared.values.Val.TheVariants as val
 use Rattle.bmx_protocol.specs.declared.views.ViewField.TheVariants as field
 use Rattle.bmx_protocol.specs.Nodes.{Setting, Known, field_of, birth_of, is_anchor, owned_birth, heard_birth, first_known}
 use Rattle.bmx_protocol.specs.Steps.{first_node}
-use Rattle.bmx_object.specs.Machine.{Holding, IsFirst, Absent, Born, IsFirstElsewhere, Unknown, Heard}
+use Rattle.bmx_object.specs.Machine.{Holding, IsFirst, Absent, Born, IsFirstElsewhere, Unknown, Heard, made_holding, heard_from}
 use Rattle.bmx_ownership.specs.Seen.{seen, first_world}
 use Rattle.bmx_ownership.proofs.Basics.{eqb_of, eqb_is, eqb_apart}
 use Rattle.bmx_ownership.proofs.Rows.{seen_known, HasNo, NoRefs}
 use Rattle.bmx_ownership.proofs.Free.{null_free, FreeOf}
 use Rattle.bmx_ownership.proofs.Channels.{Channels}
+use Rattle.bmx_ownership.proofs.Knowing.{IsAware}
 use Rattle.bmx_ownership.proofs.Names.{Knows, IsClean, IsNamed}
 
 -- ## births
@@ -75,6 +77,9 @@ none_at false false = refl
 unknown_at : (st : Setting) (x n : ℕ) → birth_of st x ≡ None → seen_known (first_known st n x) ≡ None
 unknown_at st x n none = ap seen_known (known_at st x n None none ∙ none_at (n == 0) (is_anchor st x))
 
+no_holding : (h : Holding) → None ≡ Some h → ⊥
+no_holding h is = cc
+
 elsewhere : (b : Birth) (n : ℕ) (a t : Bool) → t ≡ false →
     IsFirstElsewhere (seen_known (cond t (Some (owned_birth b)) (cond a (Some (heard_birth b)) None)))
 elsewhere b n a true h = absurd (cc)
@@ -116,14 +121,14 @@ birth_free st opening x none b in_births = fields_free x b.fields (λ c.
     let born : IsBorn st.births b.bunch x = opening.born.closed b x in_births c in
     numbered_birth st opening x (x - 1) (omega (arith, born.named, born.there)) (omega (arith, born.named)) none)
 
-first_free : (st : Setting) → IsOpening st.nodes st.limit st.births → (x n : ℕ) → birth_of st x ≡ None → FreeOf x (first_known st n)
+first_free : (st : Setting) → IsOpening st.nodes st.limit st.births → (x n : ℕ) → ((n == 0) ≡ true → birth_of st x ≡ None) → FreeOf x (first_known st n)
 first_free st opening x n none y k is = by_birth (birth_of st y) refl
   where
     by_birth : (b : Option Birth) → birth_of st y ≡ b → NoRefs x k
     by_birth None at =
         let both : None ≡ Some k = sym (known_at st y n None at ∙ none_at (n == 0) (is_anchor st y)) ∙ is in
         absurd (cc)
-    by_birth (Some b) at = by_tests (n == 0) (is_anchor st y) (sym (known_at st y n (Some b) at) ∙ is)
+    by_birth (Some b) at = by_tests (n == 0) (is_anchor st y) none (sym (known_at st y n (Some b) at) ∙ is)
       where
         some_is : (j : Known) → Some j ≡ Some k → j ≡ k
         some_is j h = cc
@@ -134,28 +139,60 @@ first_free st opening x n none y k is = by_birth (birth_of st y) refl
             subst (Contains st.births) (get_or_from_slice_get st.births f.0 b b f.1)
             (Contains-get_or st.births f.0 b (slice_get_within st.births f.0 b f.1))
 
-        by_tests : (t a : Bool) → cond t (Some (owned_birth b)) (cond a (Some (heard_birth b)) None) ≡ Some k → NoRefs x k
-        by_tests true a h = subst (NoRefs x) (some_is (owned_birth b) h) (birth_free st opening x none b inside)
-        by_tests false true h = subst (NoRefs x) (some_is (heard_birth b) h) tt
-        by_tests false false h = absurd (cc)
+        by_tests : (t a : Bool) → (t ≡ true → birth_of st x ≡ None) → cond t (Some (owned_birth b)) (cond a (Some (heard_birth b)) None) ≡ Some k → NoRefs x k
+        by_tests true a q h = subst (NoRefs x) (some_is (owned_birth b) h) (birth_free st opening x (q refl) b inside)
+        by_tests false true q h = subst (NoRefs x) (some_is (heard_birth b) h) tt
+        by_tests false false q h = absurd (cc)
+
+-- an anchor's name is one
+anchor_is : (st : Setting) (x b : ℕ) → b < bunches_of st.births → x ≡ anchor_of b → is_anchor st x ≡ true
+anchor_is st x b below is = grind (arith, nat_tests)
 
 -- ## the invariants
 
-clean_first : (st : Setting) → IsOpening st.nodes st.limit st.births → (x : ℕ) → birth_of st x ≡ None → IsClean st x (first_node st) []
-clean_first st opening x none = record {
+pub aware_first : (st : Setting) → IsOpening st.nodes st.limit st.births → (x n : ℕ) → IsAware st x (first_node st n).state
+aware_first st opening x n none = (
+  record { fields = first_free st opening x n (λ here. unborn_at here (birth_of st x) refl); registers = λ r. null_free x },
+  λ b below is. unborn b below is (birth_of st x) refl,
+)
+  where
+    -- who knows a name at first
+    known : (b : Birth) → birth_of st x ≡ Some b → (t a : Bool) → (n == 0) ≡ t → is_anchor st x ≡ a → (t || a) ≡ true → ⊥
+    known b at true a here anchor h =
+        let some : seen_known (first_known st n x) ≡ Some made_holding = ap seen_known (known_at st x n (Some b) at
+        ∙ (λ i. cond (here i) (Some (owned_birth b)) (cond (is_anchor st x) (Some (heard_birth b)) None))) in
+        no_holding made_holding (sym none ∙ some)
+    known b at false true here anchor h =
+        let some : seen_known (first_known st n x) ≡ Some (heard_from 0) = ap seen_known (known_at st x n (Some b) at
+        ∙ (λ i. cond (here i) (Some (owned_birth b)) (cond (anchor i) (Some (heard_birth b)) None))) in
+        no_holding (heard_from 0) (sym none ∙ some)
+    known b at false false here anchor h = cc
+
+    unborn_at : (n == 0) ≡ true → (b : Option Birth) → birth_of st x ≡ b → birth_of st x ≡ None
+    unborn_at here None at = at
+    unborn_at here (Some b) at = absurd (known b at true (is_anchor st x) here refl refl)
+
+    unborn : (b : ℕ) → b < bunches_of st.births → x ≡ anchor_of b → (c : Option Birth) → birth_of st x ≡ c → ⊥
+    unborn b below is None at = numbered_birth st opening x b (omega (arith, opening.born.anchors)) is at
+    unborn b below is (Some c) at = by_test (n == 0) refl
+      where
+        by_test : (t : Bool) → (n == 0) ≡ t → ⊥
+        by_test true here = known c at true true here (anchor_is st x b below is) refl
+        by_test false here = known c at false true here (anchor_is st x b below is) refl
+
+clean_first : (st : Setting) (x : ℕ) → birth_of st x ≡ None → IsClean x (first_node st) []
+clean_first st x none = record {
   unknown = λ n. unknown_at st x n none;
-  free = λ n. record { fields = first_free st opening x n none; registers = λ r. null_free x };
   silent = λ n m. tt;
-  unborn = λ b below is. numbered_birth st opening x b (omega (arith, opening.born.anchors)) is none;
 }
 
-pub named_first : (st : Setting) → IsOpening st.nodes st.limit st.births → (x : ℕ) → IsNamed st x (first_node st) []
+pub named_first : (st : Setting) → IsOpening st.nodes st.limit st.births → (x : ℕ) → IsNamed x (first_node st) []
 named_first st opening x = by_birth (birth_of st x) refl
   where
-    by_birth : (b : Option Birth) → birth_of st x ≡ b → IsNamed st x (first_node st) []
+    by_birth : (b : Option Birth) → birth_of st x ≡ b → IsNamed x (first_node st) []
     by_birth None is = record {
       counted = λ knows. absurd (none_is (knows_none knows));
-      stands = inr (clean_first st opening x is);
+      stands = inr (clean_first st x is);
     }
       where
         knows_none : Knows (first_node st) (maker x) x → false ≡ true

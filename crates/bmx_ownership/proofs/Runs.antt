@@ -24,14 +24,14 @@ use Rattle.bmx_ownership.proofs.Afters.{IsRowOf, IsReady, seen_after}
 
 -- ## letters about other objects
 
--- letters that may tell of x: where x is nowhere nothing refers to it
-tell_run : (x me : ℕ) (s : NodeState) (posts : List Post) (start o : Object) → (((n : ℕ) → o.holds n ≡ None) → NoneRefers x s) →
+-- letters that may tell of x: a node that doesn't know x refers to it nowhere
+tell_run : (x me : ℕ) (s : NodeState) (posts : List Post) (start o : Object) → (o.holds me ≡ None → NoneRefers x s) →
     OnlyTell x s posts → Run start o → Run start (issue_all o me (seen_sends x posts))
 tell_run x me s [] start o clean only run = run
 tell_run x me s (p ∷ posts) start o clean only run =
     let t : MayTell x s p = only.0 in
     tell_run x me s posts start (issue o me (seen_send x p)) clean only.1
-    (Goes run (Writes me p.to t.times (λ nowhere. t.none (clean nowhere.unknown)) (ap (λ (notes : List Note). issue o me (send p.to notes)) t.is)))
+    (Goes run (Writes me p.to t.times (λ unknown. t.none (clean unknown)) (ap (λ (notes : List Note). issue o me (send p.to notes)) t.is)))
 
 -- letters that say nothing of it
 silent_run : (x me : ℕ) (posts : List Post) (start o : Object) → Silent x posts → Run start o → Run start (issue_all o me (seen_sends x posts))
@@ -71,7 +71,7 @@ quiet_ready x nodes past e after row q = record {
 
 pub quiet_run : (x : ℕ) (nodes : ℕ → Node) (past : List Event) (e : Event) (after : Node) (row : Row) (start : Object) →
     IsQuiet x nodes past e after row → Did x e.node (nodes e.node).state row →
-    (((n : ℕ) → seen_known ((nodes n).state.known x) ≡ None) → NoneRefers x (nodes e.node).state) →
+    (seen_known ((nodes e.node).state.known x) ≡ None → NoneRefers x (nodes e.node).state) →
     (x ≡ next_name e.node (nodes e.node).state → IsNowhere (seen x (world_of nodes past))) →
     Run start (seen x (world_of nodes past)) → Run start (seen x (world_of (put nodes e.node after) (past ++ e ∷ [])))
 quiet_run x nodes past e after row start q (Acts selves a h m known is here sends) clean new run =
