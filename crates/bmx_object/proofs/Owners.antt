@@ -256,12 +256,12 @@ seated_kept w v (inr at) (Turn.Writes me to tells told e) = seated_after w v (wr
 -- ## the law
 
 seated_first : (o : Object) → IsFirst o → IsSeated (seen o)
-seated_first o (Absent way holds) = inl record { unknown = holds; untold = λ n k. ap flat (way n k) }
-seated_first o (Born way born) = inr (
+seated_first o (Absent first holds) = inl record { unknown = holds; untold = λ n k. ap flat (first.way n k) }
+seated_first o (Born first born) = inr (
   At 0,
   record {
     nodes = λ n. by_node n (cases n 0);
-    mail = λ n k. ap (λ x. tally handover (flat x)) (way n k);
+    mail = λ n k. ap (λ x. tally handover (flat x)) (first.way n k);
   },
 )
   where

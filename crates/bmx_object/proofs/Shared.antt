@@ -212,8 +212,8 @@ shared_fresh w way fresh = record {
 }
 
 shared_first : (o : Object) → IsFirst o → IsShared (seen o)
-shared_first o (Absent way holds) = shared_fresh (seen o) (λ n k. ap flat (way n k)) (λ n. Nowhere (holds n))
-shared_first o (Born way born) = shared_fresh (seen o) (λ n k. ap flat (way n k)) (λ n. by_node n (cases n 0))
+shared_first o (Absent first holds) = shared_fresh (seen o) (λ n k. ap flat (first.way n k)) (λ n. Nowhere (holds n))
+shared_first o (Born first born) = shared_fresh (seen o) (λ n k. ap flat (first.way n k)) (λ n. by_node n (cases n 0))
   where
     elsewhere : (h : Option Holding) → IsFirstElsewhere h → IsFresh h
     elsewhere h (Unknown e) = Nowhere e

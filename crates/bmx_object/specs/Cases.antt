@@ -1,10 +1,10 @@
 -- Runs of the machine worked by hand, each closed by computing: node 0 owns an object, and node 1 has
 -- heard of it.
-use Rattle.std.specs.Prelude.{◌≡◌, ℕ, ◌==◌, true, if◌then◌else◌, List, [], ◌∷◌, Option, Some, None, refl}
+use Rattle.std.specs.Prelude.{◌≡◌, ℕ, ◌==◌, ◌&&◌, true, if◌then◌else◌, List, [], ◌∷◌, Option, Some, None, refl}
 use Rattle.bmx_types.specs.declared.numbers.Mode.TheVariants.{Read, Write}
 use Rattle.bmx_token.specs.Tokens.{owner_part, child_part}
 use Rattle.bmx_object.specs.Laws.{owned_at, handovers_in}
-use Rattle.bmx_object.specs.Machine.{Holding, Note, Asks, Grants, Recalls, Tells, Slip, Object, Act, Acquires, Releases, Serves, Move, Does, Takes, Run, Stays, Goes, moved, move_of, popped, take_note, take_notes, stays, made_holding, heard_from}
+use Rattle.bmx_object.specs.Machine.{Holding, Note, Asks, Grants, Recalls, Tells, Slip, Numbers, no_numbers, Object, Act, Acquires, Releases, Serves, Move, Does, Takes, Run, Stays, Goes, moved, move_of, popped, take_note, take_notes, stays, made_holding, heard_from}
 
 -- ## running
 
@@ -64,8 +64,12 @@ turns_run o turns = after_runs o o Stays turns
 abbrev first_holds : ℕ → Option Holding
 first_holds n = if n == 0 then Some made_holding else (if n == 1 then Some (heard_from 0) else None)
 
+-- node 0 has a record of node 1
+abbrev first_entering : ℕ → ℕ → Option Numbers
+first_entering n m = if (n == 0) && (m == 1) then Some no_numbers else None
+
 abbrev opening : Object
-opening = record { holds = first_holds; way = λ n m. []; entering = λ n m. None; issued = λ n m. 0; taken = λ n m. 0 }
+opening = record { holds = first_holds; way = λ n m. []; entering = first_entering; issued = λ n m. 0; taken = λ n m. 0 }
 
 -- a letter, by its number
 abbrev letter : ℕ → List Note → Slip

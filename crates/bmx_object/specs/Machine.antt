@@ -299,7 +299,20 @@ pub record IsBorn (o : Object) : Type 0 where
   pub owner : o.holds 0 ≡ Some made_holding
   pub others : (n : ℕ) → n ≢ 0 → IsFirstElsewhere (o.holds n)
 
--- at first no letter is on its way, and the object is nowhere or one that the store opens with
+-- a record that stands at first is at node 0, of a node that has heard of the object, and no letter is in it yet
+pub record IsFirstRecord (o : Object) (n m : ℕ) (r : Numbers) : Type 0 where
+  pub here : n ≡ 0
+  pub heard : o.holds m ≡ Some (heard_from 0)
+  pub numbers : r ≡ no_numbers
+
+-- no letter was issued or taken, none is on its way, and each record is one that stands at first
+pub record IsUntouched (o : Object) : Type 0 where
+  pub way : (n m : ℕ) → o.way n m ≡ []
+  pub issued : (n m : ℕ) → o.issued n m ≡ 0
+  pub taken : (n m : ℕ) → o.taken n m ≡ 0
+  pub records : (n m : ℕ) (r : Numbers) → o.entering n m ≡ Some r → IsFirstRecord o n m r
+
+-- at first nothing was done yet, and the object is nowhere or one that the store opens with
 pub data IsFirst (o : Object) : Type 0 where
-  Absent : ((n m : ℕ) → o.way n m ≡ []) → ((n : ℕ) → o.holds n ≡ None) → IsFirst o
-  Born : ((n m : ℕ) → o.way n m ≡ []) → IsBorn o → IsFirst o
+  Absent : IsUntouched o → ((n : ℕ) → o.holds n ≡ None) → IsFirst o
+  Born : IsUntouched o → IsBorn o → IsFirst o

@@ -1,21 +1,22 @@
 -- The opening of a store, seen for one name: nowhere, or one that the store opens with.
 use Rattle.std.proofs.Common.{◌≡◌, ℕ, ◌+◌, ◌-◌, ◌^◌, ◌<◌, ◌≤◌, arith, refl, ap, sym, subst, ◌∙◌, Bool, true, false, cond, List, [], ◌∷◌, map, length, zero, suc, get_or}
-use Rattle.std.specs.Prelude.{◌==◌, ◌||◌, ◌≢◌, ◌⊎◌, Option, Some, None, is_some, find, slice_get, Contains}
+use Rattle.std.specs.Prelude.{◌==◌, ◌||◌, ◌&&◌, ◌≢◌, ◌⊎◌, nat_lt, Option, Some, None, is_some, find, slice_get, Contains}
 use Rattle.std.specs.Option.{option_map}
 use Rattle.std.proofs.Common.{inl, inr}
+use Rattle.std.proofs.lemmas.Bool.Decides.{nat_tests}
 use Rattle.std.proofs.lemmas.Option.{slice_get_within, get_or_from_slice_get, slice_get_cases}
 use Rattle.std.proofs.lemmas.List.Elements.{Contains-get_or, Contains-append_left, Contains-append_right, Contains-push}
 use Rattle.bmx_types.specs.Words.{maker, count_of, anchor_of}
 use Rattle.bmx_types.specs.Openings.{IsBorn, IsOpening, bunches_of}
-use Rattle.std.proofs.lemmas.Bool.Decides.{nat_tests}
 use Rattle.bmx_types.specs.declared.openings.Birth.{Birth}
 use Rattle.bmx_types.specs.declared.values.Val.{Val}
 use Rattle.bmx_types.specs.declared.values.Val.TheVariants as val
+use Rattle.bmx_owner.specs.Records.{blank}
 use Rattle.bmx_protocol.specs.declared.views.ViewField.TheVariants as field
 use Rattle.bmx_protocol.specs.Nodes.{Setting, Known, field_of, birth_of, is_anchor, owned_birth, heard_birth, first_known}
 use Rattle.bmx_protocol.specs.Steps.{first_node}
-use Rattle.bmx_object.specs.Machine.{Holding, IsFirst, Absent, Born, IsFirstElsewhere, Unknown, Heard, made_holding, heard_from}
-use Rattle.bmx_ownership.specs.Seen.{seen, first_world}
+use Rattle.bmx_object.specs.Machine.{Holding, Numbers, no_numbers, IsFirstRecord, IsUntouched, IsFirst, Absent, Born, IsFirstElsewhere, Unknown, Heard, made_holding, heard_from}
+use Rattle.bmx_ownership.specs.Seen.{seen, seen_numbers, first_world}
 use Rattle.bmx_ownership.proofs.Basics.{eqb_of, eqb_is, eqb_apart}
 use Rattle.bmx_ownership.proofs.Rows.{seen_known, HasNo, NoRefs}
 use Rattle.bmx_ownership.proofs.Free.{null_free, FreeOf}
@@ -77,6 +78,9 @@ none_at false false = refl
 unknown_at : (st : Setting) (x n : ℕ) → birth_of st x ≡ None → seen_known (first_known st n x) ≡ None
 unknown_at st x n none = ap seen_known (known_at st x n None none ∙ none_at (n == 0) (is_anchor st x))
 
+no_numbers_there : (r : Numbers) → None ≡ Some r → ⊥
+no_numbers_there r is = cc
+
 no_holding : (h : Holding) → None ≡ Some h → ⊥
 no_holding h is = cc
 
@@ -86,12 +90,42 @@ elsewhere b n a true h = absurd (cc)
 elsewhere b n true false h = Heard refl
 elsewhere b n false false h = Unknown refl
 
+-- a record that stands at first, by the tests that it stands under
+first_record : (st : Setting) (x n m : ℕ) (r : Numbers) (b : Option Birth) → birth_of st x ≡ b → (t u v a : Bool) → (n == 0) ≡ t → nat_lt 0 m ≡ u → is_anchor st x ≡ a →
+    option_map seen_numbers (cond (t && u && v && a) (option_map (λ (c : Birth). blank x c.bunch m) b) None) ≡ Some r →
+    IsFirstRecord (seen x (first_world st)) n m r
+first_record st x n m r (Some b) is true true true true here above anchor at = record {
+  here = eqb_is n 0 here;
+  heard = ap seen_known (known_at st x m (Some b) is
+      ∙ (λ i. cond (not_first i) (Some (owned_birth b)) (cond (anchor i) (Some (heard_birth b)) None)));
+  numbers = same no_numbers r at;
+}
+  where
+    not_first : (m == 0) ≡ false
+    not_first = grind (arith, nat_tests)
+
+    same : (c d : Numbers) → Some c ≡ Some d → d ≡ c
+    same c d h = cc
+first_record st x n m r None is true true true true here above anchor at = absurd (no_numbers_there r at)
+first_record st x n m r b is true true true false here above anchor at = absurd (no_numbers_there r at)
+first_record st x n m r b is true true false a here above anchor at = absurd (no_numbers_there r at)
+first_record st x n m r b is true false v a here above anchor at = absurd (no_numbers_there r at)
+first_record st x n m r b is false u v a here above anchor at = absurd (no_numbers_there r at)
+
+first_untouched : (st : Setting) (x : ℕ) → IsUntouched (seen x (first_world st))
+first_untouched st x = record {
+  way = λ n m. refl;
+  issued = λ n m. refl;
+  taken = λ n m. refl;
+  records = λ n m r at. first_record st x n m r (birth_of st x) refl (n == 0) (nat_lt 0 m) (nat_lt m st.nodes) (is_anchor st x) refl refl refl at;
+}
+
 pub is_first : (st : Setting) (x : ℕ) → IsFirst (seen x (first_world st))
 is_first st x = by_birth (birth_of st x) refl
   where
     by_birth : (b : Option Birth) → birth_of st x ≡ b → IsFirst (seen x (first_world st))
-    by_birth None is = Absent (λ n m. refl) (λ n. unknown_at st x n is)
-    by_birth (Some b) is = Born (λ n m. refl) (record {
+    by_birth None is = Absent (first_untouched st x) (λ n. unknown_at st x n is)
+    by_birth (Some b) is = Born (first_untouched st x) (record {
       owner = ap seen_known (known_at st x 0 (Some b) is);
       others = λ n d. subst (λ (k : Option Known). IsFirstElsewhere (seen_known k)) (sym (known_at st x n (Some b) is))
           (elsewhere b n (is_anchor st x) (n == 0) (eqb_apart n 0 d));

@@ -4,8 +4,8 @@ use Rattle.bmx_types.specs.declared.commands.Command.TheVariants as command
 use Rattle.bmx_types.specs.declared.numbers.Mode.TheVariants as mode
 use Rattle.bmx_protocol.specs.Worlds.{world_of}
 use Rattle.bmx_protocol.specs.Cases.{Play, Do, Serve, Next, played, one_bunch, anchor, r0, told_of_the_object}
-use Rattle.bmx_object.specs.Machine.{Object, Grants, Tells, heard_from, made_holding}
-use Rattle.bmx_ownership.specs.Seen.{seen}
+use Rattle.bmx_object.specs.Machine.{Object, Grants, Tells, no_numbers, heard_from, made_holding}
+use Rattle.bmx_ownership.specs.Seen.{seen, first_world}
 
 abbrev seen_in : Play → ℕ → Object
 seen_in p x = seen x (world_of p.nodes p.past)
@@ -25,6 +25,16 @@ of_the_object = refl
 
 of_another : (seen_in granted_the_anchor 3).way 0 1 ≡ record { seq = 1; notes = [] } ∷ []
 of_another = refl
+
+-- at first node 0 has a record that the anchor is known to node 1, and no letter gave it
+the_first_record : (seen 1 (first_world (one_bunch 2))).entering 0 1 ≡ Some no_numbers
+the_first_record = refl
+
+none_elsewhere : (seen 1 (first_world (one_bunch 2))).entering 1 0 ≡ None
+none_elsewhere = refl
+
+none_of_an_object : (seen 2 (first_world (one_bunch 2))).entering 0 1 ≡ None
+none_of_an_object = refl
 
 -- both are given to node 1 by letter 1
 the_anchor_is_given : (seen_in granted_the_anchor 1).entering 0 1 ≡ Some (record { sent = 1; got = 0 })
