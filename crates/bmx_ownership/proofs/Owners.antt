@@ -3,6 +3,7 @@ use Rattle.std.proofs.Common.{◌≡◌, ℕ, ◌+◌, ◌≤◌, arith, refl, a
 use Rattle.std.specs.Prelude.{◌==◌, ◌≢◌, ◌&&◌, ◌⊎◌, Option, Some, None, Contains}
 use Rattle.std.proofs.Common.{inl, inr}
 use Rattle.std.proofs.lemmas.List.{map-append}
+use Rattle.std.proofs.lemmas.List.Sums.{sum_by-cons}
 use Rattle.bmx_types.specs.declared.addresses.Info.{Info}
 use Rattle.bmx_types.specs.declared.numbers.Mode.TheVariants as mode
 use Rattle.bmx_msg.specs.declared.letters.Field.{Field}
@@ -15,10 +16,10 @@ use Rattle.bmx_token.specs.declared.parts.Role.TheVariants as role
 use Rattle.bmx_protocol.specs.Nodes.{Setting, Known}
 use Rattle.bmx_protocol.specs.Worlds.{World, HasOwned, IsMoving, Owns, Has, Gets, names_in, IsSomewhere, At, Between, HasOneOwner, EachHasOneOwner, WritesExclude}
 use Rattle.bmx_object.specs.Machine.{Note, Asks, Grants, Recalls, Returns, Tells, IsNowhere}
-use Rattle.bmx_object.specs.Laws.{is_owner, owned_at, handovers, handovers_in, Seat, Moving, IsOwned, HasOneSeat, WriteExcludes}
+use Rattle.bmx_object.specs.Laws.{is_owner, owned_at, handovers, handovers_in, Seat, Moving, is_at, IsOwned, HasOneSeat, WriteExcludes}
 use Rattle.bmx_object.specs.Laws.{At as AtNode}
 use Rattle.bmx_ownership.specs.Seen.{seen, seen_slip, seen_notes, seen_holding, note_if, tells}
-use Rattle.bmx_ownership.specs.Laws.{EachHasOneSeat}
+use Rattle.bmx_ownership.specs.Laws.{EachHasOneSeat, is_handover_of, handovers_of, SeenSeatIsSeat}
 use Rattle.bmx_ownership.proofs.Basics.{eqb_of, eqb_is, eqb_same, Two, Same, Apart, two}
 use Rattle.bmx_ownership.proofs.Rows.{seen_known}
 
@@ -129,21 +130,33 @@ read_note : (b : Bool) (notes : List Note) → handovers notes ≡ 0 → handove
 read_note true notes h = omega arith
 read_note false notes h = h
 
-hands : (x : ℕ) (m : Msg) → (handovers (seen_notes x m) ≡ 0) ⊎ ((handovers (seen_notes x m) ≡ 1) × Hands x m)
-hands x (msg.ReadReq name asker) = inl (quiet_note (name == x) _ refl)
-hands x (msg.WriteReq name asker) = inl (quiet_note (name == x) _ refl)
-hands x (msg.ReadGrant info fields) = inl (read_note (info.name == x) (tells x (targets fields)) (tells_hand x (targets fields)))
-hands x (msg.WriteGrant info fields) = by_test (info.name == x) (eqb_is info.name x)
+-- what is seen of a message counts the grant in it
+is_hand : (x : ℕ) (m : Msg) → handovers (seen_notes x m) ≡ one_if (is_handover_of x m)
+is_hand x (msg.ReadReq name asker) = quiet_note (name == x) _ refl
+is_hand x (msg.WriteReq name asker) = quiet_note (name == x) _ refl
+is_hand x (msg.ReadGrant info fields) = read_note (info.name == x) (tells x (targets fields)) (tells_hand x (targets fields))
+is_hand x (msg.WriteGrant info fields) = by_test (info.name == x) (tells x (targets fields)) (tells_hand x (targets fields))
   where
-    notes : List Note
-    notes = tells x (targets fields)
+    by_test : (b : Bool) (notes : List Note) → handovers notes ≡ 0 → handovers (cond b (Grants mode.Write ∷ notes) notes) ≡ one_if b
+    by_test true notes none = omega arith
+    by_test false notes none = none
+is_hand x (msg.Inval name) = quiet_note (name == x) _ refl
+is_hand x (msg.InvAck name) = quiet_note (name == x) _ refl
 
-    by_test : (b : Bool) → (b ≡ true → info.name ≡ x) →
-        (handovers (cond b (Grants mode.Write ∷ notes) notes) ≡ 0) ⊎ ((handovers (cond b (Grants mode.Write ∷ notes) notes) ≡ 1) × Hands x (msg.WriteGrant info fields))
-    by_test true q = inr (omega (arith, tells_hand x (targets fields)), record { info = info; fields = fields; is = refl; named = q refl })
-    by_test false q = inl (tells_hand x (targets fields))
-hands x (msg.Inval name) = inl (quiet_note (name == x) _ refl)
-hands x (msg.InvAck name) = inl (quiet_note (name == x) _ refl)
+hands : (x : ℕ) (m : Msg) → (handovers (seen_notes x m) ≡ 0) ⊎ ((handovers (seen_notes x m) ≡ 1) × Hands x m)
+hands x (msg.ReadReq name asker) = inl (is_hand x (msg.ReadReq name asker))
+hands x (msg.WriteReq name asker) = inl (is_hand x (msg.WriteReq name asker))
+hands x (msg.ReadGrant info fields) = inl (is_hand x (msg.ReadGrant info fields))
+hands x (msg.WriteGrant info fields) = by_test (info.name == x) (eqb_is info.name x) (is_hand x (msg.WriteGrant info fields))
+  where
+    count : ℕ
+    count = handovers (seen_notes x (msg.WriteGrant info fields))
+
+    by_test : (b : Bool) → (b ≡ true → info.name ≡ x) → count ≡ one_if b → (count ≡ 0) ⊎ ((count ≡ 1) × Hands x (msg.WriteGrant info fields))
+    by_test true q e = inr (e, record { info = info; fields = fields; is = refl; named = q refl })
+    by_test false q e = inl e
+hands x (msg.Inval name) = inl (is_hand x (msg.Inval name))
+hands x (msg.InvAck name) = inl (is_hand x (msg.InvAck name))
 
 -- among letters one hands x over
 record HandsAmong (x : ℕ) (letters : List Letter) : Type 0 where
@@ -165,9 +178,7 @@ among x (l ∷ letters) h = by_letter (hands x l.msg) (among x letters)
 
 -- a letter that hands x over is counted
 grant_hands : (x : ℕ) (info : Info) (fields : List Field) → info.name ≡ x → handovers (seen_notes x (msg.WriteGrant info fields)) ≡ 1
-grant_hands x info fields named =
-    ap (λ (b : Bool). handovers (cond b (Grants mode.Write ∷ tells x (targets fields)) (tells x (targets fields)))) (eqb_of named)
-    ∙ (let none : handovers (tells x (targets fields)) ≡ 0 = tells_hand x (targets fields) in omega arith)
+grant_hands x info fields named = is_hand x (msg.WriteGrant info fields) ∙ ap one_if (eqb_of named)
 
 counted : (x : ℕ) (letters : List Letter) (l : Letter) → Contains letters l → handovers (seen_notes x l.msg) ≡ 1 → 1 ≤ handovers_in (map (seen_slip x) letters)
 counted x [] l c h = absurd (omega (arith, c.1))
@@ -248,6 +259,28 @@ each_has_seat st w seats x somewhere = by_seat (seats x)
     by_seat : HasOneSeat (seen x w) → (s : Seat) × IsOwned (seen x w) s
     by_seat (inl nowhere) = absurd (not_nowhere st w x somewhere nowhere)
     by_seat (inr seat) = seat
+
+-- ## the seat in a store
+
+hands_in : (x : ℕ) (letters : List Letter) → handovers_in (map (seen_slip x) letters) ≡ handovers_of x letters
+hands_in x [] = refl
+hands_in x (l ∷ letters) =
+    (λ i. is_hand x l.msg i + hands_in x letters i)
+    ∙ sym (sum_by-cons (λ (k : Letter). one_if (is_handover_of x k.msg)) l letters)
+
+is_there : (b : Bool) → one_if b ≡ 1 → b ≡ true
+is_there true h = refl
+is_there false h = absurd (omega arith)
+
+pub seen_seat_is_seat : SeenSeatIsSeat
+seen_seat_is_seat w x s owned = record {
+  has = λ n at. has n (owned_known ((w.state n).known x) (owned.nodes n ∙ ap one_if at));
+  alone = λ n k has. is_there (is_at s n) (sym (owned.nodes n) ∙ known_owned w x n k has);
+  grants = λ n m. sym (hands_in x (w.way n m)) ∙ owned.letters n m;
+}
+  where
+    has : (n : ℕ) → (k : Known) × ((w.state n).known x ≡ Some k) × (k.part.role ≡ role.Owner) → (k : Known) × HasOwned w x n k
+    has n k = (k.0, record { known = k.1; owns = k.2 })
 
 -- ## a write excludes
 

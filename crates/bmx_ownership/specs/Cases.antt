@@ -2,10 +2,12 @@
 use Rattle.std.specs.Prelude.{◌≡◌, ℕ, [], ◌∷◌, Some, None, refl}
 use Rattle.bmx_types.specs.declared.commands.Command.TheVariants as command
 use Rattle.bmx_types.specs.declared.numbers.Mode.TheVariants as mode
-use Rattle.bmx_protocol.specs.Worlds.{world_of}
+use Rattle.bmx_protocol.specs.Histories.{on_way}
+use Rattle.bmx_protocol.specs.Worlds.{World, world_of}
 use Rattle.bmx_protocol.specs.Cases.{Play, Do, Serve, Next, played, one_bunch, anchor, r0, told_of_the_object}
 use Rattle.bmx_object.specs.Machine.{Object, Grants, Tells, no_numbers, heard_from, made_holding}
 use Rattle.bmx_ownership.specs.Seen.{seen, first_world}
+use Rattle.bmx_ownership.specs.Laws.{handovers_of}
 
 abbrev seen_in : Play → ℕ → Object
 seen_in p x = seen x (world_of p.nodes p.past)
@@ -55,3 +57,25 @@ heard_of = refl
 
 no_letter_left : (seen_in told_of_the_object 2).way 0 1 ≡ []
 no_letter_left = refl
+
+-- ## ownership on its way
+
+-- node 1 asks for the anchor to write it, and node 0 hands it over
+abbrev handed_the_anchor : Play
+handed_the_anchor = played (one_bunch 2) (Do 1 (command.Write anchor) ∷ Next 1 0 ∷ Serve 0 1 ∷ [])
+
+abbrev handed_world : World
+handed_world = world_of handed_the_anchor.nodes handed_the_anchor.past
+
+one_handover : handovers_of 1 (handed_world.way 0 1) ≡ 1
+one_handover = refl
+
+no_other : handovers_of 2 (handed_world.way 0 1) ≡ 0
+no_other = refl
+
+nobody_has_the_role : (seen 1 handed_world).holds 0 ≡ Some (heard_from 1)
+nobody_has_the_role = refl
+
+-- a grant to read hands nothing over
+no_handover : handovers_of 1 (on_way 0 1 granted_the_anchor.past) ≡ 0
+no_handover = refl

@@ -1,13 +1,16 @@
 -- What holds of every name in every legal history.
-use Rattle.std.specs.Prelude.{ℕ, List}
+use Rattle.std.specs.Prelude.{◌≡◌, ℕ, ◌==◌, Bool, true, false, if◌then◌else◌, List, count_by}
 use Rattle.bmx_types.specs.Openings.{IsOpening}
+use Rattle.bmx_msg.specs.declared.letters.Letter.{Letter}
+use Rattle.bmx_msg.specs.declared.letters.Msg.{Msg}
+use Rattle.bmx_msg.specs.declared.letters.Msg.TheVariants as msg
 use Rattle.bmx_object.specs.Machine.{IsFirst, Run}
-use Rattle.bmx_object.specs.Laws.{Seat, IsOwned}
+use Rattle.bmx_object.specs.Laws.{Seat, is_at, is_moving, IsOwned}
 use Rattle.bmx_protocol.specs.declared.events.Event.{Event}
-use Rattle.bmx_protocol.specs.Nodes.{Setting}
+use Rattle.bmx_protocol.specs.Nodes.{Setting, Known}
 use Rattle.bmx_protocol.specs.Steps.{Node}
 use Rattle.bmx_protocol.specs.Histories.{AreAfter, IsLegal}
-use Rattle.bmx_protocol.specs.Worlds.{World, world_of, IsSomewhere, EachHasOneOwner, WritesExclude}
+use Rattle.bmx_protocol.specs.Worlds.{World, world_of, HasOwned, IsSomewhere, EachHasOneOwner, WritesExclude}
 use Rattle.bmx_protocol.specs.Cases.{one_bunch, told_of_the_object}
 use Rattle.bmx_ownership.specs.Seen.{seen, first_world}
 
@@ -36,6 +39,30 @@ EachHasOneSeat st w = (x : ℕ) → IsSomewhere st w x → (s : Seat) × IsOwned
 -- ownership of each name that stands somewhere has one seat
 abbrev pub OneSeat : Type 0
 OneSeat = Always EachHasOneSeat
+
+-- a message grants ownership of x
+abbrev pub is_handover_of : ℕ → Msg → Bool
+is_handover_of x (msg.ReadReq name asker) = false
+is_handover_of x (msg.WriteReq name asker) = false
+is_handover_of x (msg.ReadGrant info fields) = false
+is_handover_of x (msg.WriteGrant info fields) = info.name == x
+is_handover_of x (msg.Inval name) = false
+is_handover_of x (msg.InvAck name) = false
+
+-- how many letters grant ownership of x
+abbrev pub handovers_of : ℕ → List Letter → ℕ
+handovers_of x letters = count_by (λ (l : Letter). is_handover_of x l.msg) letters
+
+-- in a store ownership of x is at a seat and nowhere else: a node has the owner's role just if the seat is
+-- at that node, and one letter between two nodes grants ownership just if the seat is on its way there
+pub record IsSeated (w : World) (x : ℕ) (s : Seat) : Type 0 where
+  pub has : (n : ℕ) → is_at s n ≡ true → (k : Known) × HasOwned w x n k
+  pub alone : (n : ℕ) (k : Known) → HasOwned w x n k → is_at s n ≡ true
+  pub grants : (n m : ℕ) → handovers_of x (w.way n m) ≡ (if is_moving s n m then 1 else 0)
+
+-- the seat that is seen of a name is the seat in the store
+abbrev pub SeenSeatIsSeat : Type 0
+SeenSeatIsSeat = (w : World) (x : ℕ) (s : Seat) → IsOwned (seen x w) s → IsSeated w x s
 
 -- while a node holds an object for writing, no other node holds it
 abbrev pub WriteExcludes : Type 0

@@ -1,4 +1,4 @@
-ghost use Rattle.bmx_ownership.specs.Laws.{SeenIsRun, OneOwner, OneSeat, WriteExcludes, LawsApply};
+ghost use Rattle.bmx_ownership.specs.Laws.{SeenIsRun, OneOwner, OneSeat, SeenSeatIsSeat, WriteExcludes, LawsApply};
 
 /// The law that what a legal history leads to, seen for one name, is the end of a run of the machine of
 /// one object. It does nothing.
@@ -16,6 +16,12 @@ pub fn one_owner()
 /// is. It does nothing.
 pub fn one_seat()
     ensures { OneSeat }
+{}
+
+/// The law that the seat of ownership which is seen of a name is its seat in the store: the nodes' roles and
+/// the letters on their way say the same. It does nothing.
+pub fn seen_seat_is_seat()
+    ensures { SeenSeatIsSeat }
 {}
 
 /// The law that in every legal history, while a node holds an object for writing, no other node holds it.

@@ -4,4 +4,4 @@
 
 mod laws;
 
-pub use laws::{laws_apply, one_owner, one_seat, seen_is_run, write_excludes};
+pub use laws::{laws_apply, one_owner, one_seat, seen_is_run, seen_seat_is_seat, write_excludes};
