@@ -1,0 +1,6 @@
+pub mod Slotted
+pub mod Laid
+pub mod Chained
+pub mod Standing
+pub mod Fielded
+pub mod Changing

@@ -1,0 +1,32 @@
+-- A directory of names, as its map shows it.
+use Rattle.std.proofs.Common.{◌≡◌, ℕ, ◌+◌, ◌*◌, ◌^◌, ◌<◌, Bool, true, false, ◌&&◌, cond, eqb, List, [], ◌∷◌, Option, Some, None, IsSome, refl, subst, sym, ap, ◌∙◌, ⊎_elim, arith}
+use Rattle.std.proofs.lemmas.Bool.{cases_eq, eqb-true, eq-eqb, ne_eqb, and_from, and_parts, false_from_ne_true}
+use Rattle.std.specs.Map.{lookup}
+use Rattle.bmx_types.specs.Words.{maker, count_of}
+use Rattle.bmx_replica.specs.Slots.{slot_of, PutsSlot}
+use Rattle.bmx_replica.specs.declared.directory.Slot.{Slot}
+
+-- two names are the same, as the keys of a map are compared
+abbrev pub same_name : ℕ → ℕ → Bool
+same_name x y = eqb (maker x) (maker y) && eqb (count_of x) (count_of y)
+
+-- which is by their words
+pub same_name-is : (x y : ℕ) → same_name x y ≡ eqb x y
+same_name-is x y =
+    ⊎_elim
+    (λ (e : x ≡ y). and_from _ _ (eq-eqb (maker x) (maker y) (ap maker e)) (eq-eqb (count_of x) (count_of y) (ap count_of e)) ∙ sym (eq-eqb x y e))
+    (λ (ne : x ≡ y → ⊥). false_from_ne_true (same_name x y) (λ h. let parts = and_parts (eqb (maker x) (maker y)) (eqb (count_of x) (count_of y)) h in
+    let makers : maker x ≡ maker y = eqb-true (maker x) (maker y) parts.0 in
+    let counts : count_of x ≡ count_of y = eqb-true (count_of x) (count_of y) parts.1 in
+    ne (omega (arith, makers, counts))) ∙ sym (ne_eqb x y ne))
+    (cases_eq x y)
+
+pub slot_of-lookup : (es : List (ℕ × Slot)) (q : ℕ) → lookup (same_name q) es ≡ slot_of es q
+slot_of-lookup [] q = refl
+slot_of-lookup (e ∷ es) q = ap (λ b. cond b (Some e.1) (lookup (same_name q) es)) (same_name-is q e.0) ∙ ap (λ (o : Option Slot). cond (eqb q e.0) (Some e.1) o) (slot_of-lookup es q)
+
+pub PutsSlot-from : (old new : List (ℕ × Slot)) (k : ℕ) (w : Option Slot) → ((q : ℕ) → lookup (same_name q) new ≡ cond (same_name k q) w (lookup (same_name q) old)) → PutsSlot old new k w
+PutsSlot-from old new k w h = λ q.
+    sym (slot_of-lookup new q) ∙ h q
+    ∙ ap (λ b. cond b w (lookup (same_name q) old)) (same_name-is k q)
+    ∙ ap (λ (o : Option Slot). cond (eqb k q) w o) (slot_of-lookup old q)

@@ -1,0 +1,39 @@
+use Rattle.std.proofs.Common.{◌≡◌, ℕ, ◌+◌, List, Some, IsSomeAnd, get_or, sym, ap, subst, refl, ◌∙◌}
+use Rattle.bmx_types.specs.declared.addresses.Place.{Place}
+use Rattle.bmx_segment.specs.Blocks.{Block}
+use Rattle.bmx_segment.specs.Stores.{header_at, word_at, Sets}
+use Rattle.bmx_segment.specs.declared.headers.Header.{Header}
+use Rattle.bmx_segment.specs.declared.headers.State.TheVariants.{Live, Forwarded}
+use Rattle.bmx_replica.specs.Layouts.{Lays, kinds_in}
+use Rattle.bmx_replica.proofs.Laid.{Lays-words}
+use Rattle.bmx_replica.proofs.replica.re_place.Goals as goal
+
+pub forward-requires : goal.forward-requires
+forward-requires c =
+    let h : Header = c.args.found.now.header in
+    let a : ℕ = c.args.found.now.slot.address in
+    let mid : List Block = c.lay.new.segments.blocks in
+    let lays = c.in_ok-lay.ensures.laid in
+    let there : header_at mid a ≡ Some h = lays.headers a c.requires.apart ∙ c.requires.found.there in
+    rw (there, lays.header) refl
+
+pub returns-clause-moved : goal.returns-clause-moved
+returns-clause-moved c =
+    let h : Header = c.args.found.now.header in
+    let to : Place = c.args.to in
+    let a : ℕ = c.args.found.now.slot.address in
+    let old : List Block = c.args.segments.now.blocks in
+    let mid : List Block = c.lay.new.segments.blocks in
+    let new : List Block = c.forward.new.self.blocks in
+    let lays = c.in_ok-lay.ensures.laid in
+    let there : header_at mid a ≡ Some h = lays.headers a c.requires.apart ∙ c.requires.found.there in
+    let S : Type 0 = Sets mid new a (record h { state = Forwarded to.address }) in
+    let sets : S = rw there at c.forward.ensures.set in
+    let kinds : c.in-Live.kinds ≡ kinds_in h.state = sym (ap kinds_in c.in-Live.is) in
+    let f : ℕ → ℕ = λ i. get_or c.field_words-words.result i 0 in
+    let P : ℕ → Type 0 = λ k. Lays old mid to.address (record h { state = Live to.moves k }) f in
+    record {
+      mid = mid;
+      lays = Lays-words old mid to.address (record h { state = Live to.moves (kinds_in h.state) }) f (λ i. word_at old (a + 4 + i)) c.field_words-words.ensures (subst P kinds lays);
+      forwards = sets;
+    }

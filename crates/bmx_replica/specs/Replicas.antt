@@ -1,0 +1,165 @@
+-- A replica: what a node has under each name.
+use Rattle.std.specs.Prelude.{◌≡◌, ◌≢◌, ℕ, ◌+◌, ◌<◌, ◌≤◌, ◌==◌, ◌↔◌, Bool, true, false, if◌then◌else◌, List, [], ◌∷◌, Option, Some, None, IsSome, IsSomeAnd, unwrap_or, slice_get, slice_set, replicate, ◌^◌}
+use Rattle.std.proofs.Common.{zero, suc}
+use Rattle.std.specs.Option.{option_map, option_and_then}
+use Rattle.std.specs.Int.{w64, cast_signed, cast_unsigned}
+use Rattle.bmx_types.specs.Words.{IsAddress}
+use Rattle.bmx_types.specs.declared.values.Val.{Val}
+use Rattle.bmx_types.specs.declared.values.Val.TheVariants as val
+use Rattle.bmx_types.specs.declared.addresses.Place.{Place}
+use Rattle.bmx_types.specs.declared.addresses.Info.{Info}
+use Rattle.bmx_segment.specs.Headers.{kind_of}
+use Rattle.bmx_segment.specs.Blocks.{Block}
+use Rattle.bmx_segment.specs.Stores.{header_at, word_at, AreApart}
+use Rattle.bmx_segment.specs.Heaps.{Heap, CanSet, PlacesIn, PlacesInNew, room_of, current_of}
+use Rattle.bmx_segment.specs.declared.headers.Header.{Header}
+use Rattle.bmx_segment.specs.declared.headers.Kind.TheVariants.{Null, Int, Ref}
+use Rattle.bmx_segment.specs.declared.headers.State.TheVariants.{Forwarded}
+use Rattle.bmx_replica.specs.Slots.{slot_of, address_of}
+use Rattle.bmx_replica.specs.Chains.{Ends, Means, Reaches, name_at, living_at, is_live}
+use Rattle.bmx_replica.specs.Layouts.{kinds_in, moves_in, CanLie}
+use Rattle.bmx_replica.specs.declared.directory.Slot.{Slot}
+use Rattle.bmx_replica.specs.declared.words.Word.{Word}
+
+-- what contracts see of a replica: where each name's object lies, the heap of segments, and how many
+-- more names can be learned without memory
+pub record Holding : Type 0 where
+  pub slots : List (ℕ × Slot)
+  pub heap : Heap
+  pub spare : ℕ
+
+-- what a node has under a name
+pub record Entry : Type 0 where
+  pub bunch : ℕ
+  pub size : ℕ
+  pub place : Place
+  pub copy : Option (List Val)
+
+-- what a word of a kind holds: a number in two's complement, the name that an address means, or nothing
+abbrev pub value_in : List Block → ℕ → ℕ → Val
+value_in blocks kind w =
+    if kind == 1 then val.Int (cast_signed w64 w)
+    else (if kind == 2 then val.Ref (unwrap_or (name_at blocks w) 0) else val.Null)
+
+-- the first so many values of a function
+abbrev pub values_of : (ℕ → Val) → ℕ → List Val
+values_of f zero = []
+values_of f (suc n) = f 0 ∷ values_of (λ i. f (i + 1)) n
+
+-- a field of the object of a header at an address
+abbrev pub field_at : List Block → ℕ → Header → ℕ → Val
+field_at blocks a h i = value_in blocks (kind_of (kinds_in h.state) i) (word_at blocks (a + 4 + i))
+
+-- the entry of a name whose object lies where a header stands
+abbrev pub entry_in : List Block → Slot → Header → Entry
+entry_in blocks s h = record {
+  bunch = h.bunch;
+  size = h.size;
+  place = record { address = s.address; moves = moves_in h.state };
+  copy = if s.has_copy then Some (values_of (field_at blocks s.address h) h.size) else None;
+}
+
+-- the entry of a name, from the slots and the segments
+abbrev pub entry_at : List (ℕ × Slot) → List Block → ℕ → Option Entry
+entry_at slots blocks name = option_and_then (λ (s : Slot). option_map (entry_in blocks s) (header_at blocks s.address)) (slot_of slots name)
+
+-- the entry of a name
+abbrev pub entry_of : Holding → ℕ → Option Entry
+entry_of r name = entry_at r.slots r.heap.blocks name
+
+-- an entry without its copy
+abbrev pub info_in : ℕ → Entry → Info
+info_in name e = record { name = name; bunch = e.bunch; size = e.size; place = e.place }
+
+-- a word of a kind is one of a field: a null word is 0, a reference is an address with a header
+pub record IsField (blocks : List Block) (kind w : ℕ) : Type 0 where
+  pub known : kind < 3
+  pub null : kind ≡ 0 → w ≡ 0
+  pub address : kind ≡ 2 → IsAddress w
+  pub there : kind ≡ 2 → IsSome (header_at blocks w)
+
+-- what a replica keeps. A name has an entry at an address exactly where its live header stands there. A
+-- forwarded header leads to one of its name, and from each header the chain of forwarded ones ends. Each
+-- field word is one of its kind. Without a copy all kinds are null.
+pub record IsReplica (slots : List (ℕ × Slot)) (blocks : List Block) : Type 0 where
+  pub entries : (name a : ℕ) → (address_of slots name ≡ Some a) ↔ (living_at blocks a ≡ Some name)
+  pub forwards : (a c : ℕ) (h : Header) → header_at blocks a ≡ Some h → h.state ≡ Forwarded c → name_at blocks c ≡ Some h.name
+  pub ends : (a : ℕ) (h : Header) → header_at blocks a ≡ Some h → ∥ Ends blocks a ∥₁
+  pub fields : (a i : ℕ) (h : Header) → header_at blocks a ≡ Some h → is_live h.state ≡ true → i < h.size → IsField blocks (kind_of (kinds_in h.state) i) (word_at blocks (a + 4 + i))
+  pub blank : (name i : ℕ) (s : Slot) (h : Header) → slot_of slots name ≡ Some s → s.has_copy ≡ false → header_at blocks s.address ≡ Some h → i < h.size → kind_of (kinds_in h.state) i ≡ 0
+
+-- the name has that entry from now on, or none, and each other has what it had
+abbrev pub Puts : Holding → Holding → ℕ → Option Entry → Type 0
+Puts old new name o = (q : ℕ) → entry_of new q ≡ (if name == q then o else entry_of old q)
+
+-- every word that meant a name still means it
+abbrev pub KeepsMeaning : Holding → Holding → Type 0
+KeepsMeaning old new = (w name : ℕ) → Means old.heap.blocks w name → Means new.heap.blocks w name
+
+-- every word that reached a live header still does, that of the same name
+abbrev pub KeepsReach : Holding → Holding → Type 0
+KeepsReach old new = (w name : ℕ) → Reaches old.heap.blocks w name → Reaches new.heap.blocks w name
+
+-- the values of a name's copy
+abbrev pub copy_of : Holding → ℕ → Option (List Val)
+copy_of r name = option_and_then (λ (e : Entry). e.copy) (entry_of r name)
+
+-- the value in a field of a name's copy
+abbrev pub field_of : Holding → ℕ → ℕ → Option Val
+field_of r name i = option_and_then (λ fields. slice_get fields i) (copy_of r name)
+
+-- the entry with another value in a field of its copy
+abbrev pub with_value : ℕ → Val → Entry → Entry
+with_value i v e = record e { copy = option_map (λ fields. slice_set fields i v) e.copy }
+
+-- the entry without its copy
+abbrev pub without_copy : Entry → Entry
+without_copy e = record e { copy = None }
+
+-- a value that refers to a name refers to one with an entry
+abbrev pub HasTarget : Holding → Val → Type 0
+HasTarget r val.Null = Unit {0}
+HasTarget r (val.Int k) = Unit {0}
+HasTarget r (val.Ref name) = IsSome (entry_of r name)
+
+-- the word of a value: 0, a number in two's complement, or the current address of a name
+abbrev pub word_in : Holding → Val → Word
+word_in r val.Null = record { kind = Null; word = 0 }
+word_in r (val.Int k) = record { kind = Int; word = cast_unsigned w64 k }
+word_in r (val.Ref name) = record { kind = Ref; word = unwrap_or (address_of r.slots name) 0 }
+
+-- a header of a name's object stands at its slot's address
+pub record IsFound (slots : List (ℕ × Slot)) (blocks : List Block) (name : ℕ) (s : Slot) (h : Header) : Type 0 where
+  pub slot : slot_of slots name ≡ Some s
+  pub there : header_at blocks s.address ≡ Some h
+  pub live : is_live h.state ≡ true
+  pub named : h.name ≡ name
+  pub few : h.size ≤ 32
+  pub apart : AreApart blocks
+
+-- the entry at another place
+abbrev pub at_place : Place → Entry → Entry
+at_place p e = record e { place = p }
+
+-- an object whose fields are null, with a copy
+abbrev pub blank_entry : ℕ → ℕ → ℕ → Entry
+blank_entry bunch size a = record { bunch = bunch; size = size; place = record { address = a; moves = 0 }; copy = Some (replicate size val.Null) }
+
+-- words for an object of the bunch are handed out at an address
+pub record HandsOut (old new : Heap) (bunch size at : ℕ) : Type 0 where
+  pub roomy : 4 + size ≤ room_of old bunch → IsSomeAnd (current_of old bunch) (λ n. PlacesIn old new n size at)
+  pub fresh : room_of old bunch < 4 + size → PlacesInNew old new bunch size at
+
+-- an object of the bunch is made under the name, in words that are handed out
+pub record MakesObject (old new : Holding) (name bunch size : ℕ) : Type 0 where
+  pub at : ℕ
+  pub mid : Heap
+  pub placed : HandsOut old.heap mid bunch size at
+  pub heap : new.heap ≡ record mid { blocks = new.heap.blocks }
+  pub entry : Puts old new name (Some (blank_entry bunch size at))
+
+-- an object can move to an address: the words there were handed out for one of its size, and no header
+-- stands in them
+pub record CanMove (h : Heap) (to : ℕ) (e : Entry) : Type 0 where
+  pub free : (name : ℕ) → CanSet h to name e.size
+  pub few : e.place.moves < 2 ^ 63

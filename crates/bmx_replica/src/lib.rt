@@ -1,0 +1,10 @@
+//! A node's replica.
+#![tactic(auto)]
+
+mod directory;
+mod layout;
+mod replica;
+mod words;
+
+pub use replica::Replica;
+pub use words::Word;

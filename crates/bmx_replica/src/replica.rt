@@ -1,0 +1,290 @@
+ghost use Rattle.std.specs.Prelude.{◌≡◌, ◌≢◌, ℕ, ◌+◌, ◌<◌, ◌≤◌, ◌↔◌, [], Some, IsTrue, IsOk, IsSome, IsSomeAnd, IfSome, IfNone, OnOk, OnErr};
+ghost use Rattle.std.specs.Option.{option_map};
+ghost use Rattle.bmx_segment.specs.Headers.{kind_number, kind_of};
+ghost use Rattle.bmx_segment.specs.Stores.{Writes};
+ghost use Rattle.bmx_segment.specs.Heaps.{CanSet};
+ghost use Rattle.bmx_replica.specs.Layouts.{Moves, kinds_in};
+ghost use Rattle.bmx_replica.specs.Slots.{slot_of, address_of, PutsSlot};
+ghost use Rattle.bmx_replica.specs.Chains.{Means, name_at};
+ghost use Rattle.bmx_replica.specs.Replicas.{entry_of, info_in, copy_of, field_of, value_in, word_in, with_value, without_copy, at_place, CanMove, HasTarget, IsField, IsFound, IsReplica, Puts, KeepsMeaning, KeepsReach};
+
+use crate::directory::{Directory, Slot};
+use crate::layout::{NO_WORDS, field_words, kind_in, lay, write_fields};
+use crate::words::Word;
+use bmx_segment::{Clash, Header, Kind, PlaceError, Segments, State};
+use bmx_types::{Address, BunchNo, Info, Name, NoMemory, NodeNo, Place, Val};
+use std::alloc::Global;
+use std::marker::Model;
+
+/// What a node has of objects: under each name where the object lies, and in the segments there its
+/// header and, where it has a copy, its fields. Contracts see an entry for each name, and the heap.
+#[derive(Drop)]
+pub struct Replica {
+    me: NodeNo,
+    directory: Directory,
+    segments: Segments,
+}
+
+impl Model for Replica {
+    ghost use Rattle.std.specs.Prelude.{◌≡◌, min};
+    ghost use Rattle.bmx_replica.specs.Replicas.{Holding, IsReplica};
+
+    ghost Value = { Holding };
+
+    ghost view = { λ r. record { slots = r.directory.slots; heap = r.segments; spare = min r.directory.spare r.segments.spare } };
+
+    ghost invariant = { λ r. (r.me ≡ r.segments.me) × IsReplica r.directory.slots r.segments.blocks };
+}
+
+/// Where the object of a name stands, and its header there.
+#[derive(Clone, Copy)]
+struct Found {
+    slot: Slot,
+    header: Header,
+}
+
+impl Replica {
+    /// No name, nothing made or mapped. Takes no memory.
+    pub fn new(alloc: Global, me: NodeNo, limit: u32) -> Replica
+        requires { limit ≤ 65535 }
+        ensures { result.slots ≡ [] }
+    {
+        Replica {
+            me,
+            directory: Directory::new(alloc),
+            segments: Segments::new(alloc, me, limit),
+        }
+    }
+
+    /// The segments.
+    pub fn segments(&self) -> &Segments
+        ensures heap { result.now ≡ self.now.heap }
+        ensures replica { IsReplica self.now.slots self.now.heap.blocks }
+    {
+        &self.segments
+    }
+
+    /// Where the object of a name stands, None where the name has no entry.
+    fn find(&self, name: Name) -> Option<Found>
+        ensures slot { option_map (λ f. f.slot) result ≡ slot_of self.now.slots name }
+        ensures found { IfSome result (λ f. IsFound self.now.slots self.now.heap.blocks name f.slot f.header) }
+        ensures replica { IsReplica self.now.slots self.now.heap.blocks }
+    {
+        let slot = self.directory.get(name)?;
+        let Some(header) = self.segments.header(slot.address) else {
+            unreachable!()
+        };
+        Some(Found { slot, header })
+    }
+
+    /// What the node knows of the object of a name, None where the name has no entry. Expected constant
+    /// time, but for finding the segment.
+    pub fn info(&self, name: Name) -> Option<Info>
+        ensures { result ≡ option_map (info_in name) (entry_of self.now name) }
+    {
+        let Found { slot, header } = self.find(name)?;
+        let State::Live { moves, .. } = header.state else {
+            unreachable!()
+        };
+        Some(Info {
+            name,
+            bunch: header.bunch,
+            size: header.size,
+            place: Place {
+                address: slot.address,
+                moves,
+            },
+        })
+    }
+
+    /// Whether the name has an entry with a copy.
+    pub fn has_copy(&self, name: Name) -> bool
+        ensures { IsTrue result ↔ IsSome (copy_of self.now name) }
+    {
+        match self.find(name) {
+            Some(found) => found.slot.has_copy,
+            None => false,
+        }
+    }
+
+    /// The name that an address word means, None where following it ends at no header. It looks at one
+    /// header, since each header of a chain has the name of the last.
+    pub fn meaning(&self, w: u64) -> Option<Name>
+        ensures some { IfSome result (λ name. Means self.now.heap.blocks w name) }
+        ensures none { IfNone result ((name : ℕ) → ¬ Means self.now.heap.blocks w name) }
+        ensures header { IfSome result (λ name. name_at self.now.heap.blocks w ≡ Some name) }
+        ensures replica { IsReplica self.now.slots self.now.heap.blocks }
+    {
+        let segments = &self.segments;
+        let address = Address::from_word(w)?;
+        match segments.header(address) {
+            Some(header) => Some(header.name),
+            None => None,
+        }
+    }
+
+    /// Whether two address words mean one name.
+    pub fn same(&self, a: u64, b: u64) -> bool
+        ensures { IsTrue result ↔ ((name : ℕ) × Means self.now.heap.blocks a name × Means self.now.heap.blocks b name) }
+    {
+        match (self.meaning(a), self.meaning(b)) {
+            (Some(x), Some(y)) => x == y,
+            _ => false,
+        }
+    }
+
+    /// What a word holds.
+    pub fn value(&self, word: Word) -> Val
+        requires { IsField self.now.heap.blocks (kind_number word.kind) word.word }
+        ensures { result ≡ value_in self.now.heap.blocks (kind_number word.kind) word.word }
+    {
+        match word.kind {
+            Kind::Null => Val::Null,
+            Kind::Int => Val::Int(word.word.cast_signed()),
+            Kind::Ref => match self.meaning(word.word) {
+                Some(name) => Val::Ref(name),
+                None => unreachable!(),
+            },
+            Kind::Far => unreachable!(),
+        }
+    }
+
+    /// The word that holds a value.
+    pub fn word(&self, value: Val) -> Word
+        requires { HasTarget self.now value }
+        ensures word { result ≡ word_in self.now value }
+        ensures field { IsField self.now.heap.blocks (kind_number result.kind) result.word }
+        ensures holds { value_in self.now.heap.blocks (kind_number result.kind) result.word ≡ value }
+    {
+        match value {
+            Val::Null => Word {
+                kind: Kind::Null,
+                word: 0,
+            },
+            Val::Int(number) => Word {
+                kind: Kind::Int,
+                word: number.cast_unsigned(),
+            },
+            Val::Ref(name) => {
+                let Some(found) = self.find(name) else {
+                    unreachable!()
+                };
+                Word {
+                    kind: Kind::Ref,
+                    word: found.slot.address.word(),
+                }
+            }
+        }
+    }
+
+    /// The value in a field of a name's copy.
+    pub fn read_field(&self, name: Name, i: u8) -> Val
+        requires { IsSome (field_of self.now name i) }
+        ensures { field_of self.now name i ≡ Some result }
+    {
+        let Some(found) = self.find(name) else {
+            unreachable!()
+        };
+        let State::Live { kinds, .. } = found.header.state else {
+            unreachable!()
+        };
+        let word = Word {
+            kind: kind_in(kinds, i),
+            word: self.segments.word(found.slot.address, i),
+        };
+        self.value(word)
+    }
+
+    /// Writes a field of a name's copy. A reference is stored as the current address of its name.
+    pub fn write_field(&mut self, name: Name, i: u8, v: Val)
+        requires field { IsSome (field_of self.old name i) }
+        requires target { HasTarget self.old v }
+        ensures entry { Puts self.old self.new name (option_map (with_value i v) (entry_of self.old name)) }
+        ensures written { IsSomeAnd (address_of self.old.slots name) (λ a. Writes self.old.heap.blocks self.new.heap.blocks a i (kind_number (word_in self.old v).kind) (word_in self.old v).word) }
+        ensures rest { self.new ≡ record self.old { heap = record self.old.heap { blocks = self.new.heap.blocks } } }
+        ensures meaning { KeepsMeaning self.old self.new }
+        ensures reach { KeepsReach self.old self.new }
+    {
+        let Word { kind, word } = self.word(v);
+        let Some(found) = self.find(name) else {
+            unreachable!()
+        };
+        self.segments.set_word(found.slot.address, i, kind, word);
+    }
+
+    /// Clears the fields of a name, which has no copy from now on. Where it has no entry nothing changes.
+    pub fn clear_copy(&mut self, name: Name)
+        ensures entry { Puts self.old self.new name (option_map without_copy (entry_of self.old name)) }
+        ensures heap { self.new.heap ≡ record self.old.heap { blocks = self.new.heap.blocks } }
+        ensures spare { self.new.spare ≡ self.old.spare }
+        ensures meaning { KeepsMeaning self.old self.new }
+        ensures reach { KeepsReach self.old self.new }
+    {
+        let Some(found) = self.find(name) else {
+            return;
+        };
+        let address = found.slot.address;
+        write_fields(&mut self.segments, address, 0, &NO_WORDS);
+        let has_copy = false;
+        self.directory.set(name, Slot { address, has_copy });
+    }
+
+    /// Moves the object of a name, with its copy, to words that were handed out for it: its moves rise by
+    /// 1, and the old header forwards.
+    pub fn relocate(&mut self, name: Name, to: Address)
+        requires { IsSomeAnd (entry_of self.old name) (λ e. CanMove self.old.heap to e) }
+        ensures entry { IsSomeAnd (entry_of self.old name) (λ e. Puts self.old self.new name (Some (at_place (record { address = to; moves = e.place.moves + 1 }) e))) }
+        ensures heap { self.new.heap ≡ record self.old.heap { blocks = self.new.heap.blocks } }
+        ensures spare { self.new.spare ≡ self.old.spare }
+        ensures meaning { KeepsMeaning self.old self.new }
+        ensures reach { KeepsReach self.old self.new }
+    {
+        let Some(found) = self.find(name) else {
+            unreachable!()
+        };
+        let State::Live { moves, .. } = found.header.state else {
+            unreachable!()
+        };
+        let place = Place {
+            address: to,
+            moves: moves + 1,
+        };
+        let Ok(()) = re_place(&mut self.directory, &mut self.segments, &found, place) else {
+            unreachable!()
+        };
+    }
+}
+
+/// Moves an object to a place, with its fields, and forwards its old header. It clashes exactly where a
+/// header can't be set there, and nothing changes then.
+fn re_place(
+    directory: &mut Directory,
+    segments: &mut Segments,
+    found: &Found,
+    to: Place,
+) -> Result<(), Clash>
+    requires found { IsFound directory.old.slots segments.old.blocks found.now.header.name found.now.slot found.now.header }
+    requires known { (i : ℕ) → i < found.now.header.size → kind_of (kinds_in found.now.header.state) i < 3 }
+    requires apart { found.now.slot.address ≢ to.address }
+    ensures ok { IsOk result ↔ CanSet segments.old to.address found.now.header.name found.now.header.size }
+    ensures moved { OnOk result (Moves segments.old.blocks segments.new.blocks found.now.slot.address to found.now.header) }
+    ensures rest { segments.new ≡ record segments.old { blocks = segments.new.blocks } }
+    ensures slots { OnOk result (PutsSlot directory.old.slots directory.new.slots found.now.header.name (Some (record found.now.slot { address = to.address }))) }
+    ensures spare { directory.new.spare ≡ directory.old.spare }
+    ensures err { OnErr result (segments.new ≡ segments.old) }
+    ensures err_slots { OnErr result (directory.new ≡ directory.old) }
+{
+    let Found { slot, header } = *found;
+    let State::Live { kinds, .. } = header.state else {
+        unreachable!()
+    };
+    let words = field_words(segments, slot.address, &header);
+    let moves = to.moves;
+    let state = State::Live { moves, kinds };
+    let moved = Header { state, ..header };
+    lay(segments, to.address, &moved, &words)?;
+    segments.forward(slot.address, to.address);
+    let address = to.address;
+    directory.set(header.name, Slot { address, ..slot });
+    Ok(())
+}
