@@ -4,3 +4,5 @@ pub mod Chained
 pub mod Standing
 pub mod Fielded
 pub mod Changing
+pub mod Forgetting
+pub mod Making

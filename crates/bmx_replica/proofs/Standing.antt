@@ -42,10 +42,10 @@ is_it None x = inr (none-some x)
 is_it (Some y) x = elim (cases_eq y x) [ inl same ↦ inl (ap Some same) | inr other ↦ inr (λ e. other (same_Some y x e)) ]
 
 -- what the map of addresses becomes
-address_same : (slots slots' : List (ℕ × Slot)) (n m : ℕ) (o : Option Slot) → PutsSlot slots slots' n o → n ≡ m → slot_of slots' m ≡ o
+pub address_same : (slots slots' : List (ℕ × Slot)) (n m : ℕ) (o : Option Slot) → PutsSlot slots slots' n o → n ≡ m → slot_of slots' m ≡ o
 address_same slots slots' n m o puts same = puts m ∙ ap (λ b. if b then o else slot_of slots m) (eq-eqb n m same)
 
-address_other : (slots slots' : List (ℕ × Slot)) (n m : ℕ) (o : Option Slot) → PutsSlot slots slots' n o → n ≢ m → slot_of slots' m ≡ slot_of slots m
+pub address_other : (slots slots' : List (ℕ × Slot)) (n m : ℕ) (o : Option Slot) → PutsSlot slots slots' n o → n ≢ m → slot_of slots' m ≡ slot_of slots m
 address_other slots slots' n m o puts other = puts m ∙ ap (λ b. if b then o else slot_of slots m) (ne_eqb n m other)
 
 -- values that agree are the same
@@ -70,7 +70,7 @@ value_in-same old new kind w field names =
     name_some None there = absurd (false≢true there)
     name_some (Some h) there = refl
 
-IsField-same : (old new : List Block) (kind w : ℕ) → ((x m : ℕ) → name_at old x ≡ Some m → name_at new x ≡ Some m) → IsField old kind w → IsField new kind w
+pub IsField-same : (old new : List Block) (kind w : ℕ) → ((x m : ℕ) → name_at old x ≡ Some m → name_at new x ≡ Some m) → IsField old kind w → IsField new kind w
 IsField-same old new kind w names field = record {
   known = field.known;
   null = field.null;
@@ -81,6 +81,31 @@ IsField-same old new kind w names field = record {
     still : (o : Option Header) → IsSome o → ((m : ℕ) → option_map (λ (h : Header). h.name) o ≡ Some m → name_at new w ≡ Some m) → IsSome (header_at new w)
     still None there f = absurd (false≢true there)
     still (Some h) there f = let t = named new w h.name (f h.name refl) in ap is_some t.1
+
+with_fields : Slot → Header → List Val → Entry
+with_fields t x fields = record { bunch = x.bunch; size = x.size; place = record { address = t.address; moves = moves_in x.state }; copy = if t.has_copy then Some fields else None }
+
+-- an entry whose words stay is the same
+pub with_fields-same : (old new : List Block) (t : Slot) (x : Header)
+    → ((i : ℕ) → i < x.size → word_at new (t.address + 4 + i) ≡ word_at old (t.address + 4 + i))
+    → ((i : ℕ) → i < x.size → IsField old (kind_of (kinds_in x.state) i) (word_at old (t.address + 4 + i)))
+    → ((y m : ℕ) → name_at old y ≡ Some m → name_at new y ≡ Some m) → entry_in new t x ≡ entry_in old t x
+unfolding with_fields
+with_fields-same old new t x words fields names =
+    ap (with_fields t x) (values_of-same (field_at new t.address x) (field_at old t.address x) x.size
+    (λ i lt. ap (value_in new (kind_of (kinds_in x.state) i)) (words i lt) ∙ value_in-same old new (kind_of (kinds_in x.state) i) (word_at old (t.address + 4 + i)) (fields i lt) names))
+
+pub entry_from : (sl : List (ℕ × Slot)) (blocks : List Block) (m : ℕ) (t : Slot) (x : Header) → slot_of sl m ≡ Some t → header_at blocks t.address ≡ Some x → entry_at sl blocks m ≡ Some (entry_in blocks t x)
+entry_from sl blocks m t x slot there =
+    ap (option_and_then (λ (y : Slot). option_map (entry_in blocks y) (header_at blocks y.address))) slot
+    ∙ ap (option_map (entry_in blocks t)) there
+
+pub entry_none : (sl : List (ℕ × Slot)) (blocks : List Block) (m : ℕ) → slot_of sl m ≡ None → entry_at sl blocks m ≡ None
+entry_none sl blocks m slot = ap (option_and_then (λ (y : Slot). option_map (entry_in blocks y) (header_at blocks y.address))) slot
+
+pub slot_cases : (o : Option Slot) → (o ≡ None) ⊎ ((t : Slot) × (o ≡ Some t))
+slot_cases None = inl refl
+slot_cases (Some t) = inr (t, refl)
 
 module _ (slots slots' : List (ℕ × Slot)) (old new : List Block) (n : ℕ) (s : Slot) (h : Header) (so : Stands slots' slots old new n s h) where
   -- the old place of the name had its live header
@@ -295,29 +320,9 @@ module _ (slots slots' : List (ℕ × Slot)) (old new : List Block) (n : ℕ) (s
         ]);
   }
 
-  same_fields : (a i : ℕ) (x : Header) → a ≢ s.address → (address_of slots n ≡ Some a → ⊥) → header_at old a ≡ Some x → is_live x.state ≡ true → i < x.size → field_at new a x i ≡ field_at old a x i
-  same_fields a i x off not had live lt =
-      ap (value_in new (kind_of (kinds_in x.state) i)) (so.words a i x off not had live lt)
-      ∙ value_in-same old new (kind_of (kinds_in x.state) i) (word_at old (a + 4 + i)) (so.was.fields a i x had live lt) names_kept
-
-  with_fields : Slot → Header → List Val → Entry
-  with_fields t x fields = record { bunch = x.bunch; size = x.size; place = record { address = t.address; moves = moves_in x.state }; copy = if t.has_copy then Some fields else None }
-
   same_entry : (t : Slot) (x : Header) → t.address ≢ s.address → (address_of slots n ≡ Some t.address → ⊥) → header_at old t.address ≡ Some x → is_live x.state ≡ true → entry_in new t x ≡ entry_in old t x
-  unfolding with_fields
-  same_entry t x off not had live = ap (with_fields t x) (values_of-same (field_at new t.address x) (field_at old t.address x) x.size (λ i lt. same_fields t.address i x off not had live lt))
-
-  entry_from : (sl : List (ℕ × Slot)) (blocks : List Block) (m : ℕ) (t : Slot) (x : Header) → slot_of sl m ≡ Some t → header_at blocks t.address ≡ Some x → entry_at sl blocks m ≡ Some (entry_in blocks t x)
-  entry_from sl blocks m t x slot there =
-      ap (option_and_then (λ (y : Slot). option_map (entry_in blocks y) (header_at blocks y.address))) slot
-      ∙ ap (option_map (entry_in blocks t)) there
-
-  entry_none : (sl : List (ℕ × Slot)) (blocks : List Block) (m : ℕ) → slot_of sl m ≡ None → entry_at sl blocks m ≡ None
-  entry_none sl blocks m slot = ap (option_and_then (λ (y : Slot). option_map (entry_in blocks y) (header_at blocks y.address))) slot
-
-  slot_cases : (o : Option Slot) → (o ≡ None) ⊎ ((t : Slot) × (o ≡ Some t))
-  slot_cases None = inl refl
-  slot_cases (Some t) = inr (t, refl)
+  same_entry t x off not had live =
+      with_fields-same old new t x (λ i lt. so.words t.address i x off not had live lt) (λ i lt. so.was.fields t.address i x had live lt) names_kept
 
   others_entry : (m : ℕ) → n ≢ m → entry_at slots' new m ≡ entry_at slots old m
   others_entry m other =

@@ -1,6 +1,7 @@
 -- An object in a segment: its kinds and its field words.
 use Rattle.std.specs.Prelude.{◌≡◌, ◌≢◌, ◌⊎◌, ℕ, ◌+◌, ◌<◌, ◌≤◌, ◌==◌, if◌then◌else◌, true, List, Option, Some, None, is_some}
 use Rattle.bmx_types.specs.Words.{home_of, segment_of, index_of}
+use Rattle.bmx_types.specs.declared.addresses.Info.{Info}
 use Rattle.bmx_types.specs.declared.addresses.Place.{Place}
 use Rattle.bmx_segment.specs.Headers.{kind_of}
 use Rattle.bmx_segment.specs.Blocks.{Block}
@@ -33,6 +34,10 @@ pub record HasFields (h : Header) (kinds words : ℕ) : Type 0 where
   pub few : h.size ≤ 32
   pub enough : h.size ≤ words
   pub known : (i : ℕ) → i < h.size → kind_of kinds i < 3
+
+-- the header of an object that is new here, with null fields
+abbrev pub blank_header : Info → Header
+blank_header i = record { bunch = i.bunch; size = i.size; name = i.name; state = Live i.place.moves 0 }
 
 -- from now on a live header stands at an address, up to kind bits of no field, with those words in its
 -- fields; no other header changes, and no word outside the object

@@ -100,6 +100,10 @@ KeepsMeaning old new = (w name : ℕ) → Means old.heap.blocks w name → Means
 abbrev pub KeepsReach : Holding → Holding → Type 0
 KeepsReach old new = (w name : ℕ) → Reaches old.heap.blocks w name → Reaches new.heap.blocks w name
 
+-- every word that reached the header of another name still does
+abbrev pub KeepsReachOfOthers : Holding → Holding → ℕ → Type 0
+KeepsReachOfOthers old new name = (w other : ℕ) → other ≢ name → Reaches old.heap.blocks w other → Reaches new.heap.blocks w other
+
 -- the values of a name's copy
 abbrev pub copy_of : Holding → ℕ → Option (List Val)
 copy_of r name = option_and_then (λ (e : Entry). e.copy) (entry_of r name)

@@ -1,12 +1,13 @@
-ghost use Rattle.std.specs.Prelude.{◌≡◌, ◌≢◌, ℕ, ◌+◌, ◌<◌, ◌≤◌, ◌↔◌, [], Some, IsTrue, IsOk, IsSome, IsSomeAnd, IfSome, IfNone, OnOk, OnErr};
+ghost use Rattle.std.specs.Prelude.{◌≡◌, ◌≢◌, ℕ, ◌+◌, ◌<◌, ◌≤◌, ◌↔◌, [], Some, None, IsTrue, IsOk, IsErrOf, IsSome, IsSomeAnd, IfSome, IfNone, OnOk, OnErr};
 ghost use Rattle.std.specs.Option.{option_map};
 ghost use Rattle.bmx_segment.specs.Headers.{kind_number, kind_of};
 ghost use Rattle.bmx_segment.specs.Stores.{Writes};
-ghost use Rattle.bmx_segment.specs.Heaps.{CanSet};
-ghost use Rattle.bmx_replica.specs.Layouts.{Moves, kinds_in};
+ghost use Rattle.bmx_segment.specs.Heaps.{CanSet, made_of, room_of};
+ghost use Rattle.bmx_replica.specs.Layouts.{Lays, Moves, kinds_in, blank_header};
+ghost use Rattle.bmx_segment.specs.declared.segments.PlaceError.TheVariants.{Full};
 ghost use Rattle.bmx_replica.specs.Slots.{slot_of, address_of, PutsSlot};
 ghost use Rattle.bmx_replica.specs.Chains.{Means, name_at};
-ghost use Rattle.bmx_replica.specs.Replicas.{entry_of, info_in, copy_of, field_of, value_in, word_in, with_value, without_copy, at_place, CanMove, HasTarget, IsField, IsFound, IsReplica, Puts, KeepsMeaning, KeepsReach};
+ghost use Rattle.bmx_replica.specs.Replicas.{entry_of, info_in, copy_of, field_of, value_in, word_in, with_value, without_copy, at_place, CanMove, MakesObject, KeepsReachOfOthers, HasTarget, IsField, IsFound, IsReplica, Puts, KeepsMeaning, KeepsReach};
 
 use crate::directory::{Directory, Slot};
 use crate::layout::{NO_WORDS, field_words, kind_in, lay, write_fields};
@@ -229,6 +230,50 @@ impl Replica {
         self.directory.set(name, Slot { address, has_copy });
     }
 
+    /// Makes an object of a bunch under a new name, with null fields, where the segments find a place. It
+    /// is full where they are.
+    pub fn make(&mut self, name: Name, bunch: BunchNo, size: u8) -> Result<(), PlaceError>
+        requires absent { entry_of self.old name ≡ None }
+        requires few { size ≤ 32 }
+        ensures made { OnOk result (MakesObject self.old self.new name bunch size) }
+        ensures full { IsErrOf result Full → (self.old.heap.limit ≤ made_of self.old.heap) × (room_of self.old.heap bunch < 4 + size) }
+        ensures room { OnOk result (¬ ((self.old.heap.limit ≤ made_of self.old.heap) × (room_of self.old.heap bunch < 4 + size))) }
+        ensures err { OnErr result (self.new.heap ≡ self.old.heap) }
+        ensures err_slots { OnErr result (self.new.slots ≡ self.old.slots) }
+        ensures meaning { KeepsMeaning self.old self.new }
+        ensures reach { KeepsReach self.old self.new }
+    {
+        self.directory.reserve(1)?;
+        let address = self.segments.place(bunch, size)?;
+        let place = Place { address, moves: 0 };
+        let info = Info {
+            name,
+            bunch,
+            size,
+            place,
+        };
+        let Ok(()) = add_object(&mut self.directory, &mut self.segments, &info, true) else {
+            unreachable!()
+        };
+        Ok(())
+    }
+
+    /// Takes the entry of a name away; its header is dead. Where it has no entry nothing changes. A word
+    /// that leads to the object still means the name.
+    pub fn forget(&mut self, name: Name)
+        ensures entry { Puts self.old self.new name None }
+        ensures heap { self.new.heap ≡ record self.old.heap { blocks = self.new.heap.blocks } }
+        ensures spare { self.old.spare ≤ self.new.spare }
+        ensures meaning { KeepsMeaning self.old self.new }
+        ensures reach { KeepsReachOfOthers self.old self.new name }
+    {
+        let Some(found) = self.find(name) else {
+            return;
+        };
+        self.segments.kill(found.slot.address);
+        self.directory.remove(name);
+    }
+
     /// Moves the object of a name, with its copy, to words that were handed out for it: its moves rise by
     /// 1, and the old header forwards.
     pub fn relocate(&mut self, name: Name, to: Address)
@@ -286,5 +331,39 @@ fn re_place(
     segments.forward(slot.address, to.address);
     let address = to.address;
     directory.set(header.name, Slot { address, ..slot });
+    Ok(())
+}
+
+/// Adds an object with null fields under a name. It clashes exactly where its header can't be set, and
+/// nothing changes then.
+fn add_object(
+    directory: &mut Directory,
+    segments: &mut Segments,
+    info: &Info,
+    has_copy: bool,
+) -> Result<(), Clash>
+    requires few { info.now.size ≤ 32 }
+    requires room { 0 < directory.old.spare }
+    ensures ok { IsOk result ↔ CanSet segments.old info.now.place.address info.now.name info.now.size }
+    ensures laid { OnOk result (Lays segments.old.blocks segments.new.blocks info.now.place.address (blank_header info.now) (λ i. 0)) }
+    ensures rest { segments.new ≡ record segments.old { blocks = segments.new.blocks } }
+    ensures slots { OnOk result (PutsSlot directory.old.slots directory.new.slots info.now.name (Some (record { address = info.now.place.address; has_copy = has_copy }))) }
+    ensures spare { directory.old.spare ≤ directory.new.spare + 1 }
+    ensures err { OnErr result (segments.new ≡ segments.old) }
+    ensures err_slots { OnErr result (directory.new ≡ directory.old) }
+{
+    let state = State::Live {
+        moves: info.place.moves,
+        kinds: 0,
+    };
+    let header = Header {
+        bunch: info.bunch,
+        size: info.size,
+        name: info.name,
+        state,
+    };
+    let address = info.place.address;
+    lay(segments, address, &header, &NO_WORDS)?;
+    directory.add(info.name, Slot { address, has_copy });
     Ok(())
 }

@@ -1,0 +1,71 @@
+use Rattle.std.proofs.Common.{◌≡◌, ◌≢◌, ℕ, ◌+◌, ◌<◌, true, false, List, Some, IsSome, IsSomeAnd, get_or, replicate, sym, ap, ◌∙◌, refl, subst, arith}
+use Rattle.std.specs.Option.{option_map}
+use Rattle.std.proofs.lemmas.Option.{same_Some}
+use Rattle.bmx_types.specs.declared.addresses.Place.{Place}
+use Rattle.bmx_segment.specs.Headers.{kind_of}
+use Rattle.bmx_segment.specs.Blocks.{Block}
+use Rattle.bmx_segment.specs.Stores.{header_at, word_at, Sets}
+use Rattle.bmx_segment.specs.Heaps.{Heap, CanSet}
+use Rattle.bmx_segment.specs.declared.headers.Header.{Header}
+use Rattle.bmx_segment.specs.declared.headers.State.TheVariants.{Live, Forwarded, Dead}
+use Rattle.bmx_replica.specs.declared.directory.Slot.{Slot}
+use Rattle.bmx_replica.specs.Slots.{address_of, PutsSlot}
+use Rattle.bmx_replica.specs.Layouts.{kinds_in, moves_in, with_kinds, Lays, Moves}
+use Rattle.bmx_replica.specs.Replicas.{Holding, Entry, IsFound, IsField, IsReplica, entry_of, entry_in, at_place, CanMove, without_copy}
+use Rattle.bmx_replica.specs.contracts.replica.Replica.{the_view}
+use Rattle.bmx_replica.proofs.Standing.{Stands, IsReplica-stands, Means-stands, Reaches-stands, Puts-stands}
+use Rattle.bmx_replica.proofs.Fielded.{entry_at-found}
+use Rattle.bmx_replica.proofs.Forgetting.{IsReplica-forgotten, Means-forgotten, Reaches-forgotten, Puts-forgotten}
+use Rattle.bmx_replica.proofs.replica.Replica.forget.Goals as goal
+
+pub invariant_of-self : goal.invariant_of-self
+invariant_of-self c =
+    let r : Holding = the_view c.self.inside in
+    let s : Slot = c.in-Some.found.slot in
+    let h : Header = c.in-Some.found.header in
+    let new : List Block = c.kill.new.self.blocks in
+    let slots' = c.remove.new.self.slots in
+    let F : Holding → Type 0 = λ x. IsFound x.slots x.heap.blocks c.args.name s h in
+    let f : F r = subst F (sym c.self.view_is) c.in-Some.ensures.found in
+    let S : Type 0 = Sets r.heap.blocks new s.address (record h { state = Dead }) in
+    let sets : S = rw f.there at c.kill.ensures.set in
+    (c.self.invariant.0 ∙ sym (ap (λ (x : Heap). x.me) c.kill.ensures.rest), IsReplica-forgotten r.slots slots' r.heap.blocks new c.args.name s h c.self.invariant.1 f c.remove.ensures.slots sets)
+
+pub returns-clause-entry : goal.returns-clause-entry
+returns-clause-entry c =
+    let r : Holding = the_view c.self.inside in
+    let s : Slot = c.in-Some.found.slot in
+    let h : Header = c.in-Some.found.header in
+    let new : List Block = c.kill.new.self.blocks in
+    let slots' = c.remove.new.self.slots in
+    let F : Holding → Type 0 = λ x. IsFound x.slots x.heap.blocks c.args.name s h in
+    let f : F r = subst F (sym c.self.view_is) c.in-Some.ensures.found in
+    let S : Type 0 = Sets r.heap.blocks new s.address (record h { state = Dead }) in
+    let sets : S = rw f.there at c.kill.ensures.set in
+    rw (← c.self.view_is) (Puts-forgotten r.slots slots' r.heap.blocks new c.args.name s h c.self.invariant.1 f c.remove.ensures.slots sets)
+
+pub returns-clause-meaning : goal.returns-clause-meaning
+returns-clause-meaning c =
+    let r : Holding = the_view c.self.inside in
+    let s : Slot = c.in-Some.found.slot in
+    let h : Header = c.in-Some.found.header in
+    let new : List Block = c.kill.new.self.blocks in
+    let slots' = c.remove.new.self.slots in
+    let F : Holding → Type 0 = λ x. IsFound x.slots x.heap.blocks c.args.name s h in
+    let f : F r = subst F (sym c.self.view_is) c.in-Some.ensures.found in
+    let S : Type 0 = Sets r.heap.blocks new s.address (record h { state = Dead }) in
+    let sets : S = rw f.there at c.kill.ensures.set in
+    rw (← c.self.view_is) (Means-forgotten r.slots slots' r.heap.blocks new c.args.name s h c.self.invariant.1 f c.remove.ensures.slots sets)
+
+pub returns-clause-reach : goal.returns-clause-reach
+returns-clause-reach c =
+    let r : Holding = the_view c.self.inside in
+    let s : Slot = c.in-Some.found.slot in
+    let h : Header = c.in-Some.found.header in
+    let new : List Block = c.kill.new.self.blocks in
+    let slots' = c.remove.new.self.slots in
+    let F : Holding → Type 0 = λ x. IsFound x.slots x.heap.blocks c.args.name s h in
+    let f : F r = subst F (sym c.self.view_is) c.in-Some.ensures.found in
+    let S : Type 0 = Sets r.heap.blocks new s.address (record h { state = Dead }) in
+    let sets : S = rw f.there at c.kill.ensures.set in
+    rw (← c.self.view_is) (Reaches-forgotten r.slots slots' r.heap.blocks new c.args.name s h c.self.invariant.1 f c.remove.ensures.slots sets)
