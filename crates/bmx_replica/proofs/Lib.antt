@@ -6,3 +6,4 @@ pub mod Fielded
 pub mod Changing
 pub mod Forgetting
 pub mod Making
+pub mod Lying

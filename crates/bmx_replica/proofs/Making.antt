@@ -13,12 +13,13 @@ use Rattle.bmx_segment.specs.Blocks.{Block}
 use Rattle.bmx_segment.specs.Heaps.{Heap, CanSet, PlacesIn, PlacesInNew, room_of, current_of}
 use Rattle.bmx_segment.specs.Stores.{header_at, word_at}
 use Rattle.bmx_segment.specs.declared.headers.Header.{Header}
+use Rattle.bmx_segment.specs.declared.headers.State.TheVariants.{Live}
 use Rattle.bmx_replica.specs.Slots.{slot_of, address_of, PutsSlot}
 use Rattle.bmx_replica.specs.Chains.{is_live}
-use Rattle.bmx_replica.specs.Layouts.{Lays, kinds_in, with_kinds, blank_header}
+use Rattle.bmx_replica.specs.Layouts.{Lays, Moves, kinds_in, with_kinds, blank_header}
 use Rattle.bmx_replica.specs.Replicas.{IsReplica, Entry, entry_in, entry_at, field_at, values_of, value_in, blank_entry, HandsOut}
 use Rattle.bmx_replica.specs.declared.directory.Slot.{Slot}
-use Rattle.bmx_replica.proofs.Laid.{kind_of-none}
+use Rattle.bmx_replica.proofs.Laid.{kind_of-none, Lays-words}
 use Rattle.bmx_replica.proofs.Chained.{alive}
 use Rattle.bmx_replica.proofs.Standing.{Stands, slot_cases, entry_from}
 use Rattle.bmx_replica.proofs.Changing.{Stands-laid, IsField-null}
@@ -73,6 +74,15 @@ Lays-after old mid new a h f headers words lays = record {
   headers = λ x off. lays.headers x off ∙ headers x;
   others = λ x away. lays.others x away ∙ words x;
   apart = lays.apart;
+}
+
+-- an object that moves after nothing changed
+pub Moves-after : (old mid new : List Block) (a : ℕ) (to : Place) (h : Header) → ((x : ℕ) → header_at mid x ≡ header_at old x) → ((x : ℕ) → word_at mid x ≡ word_at old x) → Moves mid new a to h → Moves old new a to h
+Moves-after old mid new a to h headers words moves = record {
+  mid = moves.mid;
+  lays = Lays-words old moves.mid to.address (record h { state = Live to.moves (kinds_in h.state) }) (λ i. word_at mid (a + 4 + i)) (λ i. word_at old (a + 4 + i)) (λ i small. words (a + 4 + i))
+  (Lays-after old mid moves.mid to.address (record h { state = Live to.moves (kinds_in h.state) }) (λ i. word_at mid (a + 4 + i)) headers words moves.lays);
+  forwards = moves.forwards;
 }
 
 values_of-null : (f : ℕ → Val) (n : ℕ) → ((i : ℕ) → i < n → f i ≡ val.Null) → values_of f n ≡ replicate n val.Null

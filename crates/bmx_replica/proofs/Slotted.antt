@@ -2,7 +2,8 @@
 use Rattle.std.proofs.Common.{◌≡◌, ℕ, ◌+◌, ◌*◌, ◌^◌, ◌<◌, Bool, true, false, ◌&&◌, cond, eqb, List, [], ◌∷◌, Option, Some, None, IsSome, refl, subst, sym, ap, ◌∙◌, ⊎_elim, arith}
 use Rattle.std.proofs.lemmas.Bool.{cases_eq, eqb-true, eq-eqb, ne_eqb, and_from, and_parts, false_from_ne_true}
 use Rattle.std.specs.Map.{lookup}
-use Rattle.bmx_types.specs.Words.{maker, count_of}
+use Rattle.std.specs.Prelude.{not}
+use Rattle.bmx_types.specs.Words.{maker, count_of, home_of, segment_of, index_of}
 use Rattle.bmx_replica.specs.Slots.{slot_of, PutsSlot}
 use Rattle.bmx_replica.specs.declared.directory.Slot.{Slot}
 
@@ -30,3 +31,17 @@ PutsSlot-from old new k w h = λ q.
     sym (slot_of-lookup new q) ∙ h q
     ∙ ap (λ b. cond b w (lookup (same_name q) old)) (same_name-is k q)
     ∙ ap (λ (o : Option Slot). cond (eqb k q) w o) (slot_of-lookup old q)
+
+-- an address is the same as itself, as its parts are compared
+pub same_address : (x y : ℕ) → x ≡ y → (eqb (home_of x) (home_of y) && (eqb (segment_of x) (segment_of y) && eqb (index_of x) (index_of y))) ≡ true
+same_address x y e =
+    and_from _ _ (eq-eqb (home_of x) (home_of y) (ap home_of e))
+    (and_from _ _ (eq-eqb (segment_of x) (segment_of y) (ap segment_of e)) (eq-eqb (index_of x) (index_of y) (ap index_of e)))
+
+-- numbers that aren't unequal are equal
+pub equal_from : (x y : ℕ) → not (eqb x y) ≡ false → x ≡ y
+equal_from x y e = eqb-true x y (by (eqb x y) e)
+  where
+    by : (b : Bool) → not b ≡ false → b ≡ true
+    by true e = refl
+    by false e = sym e

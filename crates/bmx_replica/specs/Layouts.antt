@@ -6,7 +6,7 @@ use Rattle.bmx_types.specs.declared.addresses.Place.{Place}
 use Rattle.bmx_segment.specs.Headers.{kind_of}
 use Rattle.bmx_segment.specs.Blocks.{Block}
 use Rattle.bmx_segment.specs.Stores.{header_at, word_at, block_at, key_at, AreApart, Sets}
-use Rattle.bmx_segment.specs.Heaps.{Heap, handed_of}
+use Rattle.bmx_segment.specs.Heaps.{Heap, handed_of, CanSet}
 use Rattle.bmx_segment.specs.declared.headers.Header.{Header}
 use Rattle.bmx_replica.specs.Chains.{is_live}
 use Rattle.bmx_segment.specs.declared.headers.State.{State}
@@ -62,6 +62,17 @@ pub record Moves (old new : List Block) (a : ℕ) (to : Place) (h : Header) : Ty
 -- name and size, and in an own segment its words were handed out
 pub record CanLie (h : Heap) (a name size : ℕ) : Type 0 where
   pub inside : index_of a + 4 + size ≤ 1024
-  pub alone : (x : ℕ) (o : Header) → key_at x ≡ key_at a → header_at h.blocks x ≡ Some o → x ≢ a → (x + 4 + o.size ≤ a) ⊎ (a + 4 + size ≤ x)
+  pub alone : (x : ℕ) (o : Header) → key_at x ≡ key_at a → index_of x < 1024 → header_at h.blocks x ≡ Some o → x ≢ a → (x + 4 + o.size ≤ a) ⊎ (a + 4 + size ≤ x)
   pub same : (o : Header) → header_at h.blocks a ≡ Some o → (o.name ≡ name) × (o.size ≡ size)
   pub handed : home_of a ≡ h.me → index_of a + 4 + size ≤ handed_of h (segment_of a)
+
+-- the segment of an address is mapped, or nothing changed: no header and no word changes; and a header
+-- of that name and size can be set where it could lie
+pub record Readies (old new : Heap) (a name size : ℕ) : Type 0 where
+  pub headers : (x : ℕ) → header_at new.blocks x ≡ header_at old.blocks x
+  pub words : (x : ℕ) → word_at new.blocks x ≡ word_at old.blocks x
+  pub rest : new ≡ record old { blocks = new.blocks; spare = new.spare }
+  pub spare : old.spare ≤ new.spare + 1
+  pub lies : CanSet new a name size → CanLie old a name size
+  pub can : CanLie old a name size → CanSet new a name size
+  pub stays : (CanSet new a name size → ⊥) → new ≡ old

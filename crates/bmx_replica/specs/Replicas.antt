@@ -1,5 +1,5 @@
 -- A replica: what a node has under each name.
-use Rattle.std.specs.Prelude.{◌≡◌, ◌≢◌, ℕ, ◌+◌, ◌<◌, ◌≤◌, ◌==◌, ◌↔◌, Bool, true, false, if◌then◌else◌, List, [], ◌∷◌, Option, Some, None, IsSome, IsSomeAnd, unwrap_or, slice_get, slice_set, replicate, ◌^◌}
+use Rattle.std.specs.Prelude.{◌≡◌, ◌≢◌, ℕ, ◌+◌, ◌<◌, ◌≤◌, ◌==◌, ◌↔◌, Bool, true, false, if◌then◌else◌, List, [], ◌∷◌, Option, Some, None, IsSome, IsSomeAnd, unwrap_or, slice_get, slice_set, replicate, ◌^◌, nat_lt}
 use Rattle.std.proofs.Common.{zero, suc}
 use Rattle.std.specs.Option.{option_map, option_and_then}
 use Rattle.std.specs.Int.{w64, cast_signed, cast_unsigned}
@@ -167,3 +167,30 @@ pub record MakesObject (old new : Holding) (name bunch size : ℕ) : Type 0 wher
 pub record CanMove (h : Heap) (to : ℕ) (e : Entry) : Type 0 where
   pub free : (name : ℕ) → CanSet h to name e.size
   pub few : e.place.moves < 2 ^ 63
+
+-- the entry of a name after its Info is learned: a new one has no copy, of a larger moves the place is
+-- taken
+abbrev pub learned : Info → Option Entry → Entry
+learned i None = record { bunch = i.bunch; size = i.size; place = i.place; copy = None }
+learned i (Some e) = if nat_lt e.place.moves i.place.moves then at_place i.place e else e
+
+-- an Info can be learned beside an entry: of its bunch and size, and where its moves are larger, at
+-- another address where the object can lie
+abbrev pub Accepts : Heap → Info → Option Entry → Type 0
+Accepts h i None = CanLie h i.place.address i.name i.size
+Accepts h i (Some e) = (e.bunch ≡ i.bunch) × (e.size ≡ i.size) × (e.place.moves < i.place.moves → (e.place.address ≢ i.place.address) × CanLie h i.place.address i.name i.size)
+
+-- an Info is learned
+pub record Learns (old new : Holding) (i : Info) : Type 0 where
+  pub accepted : Accepts old.heap i (entry_of old i.name)
+  pub entry : Puts old new i.name (Some (learned i (entry_of old i.name)))
+  pub heap : new.heap ≡ record old.heap { blocks = new.heap.blocks; spare = new.heap.spare }
+  pub spare : old.spare ≤ new.spare + 1
+  pub meaning : KeepsMeaning old new
+  pub reach : KeepsReach old new
+
+-- nothing changed but room
+pub record Same (old new : Holding) : Type 0 where
+  pub slots : new.slots ≡ old.slots
+  pub heap : new.heap ≡ old.heap
+  pub spare : old.spare ≤ new.spare

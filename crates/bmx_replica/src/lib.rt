@@ -6,5 +6,5 @@ mod layout;
 mod replica;
 mod words;
 
-pub use replica::Replica;
-pub use words::Word;
+pub use replica::{LearnError, Replica};
+pub use words::{Word, Words};

@@ -1,13 +1,15 @@
 ghost use Rattle.std.specs.Prelude.{◌≡◌, ◌≢◌, ℕ, ◌+◌, ◌<◌, ◌≤◌, ◌↔◌, [], Some, None, IsTrue, IsOk, IsErrOf, IsSome, IsSomeAnd, IfSome, IfNone, OnOk, OnErr};
 ghost use Rattle.std.specs.Option.{option_map};
+ghost use Rattle.bmx_types.specs.Words.{home_of, segment_of, index_of};
+ghost use Rattle.bmx_replica.specs.declared.replica.LearnError.TheVariants.{NoMemory as out_of_memory, Clash as no_fit};
 ghost use Rattle.bmx_segment.specs.Headers.{kind_number, kind_of};
 ghost use Rattle.bmx_segment.specs.Stores.{Writes};
-ghost use Rattle.bmx_segment.specs.Heaps.{CanSet, made_of, room_of};
-ghost use Rattle.bmx_replica.specs.Layouts.{Lays, Moves, kinds_in, blank_header};
+ghost use Rattle.bmx_segment.specs.Heaps.{CanSet, made_of, room_of, handed_of};
+ghost use Rattle.bmx_replica.specs.Layouts.{Lays, Moves, Readies, CanLie, kinds_in, blank_header};
 ghost use Rattle.bmx_segment.specs.declared.segments.PlaceError.TheVariants.{Full};
 ghost use Rattle.bmx_replica.specs.Slots.{slot_of, address_of, PutsSlot};
 ghost use Rattle.bmx_replica.specs.Chains.{Means, name_at};
-ghost use Rattle.bmx_replica.specs.Replicas.{entry_of, info_in, copy_of, field_of, value_in, word_in, with_value, without_copy, at_place, CanMove, MakesObject, KeepsReachOfOthers, HasTarget, IsField, IsFound, IsReplica, Puts, KeepsMeaning, KeepsReach};
+ghost use Rattle.bmx_replica.specs.Replicas.{entry_of, info_in, copy_of, field_of, value_in, word_in, with_value, without_copy, at_place, CanMove, MakesObject, Learns, Accepts, Same, KeepsReachOfOthers, HasTarget, IsField, IsFound, IsReplica, Puts, KeepsMeaning, KeepsReach};
 
 use crate::directory::{Directory, Slot};
 use crate::layout::{NO_WORDS, field_words, kind_in, lay, write_fields};
@@ -16,6 +18,39 @@ use bmx_segment::{Clash, Header, Kind, PlaceError, Segments, State};
 use bmx_types::{Address, BunchNo, Info, Name, NoMemory, NodeNo, Place, Val};
 use std::alloc::Global;
 use std::marker::Model;
+
+/// How many words a segment has.
+const SEGMENT_WORDS: u32 = 1024;
+
+/// Why a place isn't learned.
+#[derive(Clone, Copy, Debug, PartialEq, Eq)]
+pub enum LearnError {
+    NoMemory,
+    /// It doesn't fit what the node has.
+    Clash,
+}
+
+impl From<NoMemory> for LearnError {
+    ghost use Rattle.std.specs.Prelude.{◌≡◌};
+    ghost use Rattle.bmx_replica.specs.declared.replica.LearnError.TheVariants.{NoMemory as out_of_memory};
+
+    ghost from_gives = { λ _ e. e ≡ out_of_memory };
+
+    fn from(_error: NoMemory) -> LearnError {
+        LearnError::NoMemory
+    }
+}
+
+impl From<Clash> for LearnError {
+    ghost use Rattle.std.specs.Prelude.{◌≡◌};
+    ghost use Rattle.bmx_replica.specs.declared.replica.LearnError.TheVariants.{Clash as no_fit};
+
+    ghost from_gives = { λ _ e. e ≡ no_fit };
+
+    fn from(_error: Clash) -> LearnError {
+        LearnError::Clash
+    }
+}
 
 /// What a node has of objects: under each name where the object lies, and in the segments there its
 /// header and, where it has a copy, its fields. Contracts see an entry for each name, and the heap.
@@ -258,6 +293,78 @@ impl Replica {
         Ok(())
     }
 
+    /// Learns where an object lies: a name not there gets an entry without a copy; of a larger moves the
+    /// entry and its copy are moved and the old header forwards; else nothing changes. It clashes exactly
+    /// where the bunch or the size differs from the entry's, a larger moves comes with the entry's own
+    /// address, or the object can't lie there; then nothing changes, as where memory is wanting. It takes
+    /// none while `spare` is at least 1.
+    pub fn learn(&mut self, info: &Info) -> Result<(), LearnError>
+        requires { info.now.size ≤ 32 }
+        ensures ok { OnOk result (Learns self.old self.new info.now) }
+        ensures clash { IsErrOf result no_fit → ¬ Accepts self.old.heap info.now (entry_of self.old info.now.name) }
+        ensures err { OnErr result (Same self.old self.new) }
+        ensures free { 0 < self.old.spare → ¬ IsErrOf result out_of_memory }
+    {
+        match self.find(info.name) {
+            Some(found) => self.learn_again(info, &found),
+            None => self.learn_new(info),
+        }
+    }
+
+    /// Learns where an object of a new name lies.
+    fn learn_new(&mut self, info: &Info) -> Result<(), LearnError>
+        requires few { info.now.size ≤ 32 }
+        requires none { slot_of self.old.slots info.now.name ≡ None }
+        ensures ok { OnOk result (Learns self.old self.new info.now) }
+        ensures clash { IsErrOf result no_fit → ¬ Accepts self.old.heap info.now (entry_of self.old info.now.name) }
+        ensures err { OnErr result (Same self.old self.new) }
+        ensures free { 0 < self.old.spare → ¬ IsErrOf result out_of_memory }
+    {
+        self.directory.reserve(1)?;
+        map_for(&mut self.segments, self.me, info)?;
+        add_object(&mut self.directory, &mut self.segments, info, false)?;
+        Ok(())
+    }
+
+    /// Learns where an object of a name with an entry lies.
+    fn learn_again(&mut self, info: &Info, found: &Found) -> Result<(), LearnError>
+        requires few { info.now.size ≤ 32 }
+        requires found { IsFound self.old.slots self.old.heap.blocks info.now.name found.now.slot found.now.header }
+        ensures ok { OnOk result (Learns self.old self.new info.now) }
+        ensures clash { IsErrOf result no_fit → ¬ Accepts self.old.heap info.now (entry_of self.old info.now.name) }
+        ensures err { OnErr result (Same self.old self.new) }
+        ensures free { 0 < self.old.spare → ¬ IsErrOf result out_of_memory }
+    {
+        let Found { slot, header } = *found;
+        let State::Live { moves, .. } = header.state else {
+            unreachable!()
+        };
+        if header.bunch != info.bunch || header.size != info.size {
+            return Err(LearnError::Clash);
+        }
+        if info.place.moves <= moves {
+            return Ok(());
+        }
+        if info.place.address == slot.address {
+            return Err(LearnError::Clash);
+        }
+        map_for(&mut self.segments, self.me, info)?;
+        re_place(&mut self.directory, &mut self.segments, found, info.place)?;
+        Ok(())
+    }
+
+    /// Makes `spare` at least n: so many names can then be learned without memory.
+    pub fn reserve(&mut self, n: u32) -> Result<(), NoMemory>
+        ensures slots { self.new.slots ≡ self.old.slots }
+        ensures heap { self.new.heap ≡ record self.old.heap { spare = self.new.heap.spare } }
+        ensures ok { OnOk result (n ≤ self.new.spare) }
+        ensures spare { self.old.spare ≤ self.new.spare }
+        ensures free { n ≤ self.old.spare → IsOk result }
+    {
+        self.directory.reserve(n as usize)?;
+        self.segments.reserve(n)
+    }
+
     /// Takes the entry of a name away; its header is dead. Where it has no entry nothing changes. A word
     /// that leads to the object still means the name.
     pub fn forget(&mut self, name: Name)
@@ -365,5 +472,44 @@ fn add_object(
     let address = info.place.address;
     lay(segments, address, &header, &NO_WORDS)?;
     directory.add(info.name, Slot { address, has_copy });
+    Ok(())
+}
+
+/// Whether an object of so many fields stays within the segment of an address, and its words were handed
+/// out where the segment is the node's own.
+fn is_handed(segments: &Segments, me: NodeNo, address: Address, size: u8) -> bool
+    requires few { size ≤ 32 }
+    requires me { me ≡ segments.now.me }
+    ensures { IsTrue result ↔ ((index_of address + 4 + size ≤ 1024) × (home_of address ≡ segments.now.me → index_of address + 4 + size ≤ handed_of segments.now (segment_of address))) }
+{
+    let end = address.index() + 4 + size as u32;
+    if end > SEGMENT_WORDS {
+        return false;
+    }
+    if address.home() != me {
+        return true;
+    }
+    let number = address.segment();
+    number <= segments.made() && end <= SEGMENT_WORDS - segments.left(number)
+}
+
+/// Maps the segment in which an object is to lie. It clashes where the object can't lie there since the
+/// segment isn't mapped and no such words were handed out in it.
+fn map_for(segments: &mut Segments, me: NodeNo, info: &Info) -> Result<(), LearnError>
+    requires few { info.now.size ≤ 32 }
+    requires me { me ≡ segments.old.me }
+    ensures ok { OnOk result (Readies segments.old segments.new info.now.place.address info.now.name info.now.size) }
+    ensures clash { IsErrOf result no_fit → ¬ CanLie segments.old info.now.place.address info.now.name info.now.size }
+    ensures err { OnErr result (segments.new ≡ segments.old) }
+    ensures free { 0 < segments.old.spare → ¬ IsErrOf result out_of_memory }
+{
+    let address = info.place.address;
+    if segments.is_mapped(address.home(), address.segment()) {
+        return Ok(());
+    }
+    if !is_handed(segments, me, address, info.size) {
+        return Err(LearnError::Clash);
+    }
+    segments.map(address)?;
     Ok(())
 }
