@@ -3,7 +3,7 @@ use Rattle.std.proofs.Common.{◌≡◌, ◌≢◌, ◌⊎◌, ℕ, ◌+◌, ◌
 use Rattle.std.specs.Prelude.{if◌then◌else◌}
 use Rattle.std.specs.Option.{option_map, option_and_then}
 use Rattle.std.proofs.lemmas.Bool.{cases_eq, cases_lt, cases_Bool, false≢true}
-use Rattle.std.proofs.lemmas.Option.{slice_get_past}
+use Rattle.std.proofs.lemmas.Option.{slice_get_past, none-some, same_Some, option_and_then_some}
 use Rattle.bmx_types.specs.declared.values.Val.{Val}
 use Rattle.bmx_segment.specs.Blocks.{Block}
 use Rattle.bmx_segment.specs.Stores.{header_at}
@@ -69,3 +69,31 @@ module _ (r : Holding) (name : ℕ) (s : Slot) (h : Header) (found : IsFound r.s
   field_of-found i copy lt =
       ap (option_and_then (λ (l : List Val). slice_get l i)) (copy_of-found ∙ ap (λ b. if b then Some (values_of (field_at r.heap.blocks s.address h) h.size) else None) copy)
       ∙ slice_get-values_of (field_at r.heap.blocks s.address h) h.size i lt
+
+  -- a field that there isn't
+  pub field_of-none : (i : ℕ) → s.has_copy ≡ false → field_of r name i ≡ None
+  field_of-none i none = ap (option_and_then (λ (l : List Val). slice_get l i)) (copy_of-found ∙ ap (λ b. if b then Some (values_of (field_at r.heap.blocks s.address h) h.size) else None) none)
+
+  pub field_of-past : (i : ℕ) → h.size ≤ i → field_of r name i ≡ None
+  field_of-past i past =
+      ap (option_and_then (λ (l : List Val). slice_get l i)) copy_of-found ∙ by s.has_copy
+    where
+      by : (b : Bool) → option_and_then (λ (l : List Val). slice_get l i) (if b then Some (values_of (field_at r.heap.blocks s.address h) h.size) else None) ≡ None
+      by false = refl
+      by true = let size = length-values_of (field_at r.heap.blocks s.address h) h.size in slice_get_past (values_of (field_at r.heap.blocks s.address h) h.size) i (omega arith)
+
+-- a copy has as many fields as the object
+pub length-copy : (r : Holding) (name : ℕ) (e : Entry) (fields : List Val) → entry_of r name ≡ Some e → e.copy ≡ Some fields → length fields ≡ e.size
+length-copy r name e fields entry copy =
+    option_and_then_some (λ (s : Slot). option_map (entry_in r.heap.blocks s) (header_at r.heap.blocks s.address)) (slot_of r.slots name) e entry
+    (λ s slot there. by s (header_at r.heap.blocks s.address) there)
+  where
+    has : (b : Bool) (xs : List Val) → cond b (Some xs) None ≡ Some fields → xs ≡ fields
+    has true xs is = same_Some xs fields is
+    has false xs is = absurd (none-some fields is)
+    by : (s : Slot) (o : Option Header) → option_map (entry_in r.heap.blocks s) o ≡ Some e → length fields ≡ e.size
+    by s None is = absurd (none-some e is)
+    by s (Some h) is =
+        let same : entry_in r.heap.blocks s h ≡ e = same_Some (entry_in r.heap.blocks s h) e is in
+        let all = has s.has_copy (values_of (field_at r.heap.blocks s.address h) h.size) (ap (λ (x : Entry). x.copy) same ∙ copy) in
+        ap length (sym all) ∙ length-values_of (field_at r.heap.blocks s.address h) h.size ∙ ap (λ (x : Entry). x.size) same

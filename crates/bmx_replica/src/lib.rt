@@ -1,4 +1,9 @@
-//! A node's replica.
+//! A node's replica: what it has of objects under their names, over words.
+//!
+//! An object lies in a segment, a header in front of its fields. When it moves, its old header forwards to
+//! the new one, so every address that it ever had here still means its name. A name is found in expected
+//! constant time, and an address's meaning at one header, since each header of a chain has the name of the
+//! last.
 #![tactic(auto)]
 
 mod directory;
@@ -8,3 +13,6 @@ mod words;
 
 pub use replica::{LearnError, Replica};
 pub use words::{Word, Words};
+
+#[cfg(test)]
+mod tests;

@@ -1,4 +1,4 @@
-ghost use Rattle.std.specs.Prelude.{◌≡◌, ◌≢◌, ℕ, ◌+◌, ◌<◌, ◌≤◌, ◌↔◌, [], Some, None, IsTrue, IsOk, IsErrOf, IsSome, IsSomeAnd, IfSome, IfNone, OnOk, OnErr};
+ghost use Rattle.std.specs.Prelude.{◌≡◌, ◌≢◌, ℕ, ◌+◌, ◌<◌, ◌≤◌, ◌↔◌, [], replicate, Some, None, IsTrue, IsOk, IsErrOf, IsSome, IsSomeAnd, IfSome, IfNone, OnOk, OnErr};
 ghost use Rattle.std.specs.Option.{option_map};
 ghost use Rattle.bmx_types.specs.Words.{home_of, segment_of, index_of};
 ghost use Rattle.bmx_replica.specs.declared.replica.LearnError.TheVariants.{NoMemory as out_of_memory, Clash as no_fit};
@@ -83,7 +83,8 @@ impl Replica {
     /// No name, nothing made or mapped. Takes no memory.
     pub fn new(alloc: Global, me: NodeNo, limit: u32) -> Replica
         requires { limit ≤ 65535 }
-        ensures { result.slots ≡ [] }
+        ensures slots { result.slots ≡ [] }
+        ensures heap { result.heap ≡ record { me = me; limit = limit; own = []; current = replicate 16 None; blocks = []; spare = 0 } }
     {
         Replica {
             me,
@@ -229,6 +230,19 @@ impl Replica {
             word: self.segments.word(found.slot.address, i),
         };
         self.value(word)
+    }
+
+    /// The value in a field of a name's copy, None where the name has no copy or the copy no such field.
+    pub fn field(&self, name: Name, i: u8) -> Option<Val>
+        ensures { result ≡ field_of self.now name i }
+    {
+        let Some(found) = self.find(name) else {
+            return None;
+        };
+        if !found.slot.has_copy || i >= found.header.size {
+            return None;
+        }
+        Some(self.read_field(name, i))
     }
 
     /// Writes a field of a name's copy. A reference is stored as the current address of its name.
