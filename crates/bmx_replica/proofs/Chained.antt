@@ -1,5 +1,5 @@
 -- Where chains of headers end, and what keeps them ending.
-use Rattle.std.proofs.Common.{◌≡◌, ◌≢◌, ◌⊎◌, ℕ, Bool, true, false, cond, List, Option, Some, None, refl, sym, ap, subst, ◌∙◌, inl, inr}
+use Rattle.std.proofs.Common.{◌≡◌, ◌⊎◌, ℕ, true, cond, List, Option, Some, None, refl, sym, ap, ◌∙◌, inl, inr}
 use Rattle.std.proofs.Math.Logic.{∥∥₁_elim, ∥∥₁_map}
 use Rattle.std.specs.Option.{option_map, option_and_then}
 use Rattle.std.proofs.lemmas.Bool.{cases_eq, false≢true}
@@ -10,8 +10,7 @@ use Rattle.bmx_segment.specs.Stores.{header_at}
 use Rattle.bmx_segment.specs.declared.headers.Header.{Header}
 use Rattle.bmx_segment.specs.declared.headers.State.{State}
 use Rattle.bmx_segment.specs.declared.headers.State.TheVariants.{Live, Forwarded, Dead}
-use Rattle.bmx_replica.specs.Slots.{address_of}
-use Rattle.bmx_replica.specs.Chains.{is_live, is_end, name_at, living, living_at, Leads, here, on, Ends, EndsAs, EndsLive, Means, Reaches}
+use Rattle.bmx_replica.specs.Chains.{is_live, is_end, name_at, living, living_at, Leads, here, on, Ends, EndsAs, Means}
 use Rattle.bmx_replica.specs.Replicas.{IsReplica}
 use Rattle.bmx_replica.specs.declared.directory.Slot.{Slot}
 

@@ -1,5 +1,5 @@
 -- What a change of one object's words makes of a replica.
-use Rattle.std.proofs.Common.{zero, suc, get_or, replicate, ◌≡◌, ◌≢◌, ◌⊎◌, ℕ, ◌+◌, ◌<◌, ◌≤◌, Bool, true, false, cond, List, ◌∷◌, Option, Some, None, slice_set, refl, sym, ap, subst, ◌∙◌, inl, inr, arith}
+use Rattle.std.proofs.Common.{zero, suc, get_or, replicate, ◌≡◌, ◌≢◌, ◌⊎◌, ℕ, ◌+◌, ◌<◌, ◌≤◌, Bool, true, false, cond, List, Option, Some, None, slice_set, refl, sym, ap, subst, ◌∙◌, inl, inr, arith}
 use Rattle.std.specs.Prelude.{◌==◌, if◌then◌else◌, IsSomeAnd}
 use Rattle.std.specs.Option.{option_map}
 use Rattle.std.proofs.lemmas.Bool.{cases_eq, cases_lt, false≢true, eq-eqb, ne_eqb}
@@ -12,8 +12,7 @@ use Rattle.bmx_segment.specs.Blocks.{Block, CanStand, header_in}
 use Rattle.bmx_segment.specs.Heaps.{Heap, CanSet}
 use Rattle.bmx_segment.specs.Stores.{header_at, word_at, block_at, key_at, AreApart, Writes, Sets}
 use Rattle.bmx_segment.specs.declared.headers.Header.{Header}
-use Rattle.bmx_segment.specs.declared.headers.State.{State}
-use Rattle.bmx_segment.specs.declared.headers.State.TheVariants.{Live, Forwarded, Dead}
+use Rattle.bmx_segment.specs.declared.headers.State.TheVariants.{Live, Forwarded}
 use Rattle.bmx_replica.specs.Slots.{slot_of, address_of, PutsSlot}
 use Rattle.bmx_replica.specs.Chains.{is_live, name_at}
 use Rattle.bmx_replica.specs.Layouts.{Lays, Moves, kinds_in, moves_in, with_kinds}

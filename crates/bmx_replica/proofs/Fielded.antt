@@ -1,8 +1,8 @@
 -- The fields of a copy.
-use Rattle.std.proofs.Common.{◌≡◌, ◌≢◌, ◌⊎◌, ℕ, ◌+◌, ◌<◌, ◌≤◌, Bool, true, false, cond, List, [], ◌∷◌, length, Option, Some, None, IsSome, is_some, slice_get, slice_set, zero, suc, arith, refl, sym, ap, subst, ◌∙◌, inl, inr}
+use Rattle.std.proofs.Common.{◌≡◌, ◌≢◌, ℕ, ◌+◌, ◌<◌, ◌≤◌, Bool, true, false, cond, List, ◌∷◌, length, Option, Some, None, IsSome, is_some, slice_get, slice_set, zero, suc, arith, refl, sym, ap, subst, ◌∙◌, inl, inr}
 use Rattle.std.specs.Prelude.{if◌then◌else◌}
 use Rattle.std.specs.Option.{option_map, option_and_then}
-use Rattle.std.proofs.lemmas.Bool.{cases_eq, cases_lt, cases_Bool, false≢true}
+use Rattle.std.proofs.lemmas.Bool.{cases_lt, false≢true}
 use Rattle.std.proofs.lemmas.Option.{slice_get_past, none-some, same_Some, option_and_then_some}
 use Rattle.bmx_types.specs.declared.values.Val.{Val}
 use Rattle.bmx_segment.specs.Blocks.{Block}
@@ -91,6 +91,7 @@ length-copy r name e fields entry copy =
     has : (b : Bool) (xs : List Val) → cond b (Some xs) None ≡ Some fields → xs ≡ fields
     has true xs is = same_Some xs fields is
     has false xs is = absurd (none-some fields is)
+
     by : (s : Slot) (o : Option Header) → option_map (entry_in r.heap.blocks s) o ≡ Some e → length fields ≡ e.size
     by s None is = absurd (none-some e is)
     by s (Some h) is =

@@ -1,5 +1,5 @@
 -- A name that is forgotten: its header is dead.
-use Rattle.std.proofs.Common.{◌≡◌, ◌≢◌, ◌⊎◌, ℕ, ◌+◌, ◌<◌, ◌≤◌, Bool, true, false, List, Option, Some, None, refl, sym, ap, subst, ◌∙◌, inl, inr, arith}
+use Rattle.std.proofs.Common.{◌≡◌, ◌≢◌, ◌⊎◌, ℕ, ◌+◌, ◌<◌, true, false, List, Some, None, refl, sym, ap, subst, ◌∙◌, inl, inr, arith}
 use Rattle.std.proofs.Math.Logic.{∥∥₁_map}
 use Rattle.std.specs.Prelude.{◌==◌, if◌then◌else◌}
 use Rattle.std.specs.Option.{option_map, option_and_then}
@@ -9,14 +9,13 @@ use Rattle.bmx_segment.specs.Headers.{kind_of}
 use Rattle.bmx_segment.specs.Blocks.{Block}
 use Rattle.bmx_segment.specs.Stores.{header_at, word_at, Sets}
 use Rattle.bmx_segment.specs.declared.headers.Header.{Header}
-use Rattle.bmx_segment.specs.declared.headers.State.{State}
-use Rattle.bmx_segment.specs.declared.headers.State.TheVariants.{Live, Forwarded, Dead}
+use Rattle.bmx_segment.specs.declared.headers.State.TheVariants.{Forwarded, Dead}
 use Rattle.bmx_replica.specs.Slots.{slot_of, address_of, PutsSlot}
-use Rattle.bmx_replica.specs.Chains.{is_live, is_end, name_at, living, living_at, Leads, here, on, Ends, EndsLive, Means, Reaches}
-use Rattle.bmx_replica.specs.Layouts.{kinds_in, moves_in}
-use Rattle.bmx_replica.specs.Replicas.{IsReplica, IsField, IsFound, Entry, entry_in, entry_at}
+use Rattle.bmx_replica.specs.Chains.{is_live, name_at, living, living_at, Leads, here, on, Ends, EndsLive, Means, Reaches}
+use Rattle.bmx_replica.specs.Layouts.{kinds_in}
+use Rattle.bmx_replica.specs.Replicas.{IsReplica, IsField, IsFound, entry_at}
 use Rattle.bmx_replica.specs.declared.directory.Slot.{Slot}
-use Rattle.bmx_replica.proofs.Chained.{named, name_at-from, alive, not_live, Means-from, name_at-means}
+use Rattle.bmx_replica.proofs.Chained.{name_at-from, alive, not_live, Means-from, name_at-means}
 use Rattle.bmx_replica.proofs.Changing.{disjoint}
 use Rattle.bmx_replica.proofs.Standing.{IsField-same, address_same, address_other, entry_from, entry_none, slot_cases, with_fields-same}
 
@@ -74,22 +73,24 @@ module _ (slots slots' : List (ℕ × Slot)) (old new : List Block) (n : ℕ) (s
   new_entries : (m x : ℕ) → (address_of slots' m ≡ Some x → living_at new x ≡ Some m) × (living_at new x ≡ Some m → address_of slots' m ≡ Some x)
   new_entries m x =
       elim (cases_eq n m) [
-        | inl same ↦
-            (λ e. absurd (none-some x (sym gone_now ∙ ap (address_of slots') same ∙ e)),
-            λ e. elim (cases_eq x s.address) [
-              | inl at ↦ absurd (none-some m (sym no_longer ∙ ap (living_at new) (sym at) ∙ e))
-              | inr off ↦
-                  let was : address_of slots n ≡ Some x = (kept.entries n x).1 (sym (living_kept x off) ∙ e ∙ ap (λ k. Some k) (sym same)) in
-                  absurd (off (same_Some x s.address (sym was ∙ place)))
-            ])
-        | inr other ↦
-            (λ e.
-            let was : living_at old x ≡ Some m = (kept.entries m x).0 (sym (others_now m other) ∙ e) in
-            living_kept x (elsewhere m x other was) ∙ was,
-            λ e. elim (cases_eq x s.address) [
-              | inl at ↦ absurd (none-some m (sym no_longer ∙ ap (living_at new) (sym at) ∙ e))
-              | inr off ↦ others_now m other ∙ (kept.entries m x).1 (sym (living_kept x off) ∙ e)
-            ])
+        | inl same ↦ (
+          λ e. absurd (none-some x (sym gone_now ∙ ap (address_of slots') same ∙ e)),
+          λ e. elim (cases_eq x s.address) [
+            | inl at ↦ absurd (none-some m (sym no_longer ∙ ap (living_at new) (sym at) ∙ e))
+            | inr off ↦
+                let was : address_of slots n ≡ Some x = (kept.entries n x).1 (sym (living_kept x off) ∙ e ∙ ap (λ k. Some k) (sym same)) in
+                absurd (off (same_Some x s.address (sym was ∙ place)))
+          ],
+        )
+        | inr other ↦ (
+          λ e.
+              let was : living_at old x ≡ Some m = (kept.entries m x).0 (sym (others_now m other) ∙ e) in
+              living_kept x (elsewhere m x other was) ∙ was,
+          λ e. elim (cases_eq x s.address) [
+            | inl at ↦ absurd (none-some m (sym no_longer ∙ ap (living_at new) (sym at) ∙ e))
+            | inr off ↦ others_now m other ∙ (kept.entries m x).1 (sym (living_kept x off) ∙ e)
+          ],
+        )
       ]
 
   is_dead : (x : ℕ) (t : Header) → x ≡ s.address → header_at new x ≡ Some t → t.state ≡ Dead
@@ -174,8 +175,8 @@ module _ (slots slots' : List (ℕ × Slot)) (old new : List Block) (n : ℕ) (s
   Reaches-forgotten w m other reaches = record {
     address = reaches.address;
     ends = ∥∥₁_map reaches.ends (λ (e : EndsLive old w m).
-    let end : Ends new w = record { at = e.end.at; header = e.end.header; leads = untouched e.end.at e.end.header w (λ is. other (sym e.named ∙ is)) e.end.leads } in
-    let r : EndsLive new w m = record { end = end; named = e.named; live = e.live } in r);
+        let end : Ends new w = record { at = e.end.at; header = e.end.header; leads = untouched e.end.at e.end.header w (λ is. other (sym e.named ∙ is)) e.end.leads } in
+        let r : EndsLive new w m = record { end = end; named = e.named; live = e.live } in r);
   }
 
   others_entry : (m : ℕ) → n ≢ m → entry_at slots' new m ≡ entry_at slots old m

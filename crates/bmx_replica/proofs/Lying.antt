@@ -1,16 +1,15 @@
 -- Where a header can be set, by what stands at addresses.
-use Rattle.std.proofs.Common.{◌≡◌, ◌≢◌, ◌⊎◌, ℕ, ◌+◌, ◌-◌, ◌^◌, ◌<◌, ◌≤◌, Bool, true, false, List, Option, Some, None, IsSome, is_some, IsSomeAnd, refl, sym, ap, subst, ◌∙◌, inl, inr, arith}
+use Rattle.std.proofs.Common.{◌≡◌, ◌≢◌, ℕ, ◌+◌, ◌-◌, ◌^◌, ◌<◌, ◌≤◌, Bool, true, false, List, Option, Some, None, IsSome, IsSomeAnd, refl, sym, ap, subst, ◌∙◌, inl, inr, arith}
 use Rattle.std.specs.Prelude.{unwrap_or, if◌then◌else◌}
-use Rattle.std.specs.Option.{option_map, option_and_then}
-use Rattle.std.proofs.lemmas.Bool.{cases_eq, false≢true}
+use Rattle.std.specs.Option.{option_and_then}
+use Rattle.std.proofs.lemmas.Bool.{false≢true}
 use Rattle.std.proofs.lemmas.Bool.Decides.{nat_tests}
-use Rattle.std.proofs.lemmas.Option.{none-some, same_Some, option_and_then_some}
+use Rattle.std.proofs.lemmas.Option.{none-some}
 use Rattle.bmx_types.specs.Words.{home_of, segment_of, index_of}
 use Rattle.bmx_segment.specs.Blocks.{Block, CanStand, header_in, blank_block}
-use Rattle.bmx_segment.specs.Stores.{is_between, segment_key, block_at, header_at, word_at, key_at, IsMapped, Maps}
+use Rattle.bmx_segment.specs.Stores.{is_between, segment_key, block_at, header_at, key_at, Maps}
 use Rattle.bmx_segment.specs.Heaps.{Heap, CanSet, handed_of, handed_in, own_at}
 use Rattle.bmx_segment.specs.declared.segments.Own.{Own}
-use Rattle.bmx_segment.specs.declared.headers.Header.{Header}
 use Rattle.bmx_replica.specs.Layouts.{CanLie, Readies}
 
 some_block : (o : Option Block) → IsSome o → (b : Block) × (o ≡ Some b)

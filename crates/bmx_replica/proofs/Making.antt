@@ -1,23 +1,22 @@
 -- An object that is new under its name.
-use Rattle.std.proofs.Common.{zero, suc, ◌≡◌, ◌≢◌, ◌⊎◌, ℕ, ◌+◌, ◌<◌, ◌≤◌, Bool, true, false, List, ◌∷◌, Option, Some, None, replicate, refl, sym, ap, subst, ◌∙◌, inl, inr, arith}
+use Rattle.std.proofs.Common.{zero, suc, ◌≡◌, ℕ, ◌+◌, ◌<◌, Bool, List, ◌∷◌, Option, Some, None, replicate, refl, sym, ap, ◌∙◌, inl, inr, arith}
 use Rattle.std.specs.Prelude.{IsSomeAnd}
 use Rattle.std.specs.Option.{option_map}
-use Rattle.std.proofs.lemmas.Bool.{cases_lt, false≢true}
-use Rattle.std.proofs.lemmas.Option.{none-some, same_Some, option_and_then_some}
+use Rattle.std.proofs.lemmas.Bool.{cases_lt}
+use Rattle.std.proofs.lemmas.Option.{none-some}
 use Rattle.bmx_types.specs.declared.values.Val.{Val}
 use Rattle.bmx_types.specs.declared.values.Val.TheVariants as val
 use Rattle.bmx_types.specs.declared.addresses.Info.{Info}
 use Rattle.bmx_types.specs.declared.addresses.Place.{Place}
 use Rattle.bmx_segment.specs.Headers.{kind_of}
 use Rattle.bmx_segment.specs.Blocks.{Block}
-use Rattle.bmx_segment.specs.Heaps.{Heap, CanSet, PlacesIn, PlacesInNew, room_of, current_of}
+use Rattle.bmx_segment.specs.Heaps.{Heap, PlacesIn, room_of, current_of}
 use Rattle.bmx_segment.specs.Stores.{header_at, word_at}
 use Rattle.bmx_segment.specs.declared.headers.Header.{Header}
 use Rattle.bmx_segment.specs.declared.headers.State.TheVariants.{Live}
 use Rattle.bmx_replica.specs.Slots.{slot_of, address_of, PutsSlot}
-use Rattle.bmx_replica.specs.Chains.{is_live}
 use Rattle.bmx_replica.specs.Layouts.{Lays, Moves, kinds_in, with_kinds, blank_header}
-use Rattle.bmx_replica.specs.Replicas.{IsReplica, Entry, entry_in, entry_at, field_at, values_of, value_in, blank_entry, HandsOut}
+use Rattle.bmx_replica.specs.Replicas.{IsReplica, entry_in, entry_at, field_at, values_of, value_in, HandsOut}
 use Rattle.bmx_replica.specs.declared.directory.Slot.{Slot}
 use Rattle.bmx_replica.proofs.Laid.{kind_of-none, Lays-words}
 use Rattle.bmx_replica.proofs.Chained.{alive}
@@ -81,7 +80,7 @@ pub Moves-after : (old mid new : List Block) (a : ℕ) (to : Place) (h : Header)
 Moves-after old mid new a to h headers words moves = record {
   mid = moves.mid;
   lays = Lays-words old moves.mid to.address (record h { state = Live to.moves (kinds_in h.state) }) (λ i. word_at mid (a + 4 + i)) (λ i. word_at old (a + 4 + i)) (λ i small. words (a + 4 + i))
-  (Lays-after old mid moves.mid to.address (record h { state = Live to.moves (kinds_in h.state) }) (λ i. word_at mid (a + 4 + i)) headers words moves.lays);
+      (Lays-after old mid moves.mid to.address (record h { state = Live to.moves (kinds_in h.state) }) (λ i. word_at mid (a + 4 + i)) headers words moves.lays);
   forwards = moves.forwards;
 }
 

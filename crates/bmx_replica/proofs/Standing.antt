@@ -1,13 +1,12 @@
 -- A live object that stands where none of another name did, with the header that its name had forwarded
 -- to it.
-use Rattle.std.proofs.Common.{◌≡◌, ◌≢◌, ◌⊎◌, ℕ, ◌+◌, ◌<◌, Bool, true, false, cond, eqb, List, ◌∷◌, Option, Some, None, IsSome, is_some, zero, suc, arith, refl, sym, ap, subst, ◌∙◌, inl, inr}
-use Rattle.std.proofs.Math.Logic.{∥∥₁_elim, ∥∥₁_map}
+use Rattle.std.proofs.Common.{◌≡◌, ◌≢◌, ◌⊎◌, ℕ, ◌+◌, ◌<◌, true, false, List, ◌∷◌, Option, Some, None, IsSome, is_some, zero, suc, arith, refl, sym, ap, subst, ◌∙◌, inl, inr}
+use Rattle.std.proofs.Math.Logic.{∥∥₁_map}
 use Rattle.std.specs.Prelude.{◌==◌, if◌then◌else◌, unwrap_or}
 use Rattle.std.specs.Int.{w64, cast_signed}
 use Rattle.std.specs.Option.{option_map, option_and_then}
 use Rattle.std.proofs.lemmas.Bool.{cases_eq, false≢true, eq-eqb, ne_eqb}
-use Rattle.std.proofs.lemmas.Option.{none-some, same_Some, option_and_then_some, cond_some}
-use Rattle.bmx_types.specs.Words.{IsAddress}
+use Rattle.std.proofs.lemmas.Option.{none-some, same_Some}
 use Rattle.bmx_types.specs.declared.values.Val.{Val}
 use Rattle.bmx_types.specs.declared.values.Val.TheVariants as val
 use Rattle.bmx_segment.specs.Headers.{kind_of}
@@ -17,7 +16,7 @@ use Rattle.bmx_segment.specs.declared.headers.Header.{Header}
 use Rattle.bmx_segment.specs.declared.headers.State.{State}
 use Rattle.bmx_segment.specs.declared.headers.State.TheVariants.{Live, Forwarded, Dead}
 use Rattle.bmx_replica.specs.Slots.{slot_of, address_of, PutsSlot}
-use Rattle.bmx_replica.specs.Chains.{is_live, is_end, name_at, living, living_at, Leads, Ends, EndsAs, EndsLive, Means, Reaches}
+use Rattle.bmx_replica.specs.Chains.{is_live, name_at, living, living_at, Ends, EndsLive, Means, Reaches}
 use Rattle.bmx_replica.specs.Layouts.{kinds_in, moves_in}
 use Rattle.bmx_replica.specs.Replicas.{IsReplica, IsField, Entry, entry_in, entry_at, field_at, value_in, values_of}
 use Rattle.bmx_replica.specs.declared.directory.Slot.{Slot}

@@ -1,11 +1,11 @@
 -- An object in a segment: its kinds and its field words.
-use Rattle.std.specs.Prelude.{◌≡◌, ◌≢◌, ◌⊎◌, ℕ, ◌+◌, ◌<◌, ◌≤◌, ◌==◌, if◌then◌else◌, true, List, Option, Some, None, is_some}
+use Rattle.std.specs.Prelude.{◌≡◌, ◌≢◌, ◌⊎◌, ℕ, ◌+◌, ◌<◌, ◌≤◌, true, List, Some}
 use Rattle.bmx_types.specs.Words.{home_of, segment_of, index_of}
 use Rattle.bmx_types.specs.declared.addresses.Info.{Info}
 use Rattle.bmx_types.specs.declared.addresses.Place.{Place}
 use Rattle.bmx_segment.specs.Headers.{kind_of}
 use Rattle.bmx_segment.specs.Blocks.{Block}
-use Rattle.bmx_segment.specs.Stores.{header_at, word_at, block_at, key_at, AreApart, Sets}
+use Rattle.bmx_segment.specs.Stores.{header_at, word_at, key_at, AreApart, Sets}
 use Rattle.bmx_segment.specs.Heaps.{Heap, handed_of, CanSet}
 use Rattle.bmx_segment.specs.declared.headers.Header.{Header}
 use Rattle.bmx_replica.specs.Chains.{is_live}

@@ -1,6 +1,6 @@
 ghost use Rattle.std.specs.Prelude.{◌≡◌, ◌≤◌, IfSome};
 
-use crate::{LearnError, Replica, Words, Word};
+use crate::{LearnError, Replica, Word, Words};
 use bmx_segment::{Kind, PlaceError};
 use bmx_types::{Address, BunchNo, Info, Name, NodeNo, Place, Val};
 use std::test::Fail;
@@ -56,8 +56,14 @@ fn a_larger_moves_wins(rt: HostRuntime) -> Result<(), Fail> {
     replica.learn(&told(name, bunch, second, 1))?;
     let info = replica.info(name).ok_or("info")?;
     assert_eq!(rt; info.place.address, first);
-    assert_eq!(rt; replica.learn(&Info { size: 2, ..info }), Err(LearnError::Clash));
-    assert_eq!(rt; replica.learn(&told(name, bunch, first, 3)), Err(LearnError::Clash));
+    assert_eq!(rt;
+        replica.learn(&Info { size: 2, ..info }),
+        Err(LearnError::Clash)
+    );
+    assert_eq!(rt;
+        replica.learn(&told(name, bunch, first, 3)),
+        Err(LearnError::Clash)
+    );
     replica.learn(&told(name, bunch, second, 3))?;
     let info = replica.info(name).ok_or("info")?;
     assert_eq!(rt; info.place.address, second);

@@ -1,4 +1,4 @@
-use Rattle.std.proofs.Common.{◌≡◌, ◌≢◌, ℕ, ◌<◌, ◌≤◌, length, arith, below_more, get_or-set_other, get_or-set_same, length-set, ◌∙◌}
+use Rattle.std.proofs.Common.{◌≡◌, ℕ, ◌<◌, ◌≤◌, length, arith, below_more, get_or-set_other, get_or-set_same, length-set, ◌∙◌}
 use Rattle.bmx_replica.proofs.Laid.{IsLive-from}
 use Rattle.bmx_replica.proofs.layout.field_words.Goals as goal
 

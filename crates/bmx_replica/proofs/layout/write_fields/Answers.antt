@@ -1,8 +1,7 @@
-use Rattle.std.proofs.Common.{◌≡◌, ℕ, ◌+◌, ◌<◌, ◌∙◌, sym, ap, subst, refl, arith, get_or, Some, List, IsSomeAnd}
+use Rattle.std.proofs.Common.{◌≡◌, ℕ, ◌∙◌, sym, ap, subst, refl, arith, get_or, Some, List}
 use Rattle.bmx_segment.specs.Blocks.{Block}
-use Rattle.bmx_segment.specs.Headers.{IsLive}
 use Rattle.bmx_segment.specs.Heaps.{Heap}
-use Rattle.bmx_segment.specs.Stores.{header_at, HasFieldAt}
+use Rattle.bmx_segment.specs.Stores.{header_at}
 use Rattle.bmx_segment.specs.declared.headers.Header.{Header}
 use Rattle.std.proofs.lemmas.Option.{same_Some}
 use Rattle.bmx_replica.proofs.Laid.{Written, Written-none, Written-more, Lays-written}

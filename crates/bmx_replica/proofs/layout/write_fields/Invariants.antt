@@ -1,4 +1,4 @@
-use Rattle.std.proofs.Common.{◌≡◌, ℕ, Some, get_or}
+use Rattle.std.proofs.Common.{◌≡◌, Some, get_or}
 use Rattle.bmx_segment.specs.Stores.{header_at}
 use Rattle.bmx_segment.specs.Heaps.{Heap}
 use Rattle.bmx_segment.specs.declared.headers.Header.{Header}

@@ -1,4 +1,4 @@
-use Rattle.std.proofs.Common.{◌≡◌, ℕ, ◌<◌, get_or, replicate, refl, arith}
+use Rattle.std.proofs.Common.{ℕ, get_or, replicate, refl, arith}
 use Rattle.bmx_replica.specs.Layouts.{blank_header}
 use Rattle.bmx_replica.proofs.Laid.{Lays-words, kind_of-none}
 use Rattle.bmx_replica.proofs.Changing.{get_or-same}

@@ -1,7 +1,7 @@
-use Rattle.std.proofs.Common.{◌≡◌, ℕ, ◌≤◌, ◌+◌, true, false, None, IsSome, is_some, sym, ap, ◌∙◌, refl, subst, arith, rules}
-use Rattle.bmx_types.specs.Words.{home_of, segment_of, index_of}
+use Rattle.std.proofs.Common.{◌≡◌, ℕ, ◌≤◌, ◌+◌, true, IsSome, is_some, sym, ap, ◌∙◌, subst, rules}
+use Rattle.bmx_types.specs.Words.{home_of}
 use Rattle.std.proofs.lemmas.Bool.{false≢true}
-use Rattle.bmx_segment.specs.Stores.{segment_key, block_at, key_at, IsMapped, Maps}
+use Rattle.bmx_segment.specs.Stores.{segment_key, block_at, key_at}
 use Rattle.bmx_segment.specs.Heaps.{Heap}
 use Rattle.bmx_replica.proofs.Lying.{Readies-there, Readies-mapped, none_from, spare_from}
 use Rattle.bmx_replica.proofs.replica.map_for.Goals as goal

@@ -1,4 +1,4 @@
-use Rattle.std.proofs.Common.{◌≡◌, ℕ, ◌+◌, List, Some, IsSomeAnd, get_or, sym, ap, subst, refl, ◌∙◌}
+use Rattle.std.proofs.Common.{◌≡◌, ℕ, ◌+◌, List, Some, get_or, sym, ap, subst, refl, ◌∙◌}
 use Rattle.bmx_types.specs.declared.addresses.Place.{Place}
 use Rattle.bmx_segment.specs.Blocks.{Block}
 use Rattle.bmx_segment.specs.Stores.{header_at, word_at, Sets}

@@ -1,17 +1,14 @@
-use Rattle.std.proofs.Common.{◌≡◌, ◌≢◌, ℕ, ◌+◌, ◌<◌, true, false, List, Some, IsSome, IsSomeAnd, get_or, replicate, sym, ap, ◌∙◌, refl, subst, arith}
+use Rattle.std.proofs.Common.{◌≡◌, ℕ, ◌<◌, false, List, Some, get_or, replicate, sym, ap, ◌∙◌, refl, subst}
 use Rattle.std.specs.Option.{option_map}
 use Rattle.std.proofs.lemmas.Option.{same_Some}
-use Rattle.bmx_types.specs.declared.addresses.Place.{Place}
 use Rattle.bmx_segment.specs.Headers.{kind_of}
 use Rattle.bmx_segment.specs.Blocks.{Block}
-use Rattle.bmx_segment.specs.Stores.{header_at, word_at}
-use Rattle.bmx_segment.specs.Heaps.{Heap, CanSet}
+use Rattle.bmx_segment.specs.Stores.{header_at}
+use Rattle.bmx_segment.specs.Heaps.{Heap}
 use Rattle.bmx_segment.specs.declared.headers.Header.{Header}
-use Rattle.bmx_segment.specs.declared.headers.State.TheVariants.{Live, Forwarded}
 use Rattle.bmx_replica.specs.declared.directory.Slot.{Slot}
-use Rattle.bmx_replica.specs.Slots.{address_of, PutsSlot}
-use Rattle.bmx_replica.specs.Layouts.{kinds_in, moves_in, with_kinds, Lays, Moves}
-use Rattle.bmx_replica.specs.Replicas.{Holding, Entry, IsFound, IsField, IsReplica, entry_of, entry_in, at_place, CanMove, without_copy}
+use Rattle.bmx_replica.specs.Layouts.{with_kinds, Lays}
+use Rattle.bmx_replica.specs.Replicas.{Holding, IsFound, IsField, entry_of, without_copy}
 use Rattle.bmx_replica.specs.contracts.replica.Replica.{the_view}
 use Rattle.bmx_replica.proofs.Standing.{Stands, IsReplica-stands, Means-stands, Reaches-stands, Puts-stands}
 use Rattle.bmx_replica.proofs.Fielded.{entry_at-found}

@@ -1,4 +1,4 @@
-use Rattle.std.proofs.Common.{◌≡◌, ◌<◌, Bool, true, false, refl, is_some, sym, ap}
+use Rattle.std.proofs.Common.{◌≡◌, Bool, true, false, refl, is_some, sym, ap}
 use Rattle.std.specs.Prelude.{not}
 use Rattle.bmx_segment.specs.declared.headers.Header.{Header}
 use Rattle.bmx_replica.specs.declared.directory.Slot.{Slot}

@@ -1,24 +1,21 @@
-use Rattle.std.proofs.Common.{◌≡◌, ◌≢◌, ℕ, ◌+◌, ◌<◌, true, false, List, Some, None, Option, IsSome, IsSomeAnd, get_or, replicate, sym, ap, ◌∙◌, refl, subst, arith, rules}
+use Rattle.std.proofs.Common.{◌≡◌, ◌≢◌, ℕ, ◌<◌, List, Some, Option, sym, ap, ◌∙◌, refl, subst, arith}
 use Rattle.std.specs.Option.{option_map}
-use Rattle.std.proofs.lemmas.Option.{same_Some}
 use Rattle.bmx_types.specs.declared.addresses.Place.{Place}
-use Rattle.bmx_segment.specs.Headers.{kind_of}
 use Rattle.bmx_segment.specs.Blocks.{Block}
-use Rattle.bmx_segment.specs.Stores.{header_at, word_at}
+use Rattle.bmx_segment.specs.Stores.{header_at}
 use Rattle.bmx_segment.specs.Heaps.{Heap, CanSet}
 use Rattle.bmx_segment.specs.declared.headers.Header.{Header}
-use Rattle.bmx_segment.specs.declared.headers.State.TheVariants.{Live, Forwarded}
+use Rattle.bmx_segment.specs.declared.headers.State.TheVariants.{Live}
 use Rattle.bmx_replica.specs.declared.directory.Slot.{Slot}
-use Rattle.bmx_replica.specs.Slots.{Listing, slot_of, address_of, PutsSlot}
-use Rattle.bmx_replica.specs.Layouts.{Readies, CanLie, blank_header, kinds_in, moves_in, with_kinds, Lays, Moves}
-use Rattle.bmx_replica.specs.Replicas.{Learns, Accepts, learned, entry_at, HandsOut, MakesObject, blank_entry, Holding, Entry, IsFound, IsField, IsReplica, entry_of, entry_in, at_place, CanMove, without_copy}
+use Rattle.bmx_replica.specs.Slots.{Listing, slot_of, PutsSlot}
+use Rattle.bmx_replica.specs.Layouts.{Readies, CanLie, kinds_in, moves_in, with_kinds, Moves}
+use Rattle.bmx_replica.specs.Replicas.{Accepts, learned, Holding, Entry, IsFound, IsReplica, entry_of, entry_in, at_place}
 use Rattle.bmx_replica.specs.contracts.replica.Replica.{the_view}
 use Rattle.bmx_replica.proofs.Standing.{Stands, IsReplica-stands, Means-stands, Reaches-stands, Puts-stands}
 use Rattle.bmx_replica.proofs.Fielded.{entry_at-found}
 use Rattle.bmx_types.specs.declared.addresses.Info.{Info}
-use Rattle.bmx_types.specs.declared.values.Val.{Val}
 use Rattle.bmx_types.specs.declared.addresses.Info.{Info}
-use Rattle.std.specs.Prelude.{nat_lt, if◌then◌else◌}
+use Rattle.std.specs.Prelude.{if◌then◌else◌}
 use Rattle.std.proofs.lemmas.Bool.{false≢true, lt-ltb}
 use Rattle.bmx_replica.proofs.Slotted.{same_address, equal_from}
 use Rattle.bmx_replica.proofs.Laid.{AreApart-kept}

@@ -1,20 +1,14 @@
-use Rattle.std.proofs.Common.{◌≡◌, ◌≢◌, ℕ, ◌+◌, ◌<◌, true, false, List, Some, None, IsSome, IsSomeAnd, get_or, replicate, sym, ap, ◌∙◌, refl, subst, arith}
-use Rattle.std.specs.Option.{option_map}
-use Rattle.std.proofs.lemmas.Option.{same_Some}
-use Rattle.bmx_types.specs.declared.addresses.Place.{Place}
-use Rattle.bmx_segment.specs.Headers.{kind_of}
+use Rattle.std.proofs.Common.{◌≡◌, ℕ, true, List, Some, None, sym, ap, ◌∙◌, subst}
 use Rattle.bmx_segment.specs.Blocks.{Block}
-use Rattle.bmx_segment.specs.Stores.{header_at, word_at}
-use Rattle.bmx_segment.specs.Heaps.{Heap, CanSet}
+use Rattle.bmx_segment.specs.Stores.{header_at}
+use Rattle.bmx_segment.specs.Heaps.{Heap}
 use Rattle.bmx_segment.specs.declared.headers.Header.{Header}
-use Rattle.bmx_segment.specs.declared.headers.State.TheVariants.{Live, Forwarded}
 use Rattle.bmx_replica.specs.declared.directory.Slot.{Slot}
-use Rattle.bmx_replica.specs.Slots.{slot_of, address_of, PutsSlot}
-use Rattle.bmx_replica.specs.Layouts.{blank_header, kinds_in, moves_in, with_kinds, Lays, Moves}
-use Rattle.bmx_replica.specs.Replicas.{HandsOut, MakesObject, blank_entry, Holding, Entry, IsFound, IsField, IsReplica, entry_of, entry_in, at_place, CanMove, without_copy}
+use Rattle.bmx_replica.specs.Slots.{slot_of, PutsSlot}
+use Rattle.bmx_replica.specs.Layouts.{blank_header, with_kinds, Lays}
+use Rattle.bmx_replica.specs.Replicas.{HandsOut, blank_entry, Holding, Entry, entry_of, entry_in}
 use Rattle.bmx_replica.specs.contracts.replica.Replica.{the_view}
 use Rattle.bmx_replica.proofs.Standing.{Stands, IsReplica-stands, Means-stands, Reaches-stands, Puts-stands}
-use Rattle.bmx_replica.proofs.Fielded.{entry_at-found}
 use Rattle.bmx_types.specs.declared.addresses.Info.{Info}
 use Rattle.bmx_types.specs.declared.values.Val.{Val}
 use Rattle.bmx_replica.proofs.Making.{HandsOut-same, HandsOut-me, absent_slot, Lays-after, Stands-added, null_fields}

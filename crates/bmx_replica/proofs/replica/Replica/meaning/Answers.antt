@@ -1,10 +1,8 @@
-use Rattle.std.proofs.Common.{◌≡◌, ℕ, Option, Some, None, sym, ap, ◌∙◌, refl, subst}
+use Rattle.std.proofs.Common.{◌≡◌, Some, None, sym, ap, ◌∙◌, refl}
 use Rattle.std.specs.Option.{option_map}
 use Rattle.std.proofs.lemmas.Option.{none-some}
-use Rattle.bmx_types.specs.Words.{IsAddress}
 use Rattle.bmx_segment.specs.Stores.{header_at}
 use Rattle.bmx_segment.specs.declared.headers.Header.{Header}
-use Rattle.bmx_replica.specs.Chains.{name_at}
 use Rattle.bmx_replica.proofs.Chained.{Means-from, name_at-from, name_at-means}
 use Rattle.bmx_replica.proofs.replica.Replica.meaning.Goals as goal
 

@@ -1,10 +1,10 @@
-use Rattle.std.proofs.Common.{◌≡◌, ℕ, ◌+◌, Some, sym, ap, ◌∙◌, refl, subst, arith}
+use Rattle.std.proofs.Common.{◌≡◌, ◌+◌, Some, sym, ap, ◌∙◌, arith}
 use Rattle.bmx_segment.specs.Headers.{kind_of, kind_number}
 use Rattle.bmx_segment.specs.Stores.{header_at, word_at}
 use Rattle.bmx_segment.specs.declared.headers.Header.{Header}
 use Rattle.bmx_replica.specs.declared.directory.Slot.{Slot}
 use Rattle.bmx_replica.specs.Layouts.{kinds_in}
-use Rattle.bmx_replica.specs.Replicas.{Holding, IsFound, IsField, value_in}
+use Rattle.bmx_replica.specs.Replicas.{Holding, value_in}
 use Rattle.bmx_replica.proofs.Laid.{IsLive-from}
 use Rattle.bmx_replica.proofs.Fielded.{field_of-there, field_of-found}
 use Rattle.bmx_replica.proofs.replica.Replica.read_field.Goals as goal

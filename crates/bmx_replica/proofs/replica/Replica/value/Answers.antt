@@ -1,9 +1,8 @@
-use Rattle.std.proofs.Common.{◌≡◌, ℕ, Option, Some, None, IsSome, sym, ap, ◌∙◌, refl, subst}
+use Rattle.std.proofs.Common.{◌≡◌, ℕ, Option, Some, None, IsSome, ap, refl}
 use Rattle.std.proofs.lemmas.Bool.{false≢true}
 use Rattle.bmx_segment.specs.Headers.{kind_number}
 use Rattle.bmx_segment.specs.Stores.{header_at}
 use Rattle.bmx_segment.specs.declared.headers.Header.{Header}
-use Rattle.bmx_replica.specs.Chains.{name_at}
 use Rattle.bmx_replica.proofs.Chained.{Means-from, name_at-from}
 use Rattle.bmx_replica.proofs.replica.Replica.value.Goals as goal
 

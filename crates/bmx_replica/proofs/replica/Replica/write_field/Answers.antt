@@ -1,13 +1,12 @@
-use Rattle.std.proofs.Common.{◌≡◌, ℕ, ◌+◌, ◌<◌, true, List, Some, IsSome, sym, ap, ◌∙◌, refl, subst, arith}
-use Rattle.bmx_segment.specs.Headers.{kind_of, kind_number, with_kind}
+use Rattle.std.proofs.Common.{◌≡◌, ℕ, List, Some, IsSome, sym, ap, ◌∙◌, subst}
+use Rattle.bmx_segment.specs.Headers.{kind_number, with_kind}
 use Rattle.bmx_segment.specs.Blocks.{Block}
-use Rattle.bmx_segment.specs.Stores.{header_at, word_at}
+use Rattle.bmx_segment.specs.Stores.{header_at}
 use Rattle.bmx_segment.specs.Heaps.{Heap}
 use Rattle.bmx_segment.specs.declared.headers.Header.{Header}
-use Rattle.bmx_types.specs.declared.values.Val.{Val}
 use Rattle.bmx_replica.specs.declared.directory.Slot.{Slot}
 use Rattle.bmx_replica.specs.Layouts.{kinds_in, with_kinds}
-use Rattle.bmx_replica.specs.Replicas.{Holding, IsFound, IsField, IsReplica, value_in, field_of, entry_of, with_value}
+use Rattle.bmx_replica.specs.Replicas.{Holding, IsFound, IsField, value_in, field_of, entry_of, with_value}
 use Rattle.std.specs.Option.{option_map}
 use Rattle.bmx_replica.specs.contracts.replica.Replica.{the_view}
 use Rattle.bmx_replica.proofs.Laid.{IsLive-from}
