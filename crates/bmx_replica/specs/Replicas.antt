@@ -96,6 +96,10 @@ Puts old new name o = (q : ℕ) → entry_of new q ≡ (if name == q then o else
 abbrev pub KeepsMeaning : Holding → Holding → Type 0
 KeepsMeaning old new = (w name : ℕ) → Means old.heap.blocks w name → Means new.heap.blocks w name
 
+-- every header keeps its name
+abbrev pub KeepsNames : Holding → Holding → Type 0
+KeepsNames old new = (w name : ℕ) → name_at old.heap.blocks w ≡ Some name → name_at new.heap.blocks w ≡ Some name
+
 -- every word that reached a live header still does, that of the same name
 abbrev pub KeepsReach : Holding → Holding → Type 0
 KeepsReach old new = (w name : ℕ) → Reaches old.heap.blocks w name → Reaches new.heap.blocks w name
@@ -131,6 +135,12 @@ abbrev pub word_in : Holding → Val → Word
 word_in r val.Null = record { kind = Null; word = 0 }
 word_in r (val.Int k) = record { kind = Int; word = cast_unsigned w64 k }
 word_in r (val.Ref name) = record { kind = Ref; word = unwrap_or (address_of r.slots name) 0 }
+
+-- the word of a reference reaches its name
+abbrev pub ReachesTarget : Holding → Val → Word → Type 0
+ReachesTarget r val.Null w = Unit {0}
+ReachesTarget r (val.Int k) w = Unit {0}
+ReachesTarget r (val.Ref name) w = Reaches r.heap.blocks w.word name
 
 -- a header of a name's object stands at its slot's address
 pub record IsFound (slots : List (ℕ × Slot)) (blocks : List Block) (name : ℕ) (s : Slot) (h : Header) : Type 0 where

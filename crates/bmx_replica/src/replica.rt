@@ -9,7 +9,7 @@ ghost use Rattle.bmx_replica.specs.Layouts.{Lays, Moves, Readies, CanLie, kinds_
 ghost use Rattle.bmx_segment.specs.declared.segments.PlaceError.TheVariants.{Full};
 ghost use Rattle.bmx_replica.specs.Slots.{slot_of, address_of, PutsSlot};
 ghost use Rattle.bmx_replica.specs.Chains.{Means, name_at};
-ghost use Rattle.bmx_replica.specs.Replicas.{entry_of, info_in, copy_of, field_of, value_in, word_in, with_value, without_copy, at_place, CanMove, MakesObject, Learns, Accepts, Same, KeepsReachOfOthers, HasTarget, IsField, IsFound, IsReplica, Puts, KeepsMeaning, KeepsReach};
+ghost use Rattle.bmx_replica.specs.Replicas.{entry_of, info_in, copy_of, field_of, value_in, word_in, with_value, without_copy, at_place, CanMove, MakesObject, Learns, Accepts, Same, KeepsReachOfOthers, HasTarget, IsField, IsFound, IsReplica, Puts, KeepsMeaning, KeepsReach, KeepsNames, ReachesTarget};
 
 use crate::directory::{Directory, Slot};
 use crate::layout::{NO_WORDS, field_words, kind_in, lay, write_fields};
@@ -191,6 +191,7 @@ impl Replica {
         requires { HasTarget self.now value }
         ensures word { result ≡ word_in self.now value }
         ensures field { IsField self.now.heap.blocks (kind_number result.kind) result.word }
+        ensures reach { ReachesTarget self.now value result }
         ensures holds { value_in self.now.heap.blocks (kind_number result.kind) result.word ≡ value }
     {
         match value {
@@ -254,6 +255,7 @@ impl Replica {
         ensures rest { self.new ≡ record self.old { heap = record self.old.heap { blocks = self.new.heap.blocks } } }
         ensures meaning { KeepsMeaning self.old self.new }
         ensures reach { KeepsReach self.old self.new }
+        ensures names { KeepsNames self.old self.new }
     {
         let Word { kind, word } = self.word(v);
         let Some(found) = self.find(name) else {
@@ -291,6 +293,7 @@ impl Replica {
         ensures err_slots { OnErr result (self.new.slots ≡ self.old.slots) }
         ensures meaning { KeepsMeaning self.old self.new }
         ensures reach { KeepsReach self.old self.new }
+        ensures names { KeepsNames self.old self.new }
     {
         self.directory.reserve(1)?;
         let address = self.segments.place(bunch, size)?;
