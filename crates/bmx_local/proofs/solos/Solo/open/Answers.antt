@@ -1,0 +1,28 @@
+use Rattle.std.proofs.Common.{◌≡◌, ◌+◌, ◌<◌, ◌==◌, ◌∷◌, [], ℕ, List, Option, Some, None, cond, replicate, refl, sym, ap, ◌∙◌, subst, arith}
+use Rattle.std.specs.Map.{lookup}
+use Rattle.bmx_types.specs.declared.values.Val.TheVariants as val
+use Rattle.bmx_graph.specs.Graphs.{same_name}
+use Rattle.bmx_graph.proofs.States.{get_or-same}
+use Rattle.bmx_replica.specs.declared.words.Word.{Word}
+use Rattle.bmx_replica.specs.Replicas.{Holding, blank_entry, Puts}
+use Rattle.bmx_local.specs.Locals.{word_of, null_word}
+use Rattle.bmx_local.specs.Solos.{graph_of, IsSolo, value_at}
+use Rattle.bmx_local.proofs.Shown.{graph_of-from, same_cond}
+use Rattle.bmx_local.proofs.Opened.{opened, born, null_register}
+use Rattle.bmx_local.proofs.solos.Solo.open.Goals as goal
+
+pub returns-clause-graph : goal.returns-clause-graph
+unfolding graph_of
+returns-clause-graph c =
+    let made = c.in-Ok.ensures.made in
+    graph_of-from (record { local = record { replica = c.make.new.self; registers = c.new.result }; held = c.new-2.result; made = 1 }) _
+    (born c.new-replica.result c.make.new.self c.anchor.result c.bunch.result made.at c.new-replica.ensures.slots c.anchor.ensures made.entry)
+    (λ m r. ap (λ v. cond (m == 0) v val.Null) (null_register c.make.new.self c.new.result r c.new.ensures) ∙ same_cond (m == 0) val.Null)
+    (λ m q. ap (λ es. cond (m == 0) (lookup (same_name q) es) None) c.new-2.ensures.empty ∙ same_cond (m == 0) None)
+    (λ m. refl)
+
+pub returns-clause-node : goal.returns-clause-node
+unfolding IsSolo
+returns-clause-node c =
+    let made = c.in-Ok.ensures.made in
+    opened c.new-replica.result c.make.new.self c.new.result c.anchor.result c.bunch.result made.at c.new-replica.ensures.slots c.anchor.ensures made.entry c.new.ensures

@@ -1,0 +1,10 @@
+//! One node whole: its objects in a heap of words, its registers as words, and the tokens that it holds.
+//! It answers a program's commands as the plain graph does.
+#![tactic(auto)]
+
+mod locals;
+mod rules;
+mod solos;
+
+pub use locals::Local;
+pub use solos::Solo;
