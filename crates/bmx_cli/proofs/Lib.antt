@@ -1,3 +1,4 @@
-pub mod Anchors
-pub mod Steps
-pub mod Writing
+mod Telling
+mod OneNode
+mod Steps
+mod Writing

@@ -7,7 +7,6 @@ use Rattle.std.specs.List.{cons_option}
 use Rattle.bmx_types.specs.Integers.{is_i64}
 use Rattle.bmx_types.specs.declared.commands.Operand.{Operand}
 use Rattle.bmx_types.specs.declared.commands.Operand.TheVariants as operand
-use Rattle.bmx_graph.specs.Graphs.{state_of, IsOperand, HasRegisters}
 use Rattle.bmx_script.specs.declared.knowledge.Known.{Known}
 use Rattle.bmx_script.specs.declared.lines.Line.{Line}
 use Rattle.bmx_script.specs.declared.lines.LineKind.{LineKind}
@@ -16,9 +15,8 @@ use Rattle.bmx_script.specs.Grammar.{fits_operand, fits_command, in_range, known
 use Rattle.bmx_cli.specs.declared.runs.Step.{Step}
 use Rattle.bmx_cli.specs.declared.runs.Runner.{Runner}
 use Rattle.bmx_cli.specs.Texts.{answer_line, step_text, text_of}
-use Rattle.bmx_cli.specs.Runs.{AreAnswers, Order, order_of, program, done_by, act_of, opening_of, anchors, Follows, Runs}
-use Rattle.bmx_cli.proofs.Anchors.{length-anchors}
-use Rattle.bmx_cli.specs.Progress.{FitsLine, HasNames, SameSteps, Acts, GoesBy, Goes, IsAt}
+use Rattle.bmx_cli.specs.Runs.{Order, order_of, program, done_by, act_of, opening_of, graph_after, anchors, anchor_birth, Follows, Runs}
+use Rattle.bmx_cli.specs.Progress.{IsReady, SameSteps, Acts, GoesBy, Goes, IsAt, IsStopped}
 use Rattle.bmx_types.specs.declared.values.Val.{Val}
 use Rattle.bmx_types.specs.declared.values.Val.TheVariants as val
 use Rattle.bmx_types.specs.declared.commands.Command.{Command}
@@ -27,12 +25,43 @@ use Rattle.bmx_types.specs.declared.numbers.Mode.{Mode}
 use Rattle.bmx_graph.specs.declared.answers.Answer.{Answer}
 use Rattle.bmx_graph.specs.declared.answers.Answer.TheVariants as answer
 use Rattle.bmx_types.specs.declared.openings.Birth.{Birth}
-use Rattle.bmx_graph.specs.declared.graphs.Graph.{Graph}
+use Rattle.bmx_local.specs.declared.solos.Solo.{Solo}
+use Rattle.bmx_local.specs.Solos.{graph_of, IsSolo, is_full, answer_at}
+use Rattle.bmx_types.specs.declared.commands.Refusal.TheVariants as refusal
 use Rattle.bmx_graph.specs.State.{State, opening_state}
-use Rattle.bmx_graph.specs.Step.{Act, answer_of, state_after, state_after_all, effect_of, with_held, with_field, got, raised, raised_to, target_of, field_at, sum_of, value_of}
+use Rattle.bmx_graph.specs.Step.{Act, IsAnswer, MayAnswer, answer_of, state_after, state_after_all, IsRun, effect_of, with_held, with_field, got, raised, raised_to, target_of, field_at, sum_of, value_of}
+
+-- the graph's own answer may be given
+pub may_self : (c : Command) (a : Answer) → MayAnswer c a a
+may_self (command.New r b s) answer.Nil = refl
+may_self (command.New r b s) (answer.Value v) = refl
+may_self (command.New r b s) answer.Yes = refl
+may_self (command.New r b s) answer.No = refl
+may_self (command.New r b s) answer.Wait = refl
+may_self (command.New r b s) (answer.Refused why) = refl
+may_self (command.Copy r v) a = refl
+may_self (command.Drop r) a = refl
+may_self (command.Read on) answer.Nil = refl
+may_self (command.Read on) (answer.Value v) = refl
+may_self (command.Read on) answer.Yes = refl
+may_self (command.Read on) answer.No = refl
+may_self (command.Read on) answer.Wait = refl
+may_self (command.Read on) (answer.Refused why) = refl
+may_self (command.Write on) answer.Nil = refl
+may_self (command.Write on) (answer.Value v) = refl
+may_self (command.Write on) answer.Yes = refl
+may_self (command.Write on) answer.No = refl
+may_self (command.Write on) answer.Wait = refl
+may_self (command.Write on) (answer.Refused why) = refl
+may_self (command.Done on) a = refl
+may_self (command.Set on i v) a = refl
+may_self (command.Add on i k) a = refl
+may_self (command.Get r on i) a = refl
+may_self (command.Show on i) a = refl
+may_self (command.Same l r) a = refl
 
 -- a run goes on by an act
-pub run_push : (s : State) (acts : List Act) (a : Act) → AreAnswers s acts → a.answer ≡ answer_of (state_after_all s acts) a.node a.command → AreAnswers s (acts ++ a ∷ [])
+pub run_push : (s : State) (acts : List Act) (a : Act) → IsRun s acts → IsAnswer (state_after_all s acts) a.node a.command a.answer → IsRun s (acts ++ a ∷ [])
 run_push s [] a run here = (here, tt)
 run_push s (b ∷ acts) a run here = (run.0, run_push (state_after s b.node b.command b.answer) acts a run.1 here)
 
@@ -93,52 +122,6 @@ made_after s n c (answer.Value v) m = made_effect s n c m
 made_after s n c answer.Yes m = made_effect s n c m
 made_after s n c answer.No m = made_effect s n c m
 
--- the command of a line in its range names registers that there are
-fits_on : (k : ℕ) (o : Operand) → fits_operand k o ≡ true → IsOperand o
-fits_on k (operand.Register r) h = ltb-true r 16 h
-fits_on k (operand.Anchor b) h = tt
-fits_on k (operand.Int i) h = tt
-fits_on k operand.Null h = tt
-
-fits_registers : (k : ℕ) (c : Command) → fits_command k c ≡ true → HasRegisters c
-fits_registers k (command.New r b s) h = ltb-true r 16 (and_parts (nat_lt r 16) (nat_lt b k && nat_le s 32) h).0
-fits_registers k (command.Copy r v) h = let parts : (nat_lt r 16 ≡ true) × (fits_operand k v ≡ true) = and_parts (nat_lt r 16) (fits_operand k v) h in (ltb-true r 16 parts.0, fits_on k v parts.1)
-fits_registers k (command.Drop r) h = ltb-true r 16 h
-fits_registers k (command.Read on) h = fits_on k on h
-fits_registers k (command.Write on) h = fits_on k on h
-fits_registers k (command.Done on) h = fits_on k on h
-fits_registers k (command.Set on i v) h =
-    let parts : (fits_operand k on ≡ true) × ((nat_lt i 256 && fits_operand k v) ≡ true) = and_parts (fits_operand k on) (nat_lt i 256 && fits_operand k v) h in
-    (fits_on k on parts.0, fits_on k v (and_parts (nat_lt i 256) (fits_operand k v) parts.1).1)
-fits_registers k (command.Add on i z) h = fits_on k on (and_parts (fits_operand k on) (nat_lt i 256 && is_i64 z) h).0
-fits_registers k (command.Get r on i) h =
-    let parts : (nat_lt r 16 ≡ true) × ((fits_operand k on && nat_lt i 256) ≡ true) = and_parts (nat_lt r 16) (fits_operand k on && nat_lt i 256) h in
-    (ltb-true r 16 parts.0, fits_on k on (and_parts (fits_operand k on) (nat_lt i 256) parts.1).0)
-fits_registers k (command.Show on i) h = fits_on k on (and_parts (fits_operand k on) (nat_lt i 256) h).0
-fits_registers k (command.Same l r) h =
-    let parts : (fits_operand k l ≡ true) × (fits_operand k r ≡ true) = and_parts (fits_operand k l) (fits_operand k r) h in
-    (fits_on k l parts.0, fits_on k r parts.1)
-
-fits_what : (k : Known) (what : LineKind) → in_range k what ≡ true → FitsLine what
-fits_what k line.Version h = tt
-fits_what k (line.Nodes n) h = tt
-fits_what k (line.Bunch w f) h = tt
-fits_what k (line.Segments l) h = tt
-fits_what k (line.Table f t n fate) h = tt
-fits_what k (line.TablesLose e) h = tt
-fits_what k (line.Save b f) h = tt
-fits_what k line.Phase h = tt
-fits_what k line.Quiet h = tt
-fits_what k (line.Do n c) h = fits_registers (length k.bunches) c (and_parts (nat_lt n k.nodes) (fits_command (length k.bunches) c) h).1
-fits_what k (line.Collect n b) h = tt
-fits_what k (line.Sweep n) h = tt
-fits_what k line.Settle h = tt
-
-pub fits_at : (k : Known) (ls : List Line) (i : ℕ) (d : Line) → AreInOrder k ls → i < length ls → FitsLine (get_or ls i d).what
-fits_at k [] i d order below = absurd (omega arith)
-fits_at k (l ∷ ls) zero d order below = fits_what k l.what order.2
-fits_at k (l ∷ ls) (suc i) d order below = fits_at (known_after k l.what) ls i d order.3 (omega arith)
-
 cons_option-append : {A : Type 0} (o : Option A) (xs ys : List A) → cons_option o (xs ++ ys) ≡ cons_option o xs ++ ys
 cons_option-append None xs ys = refl
 cons_option-append (Some x) xs ys = refl
@@ -161,40 +144,63 @@ same_at lines done r m none one at = record {
   commands = at.commands ∙ sym (program-append done m ∙ ap (λ os. program done ++ os) none ∙ append-nil (program done));
   answers = at.answers;
   state = at.state;
+  solo = at.solo;
   text = at.text;
   printed = at.printed;
-  made = λ n. omega (arith, at.made n, length-append done m);
+  made = omega (arith, at.made, length-append done m);
 }
 
-acted_at : (lines done : List Line) (old new : Runner) (node number : ℕ) (c : Command) → IsAt lines done old → Acts old node number c new
-    → IsAt lines (done ++ record { number = number; what = line.Do node c } ∷ []) new
-acted_at lines done old new node number c at acts =
-    let step : Step = record { node = node; line = number; command = c; answer = acts.answer; printed = answer_line node number c acts.answer } in
+-- a node may answer as it does
+may_new : (r b size : ℕ) (full : Bool) → MayAnswer (command.New r b size) answer.Nil (cond full (answer.Refused refusal.Full) answer.Nil)
+may_new r b size true = tt
+may_new r b size false = refl
+
+may_answer : (n : Solo) (c : Command) → MayAnswer c (answer_of (graph_of n) 0 c) (answer_at n c)
+may_answer n (command.New r b size) = may_new r b size (is_full n.local.replica.heap b size)
+may_answer n (command.Copy r v) = refl
+may_answer n (command.Drop r) = refl
+may_answer n (command.Read on) = may_self (command.Read on) (answer_of (graph_of n) 0 (command.Read on))
+may_answer n (command.Write on) = may_self (command.Write on) (answer_of (graph_of n) 0 (command.Write on))
+may_answer n (command.Done on) = refl
+may_answer n (command.Set on i v) = refl
+may_answer n (command.Add on i k) = refl
+may_answer n (command.Get r on i) = refl
+may_answer n (command.Show on i) = refl
+may_answer n (command.Same l r) = refl
+
+acted_at : (lines done : List Line) (old new : Runner) (number : ℕ) (c : Command) → IsAt lines done old → Acts old 0 number c new
+    → IsAt lines (done ++ record { number = number; what = line.Do 0 c } ∷ []) new
+acted_at lines done old new number c at acts =
+    let a : Answer = acts.answer in
+    let step : Step = record { node = 0; line = number; command = c; answer = a; printed = answer_line 0 number c a } in
     let opened : State = opening_of lines in
-    let before : state_of old.graph ≡ state_after_all opened (map act_of old.history) = at.state in
-    let given : acts.answer ≡ answer_of (state_after_all opened (map act_of old.history)) node c = acts.answer_is ∙ ap (λ s. answer_of s node c) before in
+    let made : IsAnswer (graph_of old.node) 0 c a = subst (MayAnswer c (answer_of (graph_of old.node) 0 c)) (sym acts.answers.answer_is) (may_answer old.node c) in
+    let allowed : IsAnswer (state_after_all opened (map act_of old.history)) 0 c a = subst (λ (s : State). IsAnswer s 0 c a) at.state made in
     record {
       commands = ap (map done_by) acts.history ∙ map-push done_by old.history step ∙ ap (λ os. os ++ done_by step ∷ []) at.commands
-          ∙ sym (program-append done (record { number = number; what = line.Do node c } ∷ []));
-      answers = subst (λ (acts_now : List Act). AreAnswers opened acts_now) (sym (ap (map act_of) acts.history ∙ map-push act_of old.history step))
-          (run_push opened (map act_of old.history) (act_of step) at.answers given);
-      state = acts.graph ∙ ap (λ s. state_after s node c acts.answer) before ∙ sym (state_push opened (map act_of old.history) (act_of step))
+          ∙ sym (program-append done (record { number = number; what = line.Do 0 c } ∷ []));
+      answers = subst (λ (acts_now : List Act). IsRun opened acts_now) (sym (ap (map act_of) acts.history ∙ map-push act_of old.history step))
+          (run_push opened (map act_of old.history) (act_of step) at.answers allowed);
+      state = acts.answers.graph ∙ ap (λ s. state_after s 0 c a) at.state ∙ sym (state_push opened (map act_of old.history) (act_of step))
           ∙ ap (state_after_all opened) (sym (ap (map act_of) acts.history ∙ map-push act_of old.history step));
-      text = acts.text ∙ ap (λ t. t ++ step_text step) at.text ∙ sym (ap text_of acts.history ∙ text-push old.history step);
+      solo = acts.answers.solo;
+      text = acts.answers.text ∙ ap (λ t. t ++ step_text step) at.text ∙ sym (ap text_of acts.history ∙ text-push old.history step);
       printed = ap (map (λ s. s.printed)) acts.history ∙ map-push (λ s. s.printed) old.history step ∙ ap (λ ts. ts ++ step.printed ∷ []) at.printed
           ∙ sym (ap (map step_text) acts.history ∙ map-push step_text old.history step);
-      made = λ n. omega (
+      made = omega (
         arith,
-        at.made n,
-        made_after (state_of old.graph) node c acts.answer n,
-        ap (λ s. s.made n) acts.graph,
-        length-append done (record { number = number; what = line.Do node c } ∷ []),
+        at.made,
+        made_after (graph_of old.node) 0 c a 0,
+        ap (λ s. s.made 0) acts.answers.graph,
+        length-append done (record { number = number; what = line.Do 0 c } ∷ []),
       );
     }
 
 by_what : (lines done : List Line) (old new : Runner) (number : ℕ) (what : LineKind) → IsAt lines done old → GoesBy old number what new
     → IsAt lines (done ++ record { number = number; what = what } ∷ []) new
-by_what lines done old new number (line.Do node c) at goes = acted_at lines done old new node number c at goes
+by_what lines done old new number (line.Do node c) at goes =
+    subst (λ (n : ℕ). IsAt lines (done ++ record { number = number; what = line.Do n c } ∷ []) new) (sym goes.node_is)
+    (acted_at lines done old new number c at (subst (λ (n : ℕ). Acts old n number c new) goes.node_is goes))
 by_what lines done old new number line.Version at goes = subst (IsAt lines _) (sym goes) (same_at lines done old _ refl refl at)
 by_what lines done old new number (line.Nodes n) at goes = subst (IsAt lines _) (sym goes) (same_at lines done old _ refl refl at)
 by_what lines done old new number (line.Bunch w f) at goes = subst (IsAt lines _) (sym goes) (same_at lines done old _ refl refl at)
@@ -212,12 +218,17 @@ by_what lines done old new number line.Settle at goes = subst (IsAt lines _) (sy
 pub goes_on : (lines done : List Line) (old new : Runner) (l : Line) → IsAt lines done old → Goes old l new → IsAt lines (done ++ l ∷ []) new
 goes_on lines done old new l at goes = by_what lines done old new l.number l.what at goes
 
-pub names_at : (lines done : List Line) (r : Runner) → length done ≤ 20000 → IsAt lines done r → HasNames r
-names_at lines done r few at n = omega (arith, at.made n)
+-- the node can make another name
+pub ready_at : (lines done : List Line) (r : Runner) → length done ≤ 20000 → IsAt lines done r → IsReady r
+unfolding graph_of
+ready_at lines done r few at = record { solo = at.solo; names = omega (arith, few, at.made) }
 
 -- the run is at its end
 pub ended : (lines : List Line) (r : Runner) → IsAt lines lines r → Runs lines r.history × (r.text ≡ text_of r.history)
 ended lines r at = (record { commands = at.commands; answers = at.answers; printed = at.printed }, at.text)
+
+pub ended_node : (lines : List Line) (r : Runner) → IsAt lines lines r → IsStopped lines r
+ended_node lines r at = record { state = at.state; solo = at.solo }
 
 -- the run stops before a line
 pub stopped : (lines done rest : List Line) (old new : Runner) → done ++ rest ≡ lines → IsAt lines done old → SameSteps old new → Follows lines new.history × (new.text ≡ text_of new.history)
@@ -225,26 +236,30 @@ stopped lines done rest old new all at same = (
   record {
     rest = program rest;
     commands = ap (λ h. map done_by h ++ program rest) same.history ∙ ap (λ os. os ++ program rest) at.commands ∙ sym (program-append done rest) ∙ ap program all;
-    answers = subst (λ (h : List Step). AreAnswers (opening_of lines) (map act_of h)) (sym same.history) at.answers;
+    answers = subst (λ (h : List Step). IsRun (opening_of lines) (map act_of h)) (sym same.history) at.answers;
     printed = subst (λ (h : List Step). map (λ s. s.printed) h ≡ map step_text h) (sym same.history) at.printed;
   },
-  same.text ∙ at.text ∙ ap text_of (sym same.history),
+  same.node.text ∙ at.text ∙ ap text_of (sym same.history),
 )
 
-made_first : (births : List Birth) (n : ℕ) → length births ≤ 16 → (opening_state births).made n ≤ 16
-made_first births n few = either (n == 0)
-  where
-    either : (b : Bool) → cond b (length births) 0 ≤ 16
-    either true = omega arith
-    either false = omega arith
+pub stopped_node : (lines done : List Line) (old new : Runner) → IsAt lines done old → SameSteps old new → IsStopped lines new
+stopped_node lines done old new at same = record {
+  state = same.node.graph ∙ at.state ∙ ap (graph_after lines) (sym same.history);
+  solo = same.node.solo;
+}
 
 -- the run before its first line
-pub started : (lines : List Line) (g : Graph) → length (bunches_of lines) ≤ 16 → state_of g ≡ opening_of lines → IsAt lines [] (record { graph = g; history = []; text = [] })
-started lines g few opened = record {
+pub started : (lines : List Line) (n : Solo) → IsSolo n → graph_of n ≡ opening_of lines → (opening_of lines).made 0 ≤ 1 → IsAt lines [] (record { node = n; history = []; text = [] })
+started lines n solo opened few = record {
   commands = refl;
   answers = tt;
   state = opened;
+  solo = solo;
   text = refl;
   printed = refl;
-  made = λ n. omega (arith, ap (λ s. s.made n) opened, made_first (anchors 0 (length (bunches_of lines))) n (omega (arith, length-anchors 0 (length (bunches_of lines)))));
+  made = omega (arith, ap (λ s. s.made 0) opened, few);
 }
+
+-- what a script of one bunch opens with
+pub one_anchor : (lines : List Line) → length (bunches_of lines) ≡ 1 → opening_state (anchor_birth 0 ∷ []) ≡ opening_of lines
+one_anchor lines one = ap (λ k. opening_state (anchors 0 k)) (sym one)

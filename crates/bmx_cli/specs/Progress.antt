@@ -2,9 +2,8 @@
 use Rattle.std.specs.Prelude.{◌≡◌, ℕ, ◌+◌, ◌-◌, ◌^◌, ◌<◌, ◌≤◌, List, [], ◌∷◌, ◌++◌, length, map, Option, Some, None}
 use Rattle.bmx_types.specs.declared.commands.Command.{Command}
 use Rattle.bmx_graph.specs.declared.answers.Answer.{Answer}
-use Rattle.bmx_graph.specs.State.{State}
-use Rattle.bmx_graph.specs.Step.{answer_of, state_after, state_after_all}
-use Rattle.bmx_graph.specs.Graphs.{state_of, HasRegisters}
+use Rattle.bmx_graph.specs.Step.{state_after, IsRun}
+use Rattle.bmx_local.specs.Solos.{graph_of, IsSolo, FitsCommand, answer_at}
 use Rattle.bmx_script.specs.declared.lines.Line.{Line}
 use Rattle.bmx_script.specs.declared.lines.LineKind.{LineKind}
 use Rattle.bmx_script.specs.declared.lines.LineKind.TheVariants as line
@@ -13,29 +12,46 @@ use Rattle.bmx_cli.specs.declared.runs.Runner.{Runner}
 use Rattle.bmx_cli.specs.declared.runs.RunEnd.{RunEnd}
 use Rattle.bmx_cli.specs.declared.runs.RunEnd.TheVariants as end
 use Rattle.bmx_cli.specs.Texts.{answer_line, step_text, text_of}
-use Rattle.bmx_cli.specs.Runs.{program, done_by, act_of, opening_of, AreAnswers, Follows, Runs}
+use Rattle.bmx_cli.specs.Runs.{Order, order_of, program, done_by, act_of, opening_of, graph_after, Follows, Runs}
 
--- the registers of a line's command are of the 16
+-- a command is node 0's, of the one bunch, with registers that there are
+abbrev pub FitsOrder : ℕ → Command → Type 0
+FitsOrder node command = (node ≡ 0) × FitsCommand command
+
 abbrev pub FitsLine : LineKind → Type 0
-FitsLine (line.Do node command) = HasRegisters command
+FitsLine (line.Do node command) = FitsOrder node command
 FitsLine what = Unit {0}
 
--- each node can make another name
-abbrev pub HasNames : Runner → Type 0
-HasNames r = (n : ℕ) → (state_of r.graph).made n < 2 ^ 56 - 1
+-- the node is whole, and can make another name
+pub record IsReady (r : Runner) : Type 0 where
+  pub solo : IsSolo r.node
+  pub names : r.node.made < 2 ^ 56 - 1
 
--- the same steps and text
-pub record SameSteps (old new : Runner) : Type 0 where
-  pub history : new.history ≡ old.history
+-- the node shows the same graph, and the text is the same
+pub record SameNode (old new : Runner) : Type 0 where
+  pub graph : graph_of new.node ≡ graph_of old.node
+  pub solo : IsSolo new.node
   pub text : new.text ≡ old.text
 
--- a command of a node was done, with the graph's answer
-pub record Acts (old : Runner) (node number : ℕ) (command : Command) (new : Runner) : Type 0 where
-  pub answer : Answer
-  pub answer_is : answer ≡ answer_of (state_of old.graph) node command
-  pub graph : state_of new.graph ≡ state_after (state_of old.graph) node command answer
-  pub history : new.history ≡ old.history ++ record { node = node; line = number; command = command; answer = answer; printed = answer_line node number command answer } ∷ []
+-- the same steps besides
+pub record SameSteps (old new : Runner) : Type 0 where
+  pub history : new.history ≡ old.history
+  pub node : SameNode old new
+
+-- the node answered a command, and the line that this prints was added to the text
+pub record Answers (old : Runner) (node number : ℕ) (command : Command) (answer : Answer) (printed : List ℕ) (new : Runner) : Type 0 where
+  pub answer_is : answer ≡ answer_at old.node command
+  pub graph : graph_of new.node ≡ state_after (graph_of old.node) 0 command answer
+  pub solo : IsSolo new.node
+  pub printed_is : printed ≡ answer_line node number command answer
   pub text : new.text ≡ old.text ++ answer_line node number command answer
+
+-- a command of a node was done, with the node's answer
+pub record Acts (old : Runner) (node number : ℕ) (command : Command) (new : Runner) : Type 0 where
+  pub node_is : node ≡ 0
+  pub answer : Answer
+  pub answers : Answers old node number command answer (answer_line node number command answer) new
+  pub history : new.history ≡ old.history ++ record { node = node; line = number; command = command; answer = answer; printed = answer_line node number command answer } ∷ []
 
 -- a line was gone over
 abbrev pub GoesBy : Runner → ℕ → LineKind → Runner → Type 0
@@ -48,11 +64,17 @@ Goes old l new = GoesBy old l.number l.what new
 -- the commands of these lines are done, of all lines of the script
 pub record IsAt (lines done : List Line) (r : Runner) : Type 0 where
   pub commands : map done_by r.history ≡ program done
-  pub answers : AreAnswers (opening_of lines) (map act_of r.history)
-  pub state : state_of r.graph ≡ state_after_all (opening_of lines) (map act_of r.history)
+  pub answers : IsRun (opening_of lines) (map act_of r.history)
+  pub state : graph_of r.node ≡ graph_after lines r.history
+  pub solo : IsSolo r.node
   pub text : r.text ≡ text_of r.history
   pub printed : map (λ s. s.printed) r.history ≡ map step_text r.history
-  pub made : (n : ℕ) → (state_of r.graph).made n ≤ 16 + length done
+  pub made : (graph_of r.node).made 0 ≤ 1 + length done
+
+-- the node means the graph after the history
+pub record IsStopped (lines : List Line) (r : Runner) : Type 0 where
+  pub state : graph_of r.node ≡ graph_after lines r.history
+  pub solo : IsSolo r.node
 
 -- how the run of a script ended
 abbrev pub IsEnd : List Line → List Step → List ℕ → RunEnd → Type 0

@@ -6,7 +6,7 @@ use Rattle.bmx_types.specs.declared.values.Val.TheVariants as val
 use Rattle.bmx_types.specs.declared.openings.Birth.{Birth}
 use Rattle.bmx_types.specs.declared.commands.Command.{Command}
 use Rattle.bmx_graph.specs.State.{State, opening_state}
-use Rattle.bmx_graph.specs.Step.{Act, answer_of, state_after}
+use Rattle.bmx_graph.specs.Step.{Act, IsRun, state_after_all}
 use Rattle.bmx_script.specs.declared.lines.Line.{Line}
 use Rattle.bmx_script.specs.declared.lines.LineKind.{LineKind}
 use Rattle.bmx_script.specs.declared.lines.LineKind.TheVariants as line
@@ -50,21 +50,20 @@ anchors from (suc n) = anchor_birth from ∷ anchors (from + 1) n
 abbrev pub opening_of : List Line → State
 opening_of lines = opening_state (anchors 0 (length (bunches_of lines)))
 
--- acts are answered as the graph answers them, one after another
-abbrev pub AreAnswers : State → List Act → Type 0
-AreAnswers s [] = Unit {0}
-AreAnswers s (a ∷ acts) = (a.answer ≡ answer_of s a.node a.command) × AreAnswers (state_after s a.node a.command a.answer) acts
+-- the graph after a history of a script
+abbrev pub graph_after : List Line → List Step → State
+graph_after lines steps = state_after_all (opening_of lines) (map act_of steps)
 
 -- the history has the first commands of the script, each once and in order, answered as the graph does, each
 -- with what it prints
 pub record Follows (lines : List Line) (steps : List Step) : Type 0 where
   pub rest : List Order
   pub commands : map done_by steps ++ rest ≡ program lines
-  pub answers : AreAnswers (opening_of lines) (map act_of steps)
+  pub answers : IsRun (opening_of lines) (map act_of steps)
   pub printed : map (λ s. s.printed) steps ≡ map step_text steps
 
 -- it has all of them
 pub record Runs (lines : List Line) (steps : List Step) : Type 0 where
   pub commands : map done_by steps ≡ program lines
-  pub answers : AreAnswers (opening_of lines) (map act_of steps)
+  pub answers : IsRun (opening_of lines) (map act_of steps)
   pub printed : map (λ s. s.printed) steps ≡ map step_text steps

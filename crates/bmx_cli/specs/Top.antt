@@ -1,7 +1,11 @@
 -- What the program answers, and why.
-use Rattle.std.specs.Prelude.{◌≡◌, ℕ, ◌+◌, ◌^◌, true, false, List, [], Option, Some, None, Ok, Err, length, take, drop, IfSome}
+use Rattle.std.specs.Prelude.{◌≡◌, ℕ, ◌+◌, ◌^◌, ◌==◌, Bool, true, false, List, [], Option, Some, None, Result, Ok, Err, length, take, drop, IfSome}
+use Rattle.std.specs.Option.{option_map_or}
+use Rattle.std.specs.List.{position_from}
 use Rattle.std.specs.Io.KnownBytes.{Appends}
 use Rattle.bmx_outside.specs.Streams.{AppendsPart}
+use Rattle.bmx_outside.specs.declared.sinks.SinkError.{SinkError}
+use Rattle.bmx_outside.specs.declared.sinks.SinkError.TheVariants as fault
 use Rattle.bmx_script.specs.Grammar.{IsReading}
 use Rattle.bmx_cli.specs.declared.runs.Run.{Run}
 use Rattle.bmx_cli.specs.declared.runs.RunEnd.{RunEnd}
@@ -9,7 +13,8 @@ use Rattle.bmx_cli.specs.declared.runs.RunEnd.TheVariants as end
 use Rattle.bmx_cli.specs.declared.statuses.Status.{Status}
 use Rattle.bmx_cli.specs.declared.statuses.Status.TheVariants as status
 use Rattle.bmx_cli.specs.Texts.{text_of, has_refusal}
-use Rattle.bmx_cli.specs.Runs.{Follows, Runs}
+use Rattle.bmx_local.specs.Locals.{MeansGraph}
+use Rattle.bmx_cli.specs.Runs.{Follows, Runs, graph_after}
 use Rattle.bmx_cli.specs.Words.{misfit_in}
 
 -- how many bytes of a script are read at most: one more than a script may have
@@ -25,12 +30,13 @@ abbrev pub IsRead : Option (List ℕ) → Option (List ℕ) → Type 0
 IsRead left left_now = IfSome left (λ all. left_now ≡ Some (drop read_limit all))
 
 -- the words are right, and a run was made of the script that the bytes spell, as far as it went: its
--- history has the first commands of the script, answered as the graph does, and its text is what that
--- history prints
+-- history has the first commands of the script, answered as the graph does, its nodes mean the graph
+-- after that history, and its text is what that history prints
 pub record IsPart (words : List (List ℕ)) (bytes : List ℕ) (run : Run) : Type 0 where
   pub usage : misfit_in words ≡ None
   pub script : IsReading bytes (Ok run.script)
   pub history : Follows run.script run.history
+  pub nodes : MeansGraph run.nodes (graph_after run.script run.history)
   pub text : run.text ≡ text_of run.history
 
 -- the same of the whole script
@@ -38,7 +44,20 @@ pub record IsWhole (words : List (List ℕ)) (bytes : List ℕ) (run : Run) : Ty
   pub usage : misfit_in words ≡ None
   pub script : IsReading bytes (Ok run.script)
   pub history : Runs run.script run.history
+  pub nodes : MeansGraph run.nodes (graph_after run.script run.history)
   pub text : run.text ≡ text_of run.history
+
+-- how long the first line of a text is, with its line feed (the byte 10)
+abbrev pub line_length : List ℕ → ℕ
+line_length text = option_map_or (λ at. at + 1) (position_from (λ c. c == 10) 0 text) (length text)
+
+-- how the program ends: by how the run ended, how its text was written, and whether a command was refused
+abbrev pub status_after : RunEnd → Result (Unit {0}) SinkError → Bool → Status
+status_after end.NoMemory wrote refused = status.NoMemory
+status_after end.Ended (Ok done) true = status.SomeRefused
+status_after end.Ended (Ok done) false = status.Done
+status_after end.Ended (Err fault.Failed) refused = status.WriteFault
+status_after end.Ended (Err fault.NoMemory) refused = status.NoMemory
 
 -- a part of the text was written, from its front, or all of it
 abbrev pub WritesFront : Option (List ℕ) → Option (List ℕ) → List ℕ → Type 0

@@ -1,21 +1,15 @@
 ghost use Rattle.std.specs.Prelude.{◌≡◌, ◌-◌, ◌<◌, [], ◌∷◌, ◌++◌, if◌then◌else◌, is_ok, length, take, IfOk, OnOk, OnErr};
-ghost use Rattle.bmx_types.specs.Words.{anchor_of};
-ghost use Rattle.bmx_graph.specs.Graphs.{HasRegisters};
-ghost use Rattle.bmx_script.specs.Grammar.{AreScript, bunches_of};
-ghost use Rattle.bmx_cli.specs.Runs.{anchors, anchor_birth};
+ghost use Rattle.bmx_script.specs.Grammar.{AreScript};
+ghost use Rattle.bmx_local.specs.Locals.{MeansGraph};
+ghost use Rattle.bmx_cli.specs.Runs.{graph_after};
 ghost use Rattle.bmx_cli.specs.Texts.{shown_of, has_refusal as has_refusal_lem, is_refusal as is_refusal_lem};
-ghost use Rattle.bmx_cli.specs.Progress.{IsAt, IsEnd, FitsLine, HasNames, Goes, Acts, SameSteps};
+ghost use Rattle.bmx_cli.specs.Progress.{IsAt, IsEnd, FitsLine, FitsOrder, IsReady, Goes, Acts, Answers, SameNode, SameSteps, IsStopped};
 
-use bmx_graph::{Answer, Graph};
+use bmx_graph::Answer;
+use bmx_local::{Local, Solo};
 use bmx_script::{Line, LineKind, Script, Shown, print_line};
-use bmx_types::{Birth, BunchNo, Command, Items, Name, NoMemory, NodeNo, Opening, Text, Val};
+use bmx_types::{Command, Items, NoMemory, NodeNo, Text};
 use std::alloc::Global;
-
-/// How many segments a node may make unless the script says another number.
-const SEGMENTS: u32 = 4096;
-
-/// How many fields the anchor of a bunch has.
-const ANCHOR_FIELDS: u8 = 32;
 
 /// A command that a node did, the number of its line, what it was answered, and what that prints: a line
 /// with its line feed, or nothing.
@@ -31,11 +25,12 @@ pub struct Step {
 /// Steps in the order in which they were made.
 pub type History = Items<Step>;
 
-/// A run of a script: its steps so far, and what they print.
-#[derive(Debug, Drop)]
+/// A run of a script: its steps so far, what the node has after them, and what they print.
+#[derive(Drop)]
 pub struct Run {
     pub script: Script,
     pub history: History,
+    pub nodes: Local,
     pub text: Text,
 }
 
@@ -49,72 +44,39 @@ pub enum RunEnd {
 }
 
 /// Runs a script, each command once and in order. An Err comes only before the first command; a run
-/// that finds no memory later ends there, with its whole steps. Each command costs O(1).
+/// that finds no memory later ends there, with its whole steps. Each command costs O(1), but for the
+/// fields of a new object and for finding segments.
 pub fn run_script(alloc: Global, script: Script) -> Result<(Run, RunEnd), NoMemory>
-    ensures { IfOk result (λ r. (r.0.script ≡ script) × IsEnd r.0.script r.0.history r.0.text r.1) }
+    ensures end { IfOk result (λ r. (r.0.script ≡ script) × IsEnd r.0.script r.0.history r.0.text r.1) }
+    ensures nodes { IfOk result (λ r. MeansGraph r.0.nodes (graph_after r.0.script r.0.history)) }
 {
-    let opening = opening_of(alloc, &script)?;
     let mut runner = Runner {
-        graph: Graph::open(alloc, &opening)?,
+        node: Solo::open(alloc, script.limit())?,
         history: Items::new(alloc),
         text: Text::new(alloc),
     };
     let end = runner.run(alloc, script.lines().as_slice());
-    let Runner { history, text, .. } = runner;
+    let Runner {
+        node,
+        history,
+        text,
+    } = runner;
+    let nodes = node.into_local();
     Ok((
         Run {
             script,
             history,
+            nodes,
             text,
         },
         end,
     ))
 }
 
-/// What a script opens with: an anchor for each bunch.
-fn opening_of(alloc: Global, script: &Script) -> Result<Opening, NoMemory>
-    ensures { IfOk result (λ opening. opening.births ≡ anchors 0 (length (bunches_of script.now))) }
-{
-    let mut births = Items::new(alloc);
-    for bunch in 0..script.bunches().len() {
-        births.push(anchor(alloc, bunch as u8)?)?;
-    }
-    Ok(Opening {
-        nodes: script.nodes(),
-        limit: SEGMENTS,
-        births,
-    })
-}
-
-/// The anchor of a bunch.
-fn anchor(alloc: Global, bunch: u8) -> Result<Birth, NoMemory>
-    requires { bunch < 16 }
-    ensures { IfOk result (λ birth. birth ≡ anchor_birth bunch) }
-{
-    let mut fields = Items::new(alloc);
-    for _ in 0..ANCHOR_FIELDS {
-        fields.push(Val::Null)?;
-    }
-    Ok(Birth {
-        name: anchor_name(bunch),
-        bunch: BunchNo::new(bunch).unwrap(),
-        fields,
-    })
-}
-
-/// The name of the anchor of a bunch.
-fn anchor_name(bunch: u8) -> Name
-    requires { bunch < 16 }
-    ensures { result ≡ anchor_of bunch }
-{
-    let node = NodeNo::new(0).unwrap();
-    Name::new(node, u64::from(bunch) + 1).unwrap()
-}
-
 /// A run so far.
 #[derive(Drop)]
 struct Runner {
-    graph: Graph,
+    node: Solo,
     history: History,
     text: Text,
 }
@@ -124,7 +86,8 @@ impl Runner {
     fn run(&mut self, alloc: Global, lines: &[Line]) -> RunEnd
         requires script { AreScript lines.now }
         requires start { IsAt lines.now [] self.old }
-        ensures { IsEnd lines.now self.new.history self.new.text result }
+        ensures end { IsEnd lines.now self.new.history self.new.text result }
+        ensures stopped { IsStopped lines.now self.new }
     {
         for line in lines {
             match self.go_on(alloc, line) {
@@ -138,7 +101,7 @@ impl Runner {
     /// Does the command of a line, where it has one.
     fn go_on(&mut self, alloc: Global, line: &Line) -> Result<(), NoMemory>
         requires fits { FitsLine line.now.what }
-        requires names { HasNames self.old }
+        requires ready { IsReady self.old }
         ensures ok { OnOk result (Goes self.old line.now self.new) }
         ensures err { OnErr result (SameSteps self.old self.new) }
     {
@@ -148,7 +111,8 @@ impl Runner {
         }
     }
 
-    /// Does a node's command.
+    /// Does a node's command. Its step stands in the history first, so that no memory is wanting once the
+    /// node has changed.
     fn act(
         &mut self,
         alloc: Global,
@@ -156,41 +120,62 @@ impl Runner {
         line: u32,
         command: &Command,
     ) -> Result<(), NoMemory>
-        requires fits { HasRegisters command.now }
-        requires names { HasNames self.old }
+        requires fits { FitsOrder node command.now }
+        requires ready { IsReady self.old }
         ensures ok { OnOk result (Acts self.old node line command.now self.new) }
         ensures err { OnErr result (SameSteps self.old self.new) }
     {
-        let answer = self.graph.apply(node, command)?;
-        let printed = match shown(command, &answer) {
-            Some(shown) => print_line(alloc, node, line, &shown)?,
-            None => Text::new(alloc),
-        };
-        let text = printed.copy(alloc)?;
-        let command = *command;
         self.history.push(Step {
             node,
             line,
-            command,
-            answer,
-            printed,
+            command: *command,
+            answer: Answer::Nil,
+            printed: Text::new(alloc),
         })?;
-        push_text(&mut self.history, &mut self.text, &text)
-    }
-}
-
-/// Adds what the last step prints to the text, or takes the step back.
-fn push_text(history: &mut History, text: &mut Text, line: &Text) -> Result<(), NoMemory>
-    requires { 0 < length history.old }
-    ensures ok { OnOk result ((history.new ≡ history.old) × (text.new ≡ text.old ++ line.now)) }
-    ensures err { OnErr result ((history.new ≡ take (length history.old - 1) history.old) × (text.new ≡ text.old)) }
-{
-    match text.push_str(line.as_str()) {
-        Ok(()) => Ok(()),
-        Err(NoMemory) => {
-            drop_last(history);
-            Err(NoMemory)
+        let last = self.history.len() - 1;
+        match self.answer(alloc, node, line, command) {
+            Ok((answer, printed)) => {
+                let command = *command;
+                self.history.set(
+                    last,
+                    Step {
+                        node,
+                        line,
+                        command,
+                        answer,
+                        printed,
+                    },
+                );
+                Ok(())
+            }
+            Err(NoMemory) => {
+                drop_last(&mut self.history);
+                Err(NoMemory)
+            }
         }
+    }
+
+    /// What a node's command is answered, and what that prints, which is added to the text.
+    fn answer(
+        &mut self,
+        alloc: Global,
+        node: NodeNo,
+        line: u32,
+        command: &Command,
+    ) -> Result<(Answer, Text), NoMemory>
+        requires fits { FitsOrder node command.now }
+        requires ready { IsReady self.old }
+        ensures history { self.new.history ≡ self.old.history }
+        ensures ok { IfOk result (λ r. Answers self.old node line command.now r.0 r.1 self.new) }
+        ensures err { OnErr result (SameNode self.old self.new) }
+    {
+        let answer = self.node.step(command)?;
+        let Some(shown) = shown(command, &answer) else {
+            return Ok((answer, Text::new(alloc)));
+        };
+        let printed = print_line(alloc, node, line, &shown)?;
+        self.text.push_str(printed.as_str())?;
+        Ok((answer, printed))
     }
 }
 

@@ -1,8 +1,9 @@
-ghost use Rattle.std.specs.Prelude.{◌≡◌, ◌≤◌, ◌<◌, map, string_bytes, length, OnOk, OnErr, IsErrOf, None, Some};
+ghost use Rattle.std.specs.Prelude.{◌≡◌, ◌≤◌, ◌<◌, map, string_bytes, length, OnOk, OnErr, IsErrOf, None, Some, ◌==◌, IfSome};
+ghost use Rattle.std.specs.List.{position_from};
 ghost use Rattle.std.specs.Io.KnownBytes.{Appends};
 ghost use Rattle.bmx_outside.specs.Faults.{Rose};
 ghost use Rattle.bmx_outside.specs.Streams.{AppendsPart};
-ghost use Rattle.bmx_cli.specs.Top.{Explains, IsFirstOf, IsRead, Ends};
+ghost use Rattle.bmx_cli.specs.Top.{Explains, IsFirstOf, IsRead, Ends, status_after as status_after_lem, line_length as line_length_lem};
 
 use crate::runs::{Run, RunEnd, has_refusal, run_script};
 use crate::statuses::Status;
@@ -15,7 +16,7 @@ use std::alloc::Global;
 const READ_LIMIT: usize = (1 << 20) + 1;
 
 /// What the program answers: its status, and the run where one was made.
-#[derive(Debug, Drop)]
+#[derive(Drop)]
 pub struct Outcome {
     pub status: Status,
     pub run: Option<Run>,
@@ -65,10 +66,22 @@ fn written<K: Sink>(sink: &mut K, run: Run, end: RunEnd) -> Outcome
     ensures status { Ends run end (Rose (K.faults sink.old) (K.faults sink.new)) (K.out sink.old) (K.out sink.new) result.status }
 {
     let wrote = write_lines(sink, run.text.as_bytes());
-    let status = match (end, wrote) {
+    let status = status_after(end, wrote, has_refusal(&run.history));
+    Outcome {
+        status,
+        run: Some(run),
+    }
+}
+
+/// How the program ends: by how the run ended, how its text was written, and whether a command was
+/// refused.
+fn status_after(end: RunEnd, wrote: Result<(), SinkError>, refused: bool) -> Status
+    ensures { result ≡ status_after_lem end wrote refused }
+{
+    match (end, wrote) {
         (RunEnd::NoMemory, _) => Status::NoMemory,
         (RunEnd::Ended, Ok(())) => {
-            if has_refusal(&run.history) {
+            if refused {
                 Status::SomeRefused
             } else {
                 Status::Done
@@ -76,10 +89,6 @@ fn written<K: Sink>(sink: &mut K, run: Run, end: RunEnd) -> Outcome
         }
         (RunEnd::Ended, Err(SinkError::Failed)) => Status::WriteFault,
         (RunEnd::Ended, Err(SinkError::NoMemory)) => Status::NoMemory,
-    };
-    Outcome {
-        status,
-        run: Some(run),
     }
 }
 
@@ -102,10 +111,19 @@ fn write_lines<K: Sink>(sink: &mut K, text: &[u8]) -> Result<(), SinkError>
 /// How long the first line of a text is, with its line feed.
 fn line_length(text: &[u8]) -> usize
     requires { 0 < length text.now }
-    ensures { (0 < result) × (result ≤ length text.now) }
+    ensures value { result ≡ line_length_lem text.now }
+    ensures range { (0 < result) × (result ≤ length text.now) }
 {
-    match text.iter().position(|b| *b == b'\n') {
+    match line_feed_in(text) {
         Some(at) => at + 1,
         None => text.len(),
     }
+}
+
+/// Where the first line feed of a text stands.
+fn line_feed_in(text: &[u8]) -> Option<usize>
+    ensures found { result ≡ position_from (λ c. c == 10) 0 text.now }
+    ensures within { IfSome result (λ at. at < length text.now) }
+{
+    text.iter().position(|b| *b == b'\n')
 }

@@ -61,14 +61,14 @@ returns-in-Err-NoMemory-read_script g c = (
 pub returns-in-Ok-run_script : goal.returns-in-Ok-run_script
 returns-in-Ok-run_script g c =
     let read : IsReading c.in-Ok.bytes.items (Ok c.in-Ok-run_script.run'.script) =
-    subst (λ (s : _). IsReading c.in-Ok.bytes.items (Ok s)) (sym c.in-Ok-run_script.ensures.0)
+    subst (λ (s : _). IsReading c.in-Ok.bytes.items (Ok s)) (sym c.in-Ok-run_script.ensures.end.0)
     (subst (λ (bytes : List ℕ). IsReading bytes (Ok c.in-Ok-read_script.script)) c.as_slice.ensures.value c.in-Ok-read_script.ensures) in (
       c.in-Ok.bytes.items,
       c.in-Ok.ensures.bytes,
       subst (λ (r : Option Run). Explains (map string_bytes c.args.words.now) c.in-Ok.bytes.items (IsRead (g.S.Source.left c.args.source.now) (g.S.Source.left c.read_to_limit.new.source)) (Rose (g.S.Source.faults c.args.source.now) (g.S.Source.faults c.read_to_limit.new.source)) (Rose (g.K.Sink.faults c.args.sink.now) (g.K.Sink.faults c.written.new.sink)) (g.K.Sink.out c.args.sink.now) (g.K.Sink.out c.written.new.sink) c.written.result.status r)
           (sym c.written.ensures.run)
           (explained (map string_bytes c.args.words.now) c.in-Ok.bytes.items _ _ _ _ _ c.in-Ok-run_script.run' c.in-Ok-run_script.end c.written.result.status
-          c.in-Ok.ensures.left (sym c.misfit.ensures ∙ c.in_default.is) read c.in-Ok-run_script.ensures.1 c.written.ensures.status),
+          c.in-Ok.ensures.left (sym c.misfit.ensures ∙ c.in_default.is) read c.in-Ok-run_script.ensures.end.1 c.in-Ok-run_script.ensures.nodes c.written.ensures.status),
     )
 
 pub returns : goal.returns

@@ -8,7 +8,7 @@ use Rattle.bmx_cli.proofs.top.write_lines.Goals as goal
 
 pub loop-at-preserved : goal.loop-at-preserved
 loop-at-preserved g c =
-    let room : c.loop-at.at + c.line_length.result ≤ length c.args.text.now = omega (arith, c.line_length.ensures.1) in
+    let room : c.loop-at.at + c.line_length.result ≤ length c.args.text.now = omega (arith, c.line_length.ensures.range.1) in
     let piece : Appends (g.K.Sink.out c.loop-at.sink) (g.K.Sink.out c.write_all.new.sink) (take c.line_length.result (drop c.loop-at.at c.args.text.now)) =
     subst (λ (n : ℕ). Appends (g.K.Sink.out c.loop-at.sink) (g.K.Sink.out c.write_all.new.sink) (take n (drop c.loop-at.at c.args.text.now))) (add-sub_cancel_left c.loop-at.at c.line_length.result) c.in_ok-write_all.ensures.ok in
     record {
@@ -19,7 +19,7 @@ loop-at-preserved g c =
 
 pub returns-in_err-write_all-clause-err : goal.returns-in_err-write_all-clause-err
 returns-in_err-write_all-clause-err g c =
-    let room : c.loop-at.at + c.line_length.result ≤ length c.args.text.now = omega (arith, c.line_length.ensures.1) in
+    let room : c.loop-at.at + c.line_length.result ≤ length c.args.text.now = omega (arith, c.line_length.ensures.range.1) in
     let piece : AppendsPart (g.K.Sink.out c.loop-at.sink) (g.K.Sink.out c.write_all.new.sink) (take c.line_length.result (drop c.loop-at.at c.args.text.now)) =
     subst (λ (n : ℕ). AppendsPart (g.K.Sink.out c.loop-at.sink) (g.K.Sink.out c.write_all.new.sink) (take n (drop c.loop-at.at c.args.text.now))) (add-sub_cancel_left c.loop-at.at c.line_length.result) c.in_err-write_all.ensures.err in
     let all : AppendsPart (g.K.Sink.out c.args.sink.now) (g.K.Sink.out c.write_all.new.sink) c.args.text.now =

@@ -2,10 +2,10 @@ use Rattle.std.proofs.Common.{◌≡◌, ℕ, ◌+◌, ◌<◌, ◌≤◌, List,
 use Rattle.std.proofs.lemmas.List.{take_more, take-append-drop, length-take-le}
 use Rattle.bmx_script.specs.declared.lines.Line.{Line}
 use Rattle.bmx_script.specs.declared.lines.LineKind.{LineKind}
-use Rattle.bmx_script.specs.Grammar.{nothing_known}
 use Rattle.bmx_cli.specs.declared.runs.Runner.{Runner}
 use Rattle.bmx_cli.specs.Progress.{IsAt, FitsLine}
-use Rattle.bmx_cli.proofs.Steps.{fits_at, names_at, goes_on, stopped}
+use Rattle.bmx_cli.proofs.Steps.{ready_at, goes_on, stopped, stopped_node}
+use Rattle.bmx_cli.proofs.OneNode.{fits_at}
 use Rattle.bmx_cli.proofs.runs.Runner.run.Goals as goal
 
 pub go_on-requires : goal.go_on-requires
@@ -13,8 +13,8 @@ go_on-requires c =
     let below : c.loop-line.line-index < length c.args.lines.now = c.loop-line-test.true in
     let short : length (take c.loop-line.line-index c.args.lines.now) ≤ 20000 = omega (arith, length-take-le c.loop-line.line-index c.args.lines.now (omega arith), c.requires.script.few) in
     record {
-      fits = subst (λ (l : Line). FitsLine l.what) (sym c.line-item.is) (fits_at nothing_known c.args.lines.now c.loop-line.line-index c.line-item.result c.requires.script.order below);
-      names = names_at c.args.lines.now (take c.loop-line.line-index c.args.lines.now) c.loop-line.self short c.loop-line.invariant;
+      fits = subst (λ (l : Line). FitsLine l.what) (sym c.line-item.is) (fits_at c.args.lines.now c.loop-line.line-index c.line-item.result c.requires.script below);
+      ready = ready_at c.args.lines.now (take c.loop-line.line-index c.args.lines.now) c.loop-line.self short c.loop-line.invariant;
     }
 
 pub loop-line-preserved : goal.loop-line-preserved
@@ -24,6 +24,9 @@ loop-line-preserved c =
     subst (λ (ls : List Line). IsAt c.args.lines.now ls c.go_on.new.self) (sym more)
     (goes_on c.args.lines.now (take c.loop-line.line-index c.args.lines.now) c.loop-line.self c.go_on.new.self c.line-item.result c.loop-line.invariant c.in-Ok.ensures.ok)
 
-pub returns-in-Err : goal.returns-in-Err
-returns-in-Err c = stopped c.args.lines.now (take c.loop-line.line-index c.args.lines.now) (drop c.loop-line.line-index c.args.lines.now) c.loop-line.self c.go_on.new.self
+pub returns-in-Err-clause-end : goal.returns-in-Err-clause-end
+returns-in-Err-clause-end c = stopped c.args.lines.now (take c.loop-line.line-index c.args.lines.now) (drop c.loop-line.line-index c.args.lines.now) c.loop-line.self c.go_on.new.self
     (take-append-drop c.loop-line.line-index c.args.lines.now) c.loop-line.invariant c.in-Err.ensures.err
+
+pub returns-in-Err-clause-stopped : goal.returns-in-Err-clause-stopped
+returns-in-Err-clause-stopped c = stopped_node c.args.lines.now (take c.loop-line.line-index c.args.lines.now) c.loop-line.self c.go_on.new.self c.loop-line.invariant c.in-Err.ensures.err
