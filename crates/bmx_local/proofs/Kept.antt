@@ -1,6 +1,6 @@
 -- What a node keeps while an object of its replica changes or is new.
-use Rattle.std.proofs.Common.{◌≡◌, ◌⊎◌, ℕ, ◌+◌, ◌==◌, ◌<◌, ◌≤◌, Bool, true, false, cond, eqb, zero, suc, List, [], ◌∷◌, length, replicate, Option, Some, None, IsSome, is_some, slice_set, slice_get, unwrap_or, option_and_then, refl, sym, ap, ◌∙◌, subst, ⊎_elim, inl, inr, arith}
-use Rattle.std.proofs.lemmas.Bool.{cases_eq, eqb-true, eq-eqb, ne_eqb, cond-true, cond-false}
+use Rattle.std.proofs.Common.{◌≡◌, ◌⊎◌, ℕ, ◌+◌, ◌==◌, ◌<◌, ◌≤◌, Bool, true, false, cond, eqb, zero, suc, List, [], ◌∷◌, length, replicate, Option, Some, None, IsSome, slice_set, slice_get, unwrap_or, option_and_then, refl, sym, ap, ◌∙◌, subst, ⊎_elim, inl, inr, arith}
+use Rattle.std.proofs.lemmas.Bool.{cases_eq, eq-eqb, ne_eqb, cond-true, cond-false}
 use Rattle.std.proofs.lemmas.Option.{same_Some, cond_some, none-some}
 use Rattle.std.proofs.lemmas.List.{length-set}
 use Rattle.std.specs.Option.{option_map}
@@ -19,11 +19,11 @@ use Rattle.bmx_replica.specs.declared.words.Word.{Word}
 use Rattle.bmx_replica.specs.Chains.{name_at}
 use Rattle.bmx_replica.specs.Slots.{slot_of}
 use Rattle.bmx_replica.specs.Replicas.{KeepsNames, ReachesTarget}
-use Rattle.bmx_replica.specs.Replicas.{Holding, Entry, entry_of, entry_in, copy_of, field_of, value_in, word_in, values_of, with_value, HasTarget, IsField, Puts, KeepsReach, info_in}
+use Rattle.bmx_replica.specs.Replicas.{Holding, Entry, entry_of, entry_in, copy_of, field_of, value_in, word_in, values_of, HasTarget, IsField, Puts, KeepsReach, info_in}
 use Rattle.bmx_local.specs.declared.locals.Local.{Local}
 use Rattle.bmx_local.specs.declared.solos.Solo.{Solo}
 use Rattle.bmx_local.specs.Locals.{word_of, Holds}
-use Rattle.bmx_local.specs.Solos.{register_of, value_at, Keeps, graph_of}
+use Rattle.bmx_local.specs.Solos.{value_at, Keeps, graph_of}
 use Rattle.bmx_local.proofs.Shown.{cond_ap, word_put}
 
 -- ---- entries that are there
@@ -125,6 +125,7 @@ set_solo l made x w v words solo small is field holds held has =
       known = each (λ u. HasTarget r (value_at r u)) (subst (HasTarget r) (sym holds) has) solo.known;
       fresh = solo.fresh;
       anchor = solo.anchor;
+      bunches = solo.bunches;
     }
 
 pub got_word : (words : List Word) (i : ℕ) (w : Word) → slice_get words i ≡ Some w → word_of words i ≡ w
@@ -159,8 +160,9 @@ pub put_solo : (l : Local) (had : ℕ) (new : Holding) (name made : ℕ) (e : En
     → ((j : ℕ) (v : Val) → slice_get fields j ≡ Some v → HasTarget l.replica v)
     → had ≤ made → ((count : ℕ) → made < count → name ≡ name_word 0 count → ⊥)
     → KeepsReach l.replica new → KeepsNames l.replica new
+    → length new.heap.current ≡ length l.replica.heap.current
     → Keeps (record l { replica = new }) made
-put_solo l had new name made e fields solo puts is targets more fresh reach names =
+put_solo l had new name made e fields solo puts is targets more fresh reach names bunches =
     let old : Holding = l.replica in
     let word : ℕ → Word = word_of l.registers in
     let same : (r : ℕ) → value_at new (word r) ≡ value_at old (word r) = λ r. value_kept old new (kind_number (word r).kind) (word r).word names (solo.fields r) in
@@ -180,6 +182,7 @@ put_solo l had new name made e fields solo puts is targets more fresh reach name
       known = λ r. subst (HasTarget new) (sym (same r)) (target_kept old new name e (value_at old (word r)) puts (solo.known r));
       fresh = λ count above. puts (name_word 0 count) ∙ cond-false (name == name_word 0 count) (Some e) (entry_of old (name_word 0 count)) (ne_eqb name (name_word 0 count) (fresh count above)) ∙ solo.fresh count (omega (arith, more, above));
       anchor = entry_kept old new name (anchor_of 0) e puts solo.anchor;
+      bunches = bunches ∙ solo.bunches;
     }
 
 -- ---- a field is written
@@ -227,6 +230,7 @@ spared l made spare k = record {
   known = k.known;
   fresh = k.fresh;
   anchor = k.anchor;
+  bunches = k.bunches;
 }
 
 pub respared : (l : Local) (made : ℕ) (new : Holding) → new.slots ≡ l.replica.slots → new.heap ≡ l.replica.heap → Keeps l made → Keeps (record l { replica = new }) made

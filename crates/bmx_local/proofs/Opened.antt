@@ -1,5 +1,5 @@
 -- A node as it opens, with the anchor of its one bunch.
-use Rattle.std.proofs.Common.{◌≡◌, ℕ, ◌+◌, ◌==◌, ◌<◌, Bool, true, false, cond, eqb, List, [], ◌∷◌, length, replicate, Option, Some, None, IsSome, slice_get, option_and_then, refl, sym, ap, ◌∙◌, subst, ⊎_elim, arith}
+use Rattle.std.proofs.Common.{◌≡◌, ℕ, ◌==◌, cond, List, [], ◌∷◌, length, replicate, Some, None, IsSome, slice_get, option_and_then, refl, sym, ap, ◌∙◌, subst, ⊎_elim, arith}
 use Rattle.std.proofs.lemmas.Bool.{cases_eq, false≢true, eq-eqb, ne_eqb, cond-true, cond-false}
 use Rattle.std.proofs.lemmas.Option.{none-some}
 use Rattle.std.specs.Option.{option_map}
@@ -11,7 +11,7 @@ use Rattle.bmx_segment.specs.Headers.{kind_number}
 use Rattle.bmx_graph.specs.State.{born_as}
 use Rattle.bmx_graph.proofs.States.{get_or-same}
 use Rattle.bmx_replica.specs.declared.words.Word.{Word}
-use Rattle.bmx_replica.specs.Replicas.{Holding, Entry, entry_of, copy_of, field_of, blank_entry, HasTarget, IsField, Puts}
+use Rattle.bmx_replica.specs.Replicas.{Holding, Entry, entry_of, copy_of, blank_entry, HasTarget, IsField, Puts}
 use Rattle.bmx_local.specs.Locals.{word_of, null_word, Holds}
 use Rattle.bmx_local.specs.Solos.{value_at, Keeps}
 use Rattle.bmx_local.proofs.Shown.{cond_ap}
@@ -52,8 +52,8 @@ null_register h words r is = ap (value_at h) (null_word_of words r is)
 
 -- and the node keeps what it is to keep
 pub opened : (old new : Holding) (words : List Word) (name bunch at : ℕ) → old.slots ≡ [] → name ≡ 1 → Puts old new name (Some (blank_entry bunch 32 at))
-    → words ≡ replicate 16 null_word → Keeps (record { replica = new; registers = words }) 1
-opened old new words name bunch at none is puts null =
+    → words ≡ replicate 16 null_word → length new.heap.current ≡ 16 → Keeps (record { replica = new; registers = words }) 1
+opened old new words name bunch at none is puts null bunches =
     let each : (P : Word → Type 0) → P null_word → (r : ℕ) → P (word_of words r) = λ P h r. subst P (sym (null_word_of words r null)) h in
     let entry = one_entry old new name bunch at none is puts in
     let copy = one_copy old new name bunch at none is puts in
@@ -72,4 +72,5 @@ opened old new words name bunch at none is puts null =
       known = each (λ u. HasTarget new (value_at new u)) tt;
       fresh = λ count above. entry (name_word 0 count) ∙ cond-false (1 == name_word 0 count) (Some (blank_entry bunch 32 at)) None (ne_eqb 1 (name_word 0 count) (λ e. omega (arith, above, e)));
       anchor = subst IsSome (sym (entry 1)) refl;
+      bunches = bunches;
     }

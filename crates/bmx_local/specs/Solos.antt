@@ -1,5 +1,5 @@
 -- A node that runs alone: the graph that it shows, and what it answers.
-use Rattle.std.specs.Prelude.{◌≡◌, ℕ, ◌+◌, ◌<◌, ◌≤◌, ◌==◌, ◌&&◌, nat_lt, nat_le, Bool, false, if◌then◌else◌, List, length, Option, Some, None, IsSome}
+use Rattle.std.specs.Prelude.{◌≡◌, ℕ, ◌+◌, ◌<◌, ◌≤◌, ◌==◌, ◌&&◌, nat_lt, nat_le, Bool, false, if◌then◌else◌, length, Some, None, IsSome}
 use Rattle.std.specs.HashMap.{get}
 use Rattle.bmx_types.specs.Words.{name_word, anchor_of}
 use Rattle.bmx_types.specs.declared.values.Val.{Val}
@@ -41,7 +41,8 @@ graph_of n = record {
 }
 
 -- what a node keeps: each entry has a copy, each reference is to a name with an entry, the words of
--- registers are those of what they hold, no name to come has an entry, and the anchor of bunch 0 has one
+-- registers are those of what they hold, no name to come has an entry, the anchor of bunch 0 has one, and
+-- each of the 16 bunches may have an open segment
 pub record Keeps (l : Local) (made : ℕ) : Type 0 where
   pub copies : (name : ℕ) → IsSome (entry_of l.replica name) → IsSome (copy_of l.replica name)
   pub targets : (name i : ℕ) (v : Val) → field_of l.replica name i ≡ Some v → HasTarget l.replica v
@@ -51,6 +52,7 @@ pub record Keeps (l : Local) (made : ℕ) : Type 0 where
   pub known : (r : ℕ) → HasTarget l.replica (register_of l r)
   pub fresh : (count : ℕ) → made < count → entry_of l.replica (name_word 0 count) ≡ None
   pub anchor : IsSome (entry_of l.replica (anchor_of 0))
+  pub bunches : length l.replica.heap.current ≡ 16
 
 -- a node keeps that
 unfoldable pub IsSolo : Solo → Type 0

@@ -36,6 +36,7 @@ impl Solo {
     ghost use Rattle.bmx_graph.specs.Parts.{IsStep, taking, field_refusal, FindsField};
     ghost use Rattle.bmx_replica.specs.Replicas.{HasTarget};
     ghost use Rattle.bmx_local.specs.Locals.{MeansGraph};
+    ghost use Rattle.bmx_local.specs.Rooms.{answer_in, first_rooms, rooms_after, rooms_of};
     ghost use Rattle.bmx_local.specs.Solos.{graph_of, IsSolo, FitsOperand, FitsCommand, answer_at};
 
     /// A node with one bunch, which has its anchor alone. It may make `limit` segments.
@@ -45,6 +46,7 @@ impl Solo {
         ensures graph { IfOk result (λ n. graph_of n ≡ opening_state (record { name = anchor_of 0; bunch = 0; fields = replicate 32 Val.Null } ∷ [])) }
         ensures node { IfOk result (λ n. IsSolo n) }
         ensures limit { IfOk result (λ n. n.local.replica.heap.limit ≡ limit) }
+        ensures rooms { IfOk result (λ n. rooms_of n.local.replica.heap ≡ first_rooms) }
     {
         let mut replica = Replica::new(alloc, node(), limit);
         match replica.make(anchor(), bunch(), ANCHOR_FIELDS) {
@@ -69,9 +71,13 @@ impl Solo {
         requires command { FitsCommand command.now }
         requires names { self.old.made < 2 ^ 56 - 1 }
         ensures answer { IfOk result (λ a. a ≡ answer_at self.old command.now) }
+        ensures told { IfOk result (λ a. a ≡ answer_in self.old.local.replica.heap.limit (rooms_of self.old.local.replica.heap) (graph_of self.old) command.now) }
         ensures ok { IfOk result (λ a. graph_of self.new ≡ state_after (graph_of self.old) 0 command.now a) }
         ensures err { OnErr result (graph_of self.new ≡ graph_of self.old) }
         ensures node { IsSolo self.new }
+        ensures rooms { IfOk result (λ a. rooms_of self.new.local.replica.heap ≡ rooms_after (rooms_of self.old.local.replica.heap) command.now a) }
+        ensures err_rooms { OnErr result (rooms_of self.new.local.replica.heap ≡ rooms_of self.old.local.replica.heap) }
+        ensures limit { self.new.local.replica.heap.limit ≡ self.old.local.replica.heap.limit }
     {
         match *command {
             Command::New {
@@ -189,6 +195,7 @@ impl Solo {
         ensures ok { IfOk result (λ a. IsStep (graph_of self.old) 0 (taking wanted on) a (graph_of self.new)) }
         ensures err { OnErr result (graph_of self.new ≡ graph_of self.old) }
         ensures node { IsSolo self.new }
+        ensures heap { self.new.local.replica.heap ≡ self.old.local.replica.heap }
     {
         let Some(name) = self.target(on) else {
             return Ok(Answer::Refused(Refusal::Empty));
@@ -205,6 +212,7 @@ impl Solo {
         requires node { IsSolo self.old }
         ensures step { IsStep (graph_of self.old) 0 (command.Done on) result (graph_of self.new) }
         ensures node { IsSolo self.new }
+        ensures heap { self.new.local.replica.heap ≡ self.old.local.replica.heap }
     {
         let Some(name) = self.target(on) else {
             return Answer::Refused(Refusal::Empty);
@@ -222,6 +230,7 @@ impl Solo {
         requires node { IsSolo self.old }
         ensures step { IsStep (graph_of self.old) 0 (command.Set on index value) result (graph_of self.new) }
         ensures node { IsSolo self.new }
+        ensures heap { self.new.local.replica.heap ≡ record self.old.local.replica.heap { blocks = self.new.local.replica.heap.blocks } }
     {
         match self.find_field(on, index, Mode::Write) {
             Ok(found) => {
@@ -238,6 +247,7 @@ impl Solo {
         requires node { IsSolo self.old }
         ensures step { IsStep (graph_of self.old) 0 (command.Add on index by) result (graph_of self.new) }
         ensures node { IsSolo self.new }
+        ensures heap { self.new.local.replica.heap ≡ record self.old.local.replica.heap { blocks = self.new.local.replica.heap.blocks } }
     {
         match self.find_field(on, index, Mode::Write) {
             Ok(found) => match sum(found.value, by) {
@@ -257,6 +267,7 @@ impl Solo {
         requires node { IsSolo self.old }
         ensures step { IsStep (graph_of self.old) 0 (command.Get register on index) result (graph_of self.new) }
         ensures node { IsSolo self.new }
+        ensures heap { self.new.local.replica.heap ≡ self.old.local.replica.heap }
     {
         match self.find_field(on, index, Mode::Read) {
             Ok(found) => {
@@ -295,13 +306,18 @@ impl Solo {
     /// where there is no place for it.
     fn make(&mut self, register: u8, bunch: BunchNo, size: u8) -> Result<Answer, NoMemory>
         requires register { register < 16 }
+        requires bunch { bunch ≡ 0 }
         requires size { size ≤ 32 }
         requires names { self.old.made < 2 ^ 56 - 1 }
         requires node { IsSolo self.old }
         ensures answer { IfOk result (λ a. a ≡ answer_at self.old (command.New register bunch size)) }
+        ensures told { IfOk result (λ a. a ≡ answer_in self.old.local.replica.heap.limit (rooms_of self.old.local.replica.heap) (graph_of self.old) (command.New register bunch size)) }
         ensures ok { IfOk result (λ a. graph_of self.new ≡ state_after (graph_of self.old) 0 (command.New register bunch size) a) }
         ensures err { OnErr result (graph_of self.new ≡ graph_of self.old) }
         ensures node { IsSolo self.new }
+        ensures rooms { IfOk result (λ a. rooms_of self.new.local.replica.heap ≡ rooms_after (rooms_of self.old.local.replica.heap) (command.New register bunch size) a) }
+        ensures err_rooms { OnErr result (rooms_of self.new.local.replica.heap ≡ rooms_of self.old.local.replica.heap) }
+        ensures limit { self.new.local.replica.heap.limit ≡ self.old.local.replica.heap.limit }
     {
         let count = self.made + 1;
         let name = Name::new(node(), count).unwrap();
@@ -323,6 +339,7 @@ impl Solo {
         requires node { IsSolo self.old }
         ensures graph { graph_of self.new ≡ with_register (graph_of self.old) 0 register value }
         ensures node { IsSolo self.new }
+        ensures heap { self.new.local.replica.heap ≡ self.old.local.replica.heap }
     {
         let word = self.local.replica.word(value);
         self.local.registers.set(register, word);
@@ -334,6 +351,7 @@ impl Solo {
         ensures ok { OnOk result (graph_of self.new ≡ with_held (graph_of self.old) 0 (Some name) (Some mode)) }
         ensures err { OnErr result (graph_of self.new ≡ graph_of self.old) }
         ensures node { IsSolo self.new }
+        ensures heap { self.new.local.replica.heap ≡ self.old.local.replica.heap }
     {
         self.held.insert(name, mode)?;
         Ok(())
@@ -344,6 +362,7 @@ impl Solo {
         requires { IsSolo self.old }
         ensures graph { graph_of self.new ≡ with_held (graph_of self.old) 0 (Some name) None }
         ensures node { IsSolo self.new }
+        ensures heap { self.new.local.replica.heap ≡ self.old.local.replica.heap }
     {
         self.held.remove(&name);
     }
@@ -355,6 +374,7 @@ impl Solo {
         requires node { IsSolo self.old }
         ensures graph { graph_of self.new ≡ with_field (graph_of self.old) (Some name) index value }
         ensures node { IsSolo self.new }
+        ensures heap { self.new.local.replica.heap ≡ record self.old.local.replica.heap { blocks = self.new.local.replica.heap.blocks } }
     {
         self.local.replica.write_field(name, index, value);
     }

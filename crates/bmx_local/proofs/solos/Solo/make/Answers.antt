@@ -1,4 +1,4 @@
-use Rattle.std.proofs.Common.{◌≡◌, ◌≤◌, ◌<◌, ◌+◌, ◌^◌, ◌*◌, ℕ, List, replicate, Some, slice_get, refl, sym, ap, ◌∙◌, cond, ◌==◌, arith}
+use Rattle.std.proofs.Common.{◌≡◌, ◌+◌, List, replicate, Some, refl, sym, ap, ◌∙◌, cond, ◌==◌, arith}
 use Rattle.std.proofs.lemmas.Option.{MatchOption-at_some}
 use Rattle.bmx_types.specs.Words.{name_word}
 use Rattle.bmx_types.specs.declared.values.Val.TheVariants as val
@@ -11,6 +11,9 @@ use Rattle.bmx_replica.specs.Replicas.{blank_entry, entry_of}
 use Rattle.bmx_local.specs.Locals.{word_of}
 use Rattle.bmx_local.specs.Solos.{graph_of, IsSolo}
 use Rattle.bmx_local.proofs.Shown.{graph_of-from, made_put}
+use Rattle.bmx_segment.specs.Heaps.{Heap}
+use Rattle.bmx_local.specs.Rooms.{rooms_of}
+use Rattle.bmx_local.proofs.Rooms.{made_current, made_rooms, made_limit}
 use Rattle.bmx_local.proofs.Kept.{put_solo, null_targets, object_put, value_kept, respared, same_graph}
 use Rattle.bmx_local.proofs.solos.Solo.make.Goals as goal
 
@@ -31,6 +34,7 @@ set_register-requires-clause-node c =
     c.requires.node made.entry refl (null_targets n.local.replica c.args.size) (omega arith)
     (λ count above is. omega (arith, above, sym name ∙ is))
     c.make.ensures.reach c.make.ensures.names
+    (made_current n.local.replica c.make.new.self c.unwrap-name.result c.args.bunch c.args.size made)
 
 pub returns-in-Ok-clause-ok : goal.returns-in-Ok-clause-ok
 unfolding graph_of IsSolo
@@ -50,6 +54,19 @@ returns-in-Ok-clause-ok c =
     (λ m q. refl) (made_put n.made (n.made + 1)) in
     c.set_register.ensures.graph ∙ ap (λ (t : State). with_register t 0 c.args.register (val.Ref name)) changed
     ∙ with_new-from s 0 c.args.register c.args.size 0 name (n.made + 1) fields refl named refl refl
+
+pub returns-in-Ok-clause-rooms : goal.returns-in-Ok-clause-rooms
+unfolding IsSolo
+returns-in-Ok-clause-rooms c =
+    let n = c.args.self.now in
+    ap rooms_of c.set_register.ensures.heap
+    ∙ made_rooms n.local.replica c.make.new.self c.unwrap-name.result c.args.bunch c.args.size c.requires.bunch (omega (arith, c.requires.node.bunches)) c.in-Ok.ensures.made
+
+pub returns-in-Ok-clause-limit : goal.returns-in-Ok-clause-limit
+returns-in-Ok-clause-limit c =
+    let n = c.args.self.now in
+    ap (λ (h : Heap). h.limit) c.set_register.ensures.heap
+    ∙ made_limit n.local.replica c.make.new.self c.unwrap-name.result c.args.bunch c.args.size c.in-Ok.ensures.made
 
 pub returns-in-Err-Full-clause-ok : goal.returns-in-Err-Full-clause-ok
 returns-in-Err-Full-clause-ok c = same_graph c.args.self.now c.make.new.self c.in-Err-Full.ensures.err_slots c.in-Err-Full.ensures.err

@@ -1,13 +1,12 @@
-use Rattle.std.proofs.Common.{◌≡◌, ◌+◌, ◌<◌, ◌==◌, ◌∷◌, [], ℕ, List, Option, Some, None, cond, replicate, refl, sym, ap, ◌∙◌, subst, arith}
+use Rattle.std.proofs.Common.{◌==◌, None, cond, length, refl, ap, ◌∙◌, arith}
 use Rattle.std.specs.Map.{lookup}
 use Rattle.bmx_types.specs.declared.values.Val.TheVariants as val
 use Rattle.bmx_graph.specs.Graphs.{same_name}
-use Rattle.bmx_graph.proofs.States.{get_or-same}
-use Rattle.bmx_replica.specs.declared.words.Word.{Word}
-use Rattle.bmx_replica.specs.Replicas.{Holding, blank_entry, Puts}
-use Rattle.bmx_local.specs.Locals.{word_of, null_word}
-use Rattle.bmx_local.specs.Solos.{graph_of, IsSolo, value_at}
+use Rattle.bmx_local.specs.Solos.{graph_of, IsSolo}
 use Rattle.bmx_local.proofs.Shown.{graph_of-from, same_cond}
+use Rattle.bmx_segment.specs.Heaps.{Heap}
+use Rattle.bmx_local.specs.Rooms.{rooms_of, rooms_with}
+use Rattle.bmx_local.proofs.Rooms.{made_current, made_rooms}
 use Rattle.bmx_local.proofs.Opened.{opened, born, null_register}
 use Rattle.bmx_local.proofs.solos.Solo.open.Goals as goal
 
@@ -26,3 +25,11 @@ unfolding IsSolo
 returns-clause-node c =
     let made = c.in-Ok.ensures.made in
     opened c.new-replica.result c.make.new.self c.new.result c.anchor.result c.bunch.result made.at c.new-replica.ensures.slots c.anchor.ensures made.entry c.new.ensures
+    (made_current c.new-replica.result c.make.new.self c.anchor.result c.bunch.result 32 made ∙ ap (λ (h : Heap). length h.current) c.new-replica.ensures.heap)
+
+pub returns-clause-rooms : goal.returns-clause-rooms
+returns-clause-rooms c =
+    let made = c.in-Ok.ensures.made in
+    let heap = c.new-replica.ensures.heap in
+    made_rooms c.new-replica.result c.make.new.self c.anchor.result c.bunch.result 32 c.bunch.ensures (omega (arith, ap (λ (h : Heap). length h.current) heap)) made
+    ∙ ap (λ (h : Heap). rooms_with (rooms_of h) 32) heap

@@ -1,13 +1,12 @@
-use Rattle.std.proofs.Common.{◌≡◌, ◌==◌, ◌≤◌, ◌<◌, ℕ, [], List, Some, None, Option, cond, slice_set, unwrap_or, option_and_then, refl, sym, ap, ◌∙◌, arith}
+use Rattle.std.proofs.Common.{◌≡◌, ◌==◌, [], List, Some, Option, cond, length, slice_set, unwrap_or, option_and_then, refl, sym, ap, ◌∙◌, arith}
 use Rattle.std.proofs.lemmas.Option.{none-some}
 use Rattle.std.specs.Option.{option_map}
-use Rattle.bmx_types.specs.Words.{name_word}
 use Rattle.bmx_types.specs.declared.values.Val.{Val}
 use Rattle.bmx_types.specs.declared.values.Val.TheVariants as val
 use Rattle.bmx_segment.specs.Headers.{kind_number}
 use Rattle.bmx_graph.specs.State.{put}
 use Rattle.bmx_replica.specs.declared.words.Word.{Word}
-use Rattle.bmx_replica.specs.Replicas.{Entry, entry_of, copy_of, with_value, Puts}
+use Rattle.bmx_replica.specs.Replicas.{Holding, Entry, entry_of, copy_of, with_value, Puts}
 use Rattle.bmx_local.specs.Locals.{word_of}
 use Rattle.bmx_local.specs.Solos.{graph_of, IsSolo}
 use Rattle.bmx_local.proofs.Shown.{graph_of-from}
@@ -47,6 +46,10 @@ returns-clause-node c =
     (set_targets r name c.args.index c.args.value h c.requires.node.targets c.requires.target) (omega arith)
     (λ count above is. none-some h.entry (sym (ap (entry_of r) is ∙ c.requires.node.fresh count above) ∙ h.at))
     c.write_field.ensures.reach c.write_field.ensures.names
+    (ap (λ (h : Holding). length h.heap.current) c.write_field.ensures.rest)
+
+pub returns-clause-heap : goal.returns-clause-heap
+returns-clause-heap c = ap (λ (h : Holding). h.heap) c.write_field.ensures.rest
 
 pub write_field-requires-clause-field : goal.write_field-requires-clause-field
 unfolding graph_of

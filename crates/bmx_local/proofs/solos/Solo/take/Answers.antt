@@ -1,4 +1,4 @@
-use Rattle.std.proofs.Common.{refl, ap, ◌∙◌, cond, None, ◌==◌}
+use Rattle.std.proofs.Common.{refl, ap, cond, None, ◌==◌}
 use Rattle.std.specs.Map.{lookup}
 use Rattle.std.specs.HashMap.{get}
 use Rattle.bmx_graph.specs.Graphs.{same_name}

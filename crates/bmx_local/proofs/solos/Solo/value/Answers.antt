@@ -1,8 +1,7 @@
-use Rattle.std.proofs.Common.{◌≡◌, subst, sym, ap, ◌∙◌}
+use Rattle.std.proofs.Common.{subst, sym, ap, ◌∙◌}
 use Rattle.bmx_segment.specs.Headers.{kind_number}
 use Rattle.bmx_replica.specs.declared.words.Word.{Word}
 use Rattle.bmx_replica.specs.Replicas.{IsField, HasTarget}
-use Rattle.bmx_local.specs.Locals.{word_of}
 use Rattle.bmx_local.specs.Solos.{graph_of, value_at, IsSolo}
 use Rattle.bmx_local.proofs.Kept.{got_word}
 use Rattle.bmx_local.proofs.solos.Solo.value.Goals as goal
