@@ -11,12 +11,12 @@ use Rattle.bmx_script.specs.declared.knowledge.Known.{Known}
 use Rattle.bmx_script.specs.declared.lines.Line.{Line}
 use Rattle.bmx_script.specs.declared.lines.LineKind.{LineKind}
 use Rattle.bmx_script.specs.declared.lines.LineKind.TheVariants as line
-use Rattle.bmx_script.specs.Grammar.{fits_operand, fits_command, in_range, known_after, bunches_of, AreInOrder}
+use Rattle.bmx_script.specs.Grammar.{fits_operand, fits_command, in_range, known_after, bunches_of, limit_of, AreInOrder}
 use Rattle.bmx_cli.specs.declared.runs.Step.{Step}
 use Rattle.bmx_cli.specs.declared.runs.Runner.{Runner}
 use Rattle.bmx_cli.specs.Texts.{answer_line, step_text, text_of}
-use Rattle.bmx_cli.specs.Runs.{Order, order_of, program, done_by, act_of, opening_of, graph_after, anchors, anchor_birth, Follows, Runs}
-use Rattle.bmx_cli.specs.Progress.{IsReady, SameSteps, Acts, GoesBy, Goes, IsAt, IsStopped}
+use Rattle.bmx_cli.specs.Runs.{AreAnswers, AreAnswersOf, rooms_after_all, Order, order_of, program, done_by, act_of, opening_of, graph_after, anchors, anchor_birth, Follows, Runs}
+use Rattle.bmx_cli.specs.Progress.{heap_of, IsReady, SameSteps, Acts, GoesBy, Goes, IsAt, IsStopped}
 use Rattle.bmx_types.specs.declared.values.Val.{Val}
 use Rattle.bmx_types.specs.declared.values.Val.TheVariants as val
 use Rattle.bmx_types.specs.declared.commands.Command.{Command}
@@ -26,44 +26,23 @@ use Rattle.bmx_graph.specs.declared.answers.Answer.{Answer}
 use Rattle.bmx_graph.specs.declared.answers.Answer.TheVariants as answer
 use Rattle.bmx_types.specs.declared.openings.Birth.{Birth}
 use Rattle.bmx_local.specs.declared.solos.Solo.{Solo}
-use Rattle.bmx_local.specs.Solos.{graph_of, IsSolo, is_full, answer_at}
+use Rattle.bmx_segment.specs.Heaps.{Heap}
+use Rattle.bmx_local.specs.Rooms.{Rooms, first_rooms, rooms_after, rooms_of, answer_in}
+use Rattle.bmx_local.specs.Solos.{graph_of, IsSolo}
 use Rattle.bmx_types.specs.declared.commands.Refusal.TheVariants as refusal
 use Rattle.bmx_graph.specs.State.{State, opening_state}
-use Rattle.bmx_graph.specs.Step.{Act, IsAnswer, MayAnswer, answer_of, state_after, state_after_all, IsRun, effect_of, with_held, with_field, got, raised, raised_to, target_of, field_at, sum_of, value_of}
+use Rattle.bmx_graph.specs.Step.{Act, state_after, state_after_all, effect_of, with_held, with_field, got, raised, raised_to, target_of, field_at, sum_of, value_of}
 
--- the graph's own answer may be given
-pub may_self : (c : Command) (a : Answer) → MayAnswer c a a
-may_self (command.New r b s) answer.Nil = refl
-may_self (command.New r b s) (answer.Value v) = refl
-may_self (command.New r b s) answer.Yes = refl
-may_self (command.New r b s) answer.No = refl
-may_self (command.New r b s) answer.Wait = refl
-may_self (command.New r b s) (answer.Refused why) = refl
-may_self (command.Copy r v) a = refl
-may_self (command.Drop r) a = refl
-may_self (command.Read on) answer.Nil = refl
-may_self (command.Read on) (answer.Value v) = refl
-may_self (command.Read on) answer.Yes = refl
-may_self (command.Read on) answer.No = refl
-may_self (command.Read on) answer.Wait = refl
-may_self (command.Read on) (answer.Refused why) = refl
-may_self (command.Write on) answer.Nil = refl
-may_self (command.Write on) (answer.Value v) = refl
-may_self (command.Write on) answer.Yes = refl
-may_self (command.Write on) answer.No = refl
-may_self (command.Write on) answer.Wait = refl
-may_self (command.Write on) (answer.Refused why) = refl
-may_self (command.Done on) a = refl
-may_self (command.Set on i v) a = refl
-may_self (command.Add on i k) a = refl
-may_self (command.Get r on i) a = refl
-may_self (command.Show on i) a = refl
-may_self (command.Same l r) a = refl
+-- answers go on by an act
+pub answers_push : (limit : ℕ) (rooms : Rooms) (s : State) (acts : List Act) (a : Act) → AreAnswers limit rooms s acts
+    → a.answer ≡ answer_in limit (rooms_after_all rooms acts) (state_after_all s acts) a.command → AreAnswers limit rooms s (acts ++ a ∷ [])
+answers_push limit rooms s [] a answers here = (here, tt)
+answers_push limit rooms s (b ∷ acts) a answers here =
+    (answers.0, answers_push limit (rooms_after rooms b.command b.answer) (state_after s b.node b.command b.answer) acts a answers.1 here)
 
--- a run goes on by an act
-pub run_push : (s : State) (acts : List Act) (a : Act) → IsRun s acts → IsAnswer (state_after_all s acts) a.node a.command a.answer → IsRun s (acts ++ a ∷ [])
-run_push s [] a run here = (here, tt)
-run_push s (b ∷ acts) a run here = (run.0, run_push (state_after s b.node b.command b.answer) acts a run.1 here)
+rooms_push : (rooms : Rooms) (acts : List Act) (a : Act) → rooms_after_all rooms (acts ++ a ∷ []) ≡ rooms_after (rooms_after_all rooms acts) a.command a.answer
+rooms_push rooms [] a = refl
+rooms_push rooms (b ∷ acts) a = rooms_push (rooms_after rooms b.command b.answer) acts a
 
 pub state_push : (s : State) (acts : List Act) (a : Act) → state_after_all s (acts ++ a ∷ []) ≡ state_after (state_after_all s acts) a.node a.command a.answer
 state_push s [] a = refl
@@ -143,6 +122,8 @@ same_at : (lines done : List Line) (r : Runner) (m : List Line) → program m �
 same_at lines done r m none one at = record {
   commands = at.commands ∙ sym (program-append done m ∙ ap (λ os. program done ++ os) none ∙ append-nil (program done));
   answers = at.answers;
+  rooms = at.rooms;
+  limit = at.limit;
   state = at.state;
   solo = at.solo;
   text = at.text;
@@ -150,39 +131,27 @@ same_at lines done r m none one at = record {
   made = omega (arith, at.made, length-append done m);
 }
 
--- a node may answer as it does
-may_new : (r b size : ℕ) (full : Bool) → MayAnswer (command.New r b size) answer.Nil (cond full (answer.Refused refusal.Full) answer.Nil)
-may_new r b size true = tt
-may_new r b size false = refl
-
-may_answer : (n : Solo) (c : Command) → MayAnswer c (answer_of (graph_of n) 0 c) (answer_at n c)
-may_answer n (command.New r b size) = may_new r b size (is_full n.local.replica.heap b size)
-may_answer n (command.Copy r v) = refl
-may_answer n (command.Drop r) = refl
-may_answer n (command.Read on) = may_self (command.Read on) (answer_of (graph_of n) 0 (command.Read on))
-may_answer n (command.Write on) = may_self (command.Write on) (answer_of (graph_of n) 0 (command.Write on))
-may_answer n (command.Done on) = refl
-may_answer n (command.Set on i v) = refl
-may_answer n (command.Add on i k) = refl
-may_answer n (command.Get r on i) = refl
-may_answer n (command.Show on i) = refl
-may_answer n (command.Same l r) = refl
-
 acted_at : (lines done : List Line) (old new : Runner) (number : ℕ) (c : Command) → IsAt lines done old → Acts old 0 number c new
     → IsAt lines (done ++ record { number = number; what = line.Do 0 c } ∷ []) new
 acted_at lines done old new number c at acts =
     let a : Answer = acts.answer in
     let step : Step = record { node = 0; line = number; command = c; answer = a; printed = answer_line 0 number c a } in
     let opened : State = opening_of lines in
-    let made : IsAnswer (graph_of old.node) 0 c a = subst (MayAnswer c (answer_of (graph_of old.node) 0 c)) (sym acts.answers.answer_is) (may_answer old.node c) in
-    let allowed : IsAnswer (state_after_all opened (map act_of old.history)) 0 c a = subst (λ (s : State). IsAnswer s 0 c a) at.state made in
+    let past : List Act = map act_of old.history in
+    let heap : Heap = heap_of old.node in
+    let given : a ≡ answer_in (limit_of lines) (rooms_after_all first_rooms past) (state_after_all opened past) c =
+    acts.answers.answer_is
+        ∙ ap (λ l. answer_in l (rooms_of heap) (graph_of old.node) c) at.limit
+        ∙ ap (λ r. answer_in (limit_of lines) r (graph_of old.node) c) at.rooms
+        ∙ ap (λ g. answer_in (limit_of lines) (rooms_after_all first_rooms past) g c) at.state in
+    let now : map act_of new.history ≡ past ++ act_of step ∷ [] = ap (map act_of) acts.history ∙ map-push act_of old.history step in
     record {
       commands = ap (map done_by) acts.history ∙ map-push done_by old.history step ∙ ap (λ os. os ++ done_by step ∷ []) at.commands
           ∙ sym (program-append done (record { number = number; what = line.Do 0 c } ∷ []));
-      answers = subst (λ (acts_now : List Act). IsRun opened acts_now) (sym (ap (map act_of) acts.history ∙ map-push act_of old.history step))
-          (run_push opened (map act_of old.history) (act_of step) at.answers allowed);
-      state = acts.answers.graph ∙ ap (λ s. state_after s 0 c a) at.state ∙ sym (state_push opened (map act_of old.history) (act_of step))
-          ∙ ap (state_after_all opened) (sym (ap (map act_of) acts.history ∙ map-push act_of old.history step));
+      answers = subst (AreAnswersOf lines) (sym now) (answers_push (limit_of lines) first_rooms opened past (act_of step) at.answers given);
+      rooms = acts.answers.rooms ∙ ap (λ r. rooms_after r c a) at.rooms ∙ sym (rooms_push first_rooms past (act_of step)) ∙ ap (rooms_after_all first_rooms) (sym now);
+      limit = acts.answers.limit ∙ at.limit;
+      state = acts.answers.graph ∙ ap (λ s. state_after s 0 c a) at.state ∙ sym (state_push opened past (act_of step)) ∙ ap (state_after_all opened) (sym now);
       solo = acts.answers.solo;
       text = acts.answers.text ∙ ap (λ t. t ++ step_text step) at.text ∙ sym (ap text_of acts.history ∙ text-push old.history step);
       printed = ap (map (λ s. s.printed)) acts.history ∙ map-push (λ s. s.printed) old.history step ∙ ap (λ ts. ts ++ step.printed ∷ []) at.printed
@@ -236,7 +205,7 @@ stopped lines done rest old new all at same = (
   record {
     rest = program rest;
     commands = ap (λ h. map done_by h ++ program rest) same.history ∙ ap (λ os. os ++ program rest) at.commands ∙ sym (program-append done rest) ∙ ap program all;
-    answers = subst (λ (h : List Step). IsRun (opening_of lines) (map act_of h)) (sym same.history) at.answers;
+    answers = subst (λ (h : List Step). AreAnswersOf lines (map act_of h)) (sym same.history) at.answers;
     printed = subst (λ (h : List Step). map (λ s. s.printed) h ≡ map step_text h) (sym same.history) at.printed;
   },
   same.node.text ∙ at.text ∙ ap text_of (sym same.history),
@@ -249,10 +218,13 @@ stopped_node lines done old new at same = record {
 }
 
 -- the run before its first line
-pub started : (lines : List Line) (n : Solo) → IsSolo n → graph_of n ≡ opening_of lines → (opening_of lines).made 0 ≤ 1 → IsAt lines [] (record { node = n; history = []; text = [] })
-started lines n solo opened few = record {
+pub started : (lines : List Line) (n : Solo) → IsSolo n → graph_of n ≡ opening_of lines → rooms_of (heap_of n) ≡ first_rooms → (heap_of n).limit ≡ limit_of lines
+    → (opening_of lines).made 0 ≤ 1 → IsAt lines [] (record { node = n; history = []; text = [] })
+started lines n solo opened rooms limit few = record {
   commands = refl;
   answers = tt;
+  rooms = rooms;
+  limit = limit;
   state = opened;
   solo = solo;
   text = refl;

@@ -2,17 +2,21 @@
 use Rattle.std.specs.Prelude.{◌≡◌, ℕ, ◌+◌, ◌-◌, ◌^◌, ◌<◌, ◌≤◌, List, [], ◌∷◌, ◌++◌, length, map, Option, Some, None}
 use Rattle.bmx_types.specs.declared.commands.Command.{Command}
 use Rattle.bmx_graph.specs.declared.answers.Answer.{Answer}
-use Rattle.bmx_graph.specs.Step.{state_after, IsRun}
-use Rattle.bmx_local.specs.Solos.{graph_of, IsSolo, FitsCommand, answer_at}
+use Rattle.bmx_graph.specs.Step.{state_after}
+use Rattle.bmx_segment.specs.Heaps.{Heap}
+use Rattle.bmx_local.specs.Rooms.{first_rooms, rooms_after, rooms_of, answer_in}
+use Rattle.bmx_local.specs.declared.solos.Solo.{Solo}
+use Rattle.bmx_local.specs.Solos.{graph_of, IsSolo, FitsCommand}
 use Rattle.bmx_script.specs.declared.lines.Line.{Line}
 use Rattle.bmx_script.specs.declared.lines.LineKind.{LineKind}
 use Rattle.bmx_script.specs.declared.lines.LineKind.TheVariants as line
+use Rattle.bmx_script.specs.Grammar.{limit_of}
 use Rattle.bmx_cli.specs.declared.runs.Step.{Step}
 use Rattle.bmx_cli.specs.declared.runs.Runner.{Runner}
 use Rattle.bmx_cli.specs.declared.runs.RunEnd.{RunEnd}
 use Rattle.bmx_cli.specs.declared.runs.RunEnd.TheVariants as end
 use Rattle.bmx_cli.specs.Texts.{answer_line, step_text, text_of}
-use Rattle.bmx_cli.specs.Runs.{Order, order_of, program, done_by, act_of, opening_of, graph_after, Follows, Runs}
+use Rattle.bmx_cli.specs.Runs.{program, done_by, act_of, graph_after, AreAnswersOf, rooms_after_all, Follows, Runs}
 
 -- a command is node 0's, of the one bunch, with registers that there are
 abbrev pub FitsOrder : ℕ → Command → Type 0
@@ -38,9 +42,15 @@ pub record SameSteps (old new : Runner) : Type 0 where
   pub history : new.history ≡ old.history
   pub node : SameNode old new
 
+-- the heap of a node
+abbrev pub heap_of : Solo → Heap
+heap_of n = n.local.replica.heap
+
 -- the node answered a command, and the line that this prints was added to the text
 pub record Answers (old : Runner) (node number : ℕ) (command : Command) (answer : Answer) (printed : List ℕ) (new : Runner) : Type 0 where
-  pub answer_is : answer ≡ answer_at old.node command
+  pub answer_is : answer ≡ answer_in (heap_of old.node).limit (rooms_of (heap_of old.node)) (graph_of old.node) command
+  pub rooms : rooms_of (heap_of new.node) ≡ rooms_after (rooms_of (heap_of old.node)) command answer
+  pub limit : (heap_of new.node).limit ≡ (heap_of old.node).limit
   pub graph : graph_of new.node ≡ state_after (graph_of old.node) 0 command answer
   pub solo : IsSolo new.node
   pub printed_is : printed ≡ answer_line node number command answer
@@ -64,7 +74,9 @@ Goes old l new = GoesBy old l.number l.what new
 -- the commands of these lines are done, of all lines of the script
 pub record IsAt (lines done : List Line) (r : Runner) : Type 0 where
   pub commands : map done_by r.history ≡ program done
-  pub answers : IsRun (opening_of lines) (map act_of r.history)
+  pub answers : AreAnswersOf lines (map act_of r.history)
+  pub rooms : rooms_of (heap_of r.node) ≡ rooms_after_all first_rooms (map act_of r.history)
+  pub limit : (heap_of r.node).limit ≡ limit_of lines
   pub state : graph_of r.node ≡ graph_after lines r.history
   pub solo : IsSolo r.node
   pub text : r.text ≡ text_of r.history

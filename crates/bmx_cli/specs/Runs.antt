@@ -1,4 +1,4 @@
--- When a history is a run of a script: its commands, each once and in order, with the graph's answers.
+-- When a history is a run of a script: its commands, each once and in order, with the node's answers.
 use Rattle.std.specs.Prelude.{◌≡◌, ℕ, zero, suc, ◌+◌, List, [], ◌∷◌, ◌++◌, length, map, replicate, Option, Some, None}
 use Rattle.std.specs.List.{filter_map}
 use Rattle.bmx_types.specs.Words.{anchor_of}
@@ -6,11 +6,12 @@ use Rattle.bmx_types.specs.declared.values.Val.TheVariants as val
 use Rattle.bmx_types.specs.declared.openings.Birth.{Birth}
 use Rattle.bmx_types.specs.declared.commands.Command.{Command}
 use Rattle.bmx_graph.specs.State.{State, opening_state}
-use Rattle.bmx_graph.specs.Step.{Act, IsRun, state_after_all}
+use Rattle.bmx_graph.specs.Step.{Act, state_after, state_after_all}
+use Rattle.bmx_local.specs.Rooms.{Rooms, first_rooms, rooms_after, answer_in}
 use Rattle.bmx_script.specs.declared.lines.Line.{Line}
 use Rattle.bmx_script.specs.declared.lines.LineKind.{LineKind}
 use Rattle.bmx_script.specs.declared.lines.LineKind.TheVariants as line
-use Rattle.bmx_script.specs.Grammar.{bunches_of}
+use Rattle.bmx_script.specs.Grammar.{bunches_of, limit_of}
 use Rattle.bmx_cli.specs.declared.runs.Step.{Step}
 use Rattle.bmx_cli.specs.Texts.{step_text}
 
@@ -54,16 +55,33 @@ opening_of lines = opening_state (anchors 0 (length (bunches_of lines)))
 abbrev pub graph_after : List Line → List Step → State
 graph_after lines steps = state_after_all (opening_of lines) (map act_of steps)
 
--- the history has the first commands of the script, each once and in order, answered as the graph does, each
--- with what it prints
+-- acts are answered one after another as by a node that may make so many segments: as the graph answers
+-- them, but that a new object for which there is no room is refused as full
+abbrev pub AreAnswers : ℕ → Rooms → State → List Act → Type 0
+AreAnswers limit rooms s [] = Unit {0}
+AreAnswers limit rooms s (a ∷ acts) =
+    (a.answer ≡ answer_in limit rooms s a.command)
+    × AreAnswers limit (rooms_after rooms a.command a.answer) (state_after s a.node a.command a.answer) acts
+
+-- what is left after them
+abbrev pub rooms_after_all : Rooms → List Act → Rooms
+rooms_after_all rooms [] = rooms
+rooms_after_all rooms (a ∷ acts) = rooms_after_all (rooms_after rooms a.command a.answer) acts
+
+-- the same from the opening of a script
+abbrev pub AreAnswersOf : List Line → List Act → Type 0
+AreAnswersOf lines acts = AreAnswers (limit_of lines) first_rooms (opening_of lines) acts
+
+-- the history has the first commands of the script, each once and in order, answered so, each with what it
+-- prints
 pub record Follows (lines : List Line) (steps : List Step) : Type 0 where
   pub rest : List Order
   pub commands : map done_by steps ++ rest ≡ program lines
-  pub answers : IsRun (opening_of lines) (map act_of steps)
+  pub answers : AreAnswersOf lines (map act_of steps)
   pub printed : map (λ s. s.printed) steps ≡ map step_text steps
 
 -- it has all of them
 pub record Runs (lines : List Line) (steps : List Step) : Type 0 where
   pub commands : map done_by steps ≡ program lines
-  pub answers : IsRun (opening_of lines) (map act_of steps)
+  pub answers : AreAnswersOf lines (map act_of steps)
   pub printed : map (λ s. s.printed) steps ≡ map step_text steps

@@ -30,8 +30,8 @@ abbrev pub IsRead : Option (List ℕ) → Option (List ℕ) → Type 0
 IsRead left left_now = IfSome left (λ all. left_now ≡ Some (drop read_limit all))
 
 -- the words are right, and a run was made of the script that the bytes spell, as far as it went: its
--- history has the first commands of the script, answered as the graph does, its nodes mean the graph
--- after that history, and its text is what that history prints
+-- history has the first commands of the script, answered as the graph does or refused as full, its nodes
+-- mean the graph after that history, and its text is what that history prints
 pub record IsPart (words : List (List ℕ)) (bytes : List ℕ) (run : Run) : Type 0 where
   pub usage : misfit_in words ≡ None
   pub script : IsReading bytes (Ok run.script)

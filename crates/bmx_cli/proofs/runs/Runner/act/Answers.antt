@@ -26,7 +26,7 @@ returns-in-Ok-clause-ok c =
     record {
       node_is = c.requires.fits.0;
       answer = c.in-Ok.answer;
-      answers = record { answer_is = done.answer_is; graph = done.graph; solo = done.solo; printed_is = refl; text = done.text };
+      answers = record { answer_is = done.answer_is; rooms = done.rooms; limit = done.limit; graph = done.graph; solo = done.solo; printed_is = refl; text = done.text };
       history = c.set.ensures
           ∙ ap (λ (h : List Step). slice_set h last (with_printed c.in-Ok.printed)) (c.in-Ok.ensures.history ∙ pushed)
           ∙ set_last old first (with_printed c.in-Ok.printed) last (ap (λ k. k - 1) (c.len-last.ensures ∙ ap length pushed))
