@@ -1,6 +1,6 @@
 -- What a change of one object's words makes of a replica.
 use Rattle.std.proofs.Common.{zero, suc, get_or, replicate, ◌≡◌, ◌≢◌, ◌⊎◌, ℕ, ◌+◌, ◌<◌, ◌≤◌, Bool, true, false, cond, List, Option, Some, None, slice_set, refl, sym, ap, subst, ◌∙◌, inl, inr, arith}
-use Rattle.std.specs.Prelude.{◌==◌, if◌then◌else◌, IsSomeAnd}
+use Rattle.std.specs.Prelude.{IsSome, ◌==◌, if◌then◌else◌, IsSomeAnd}
 use Rattle.std.specs.Option.{option_map}
 use Rattle.std.proofs.lemmas.Bool.{cases_eq, cases_lt, false≢true, eq-eqb, ne_eqb}
 use Rattle.std.proofs.lemmas.Option.{same_Some, option_and_then_some}
@@ -16,11 +16,12 @@ use Rattle.bmx_segment.specs.declared.headers.State.TheVariants.{Live, Forwarded
 use Rattle.bmx_replica.specs.Slots.{slot_of, address_of, PutsSlot}
 use Rattle.bmx_replica.specs.Chains.{is_live, name_at}
 use Rattle.bmx_replica.specs.Layouts.{Lays, Moves, kinds_in, moves_in, with_kinds}
-use Rattle.bmx_replica.specs.Replicas.{Holding, Entry, entry_in, entry_at, entry_of, at_place, field_at, value_in, values_of, with_value, IsReplica, IsField, IsFound}
+use Rattle.bmx_replica.specs.Replicas.{field_of, Holding, Entry, entry_in, entry_at, entry_of, at_place, field_at, value_in, values_of, with_value, IsReplica, IsField, IsFound}
 use Rattle.bmx_replica.specs.declared.directory.Slot.{Slot}
 use Rattle.bmx_replica.proofs.Laid.{with_kinds-own}
 use Rattle.bmx_replica.proofs.Standing.{Stands, names_kept, value_in-same, values_of-same}
-use Rattle.bmx_replica.proofs.Fielded.{values_of-set, entry_of-found, entry_at-found}
+use Rattle.bmx_replica.proofs.Chained.{alive, map_some}
+use Rattle.bmx_replica.proofs.Fielded.{field_within, values_of-set, entry_of-found, entry_at-found}
 
 -- two headers share no word
 pub disjoint : (bs : List Block) (a b : ℕ) (x y : Header) → AreApart bs → header_at bs a ≡ Some x → header_at bs b ≡ Some y → a ≢ b → (a + 4 + x.size ≤ b) ⊎ (b + 4 + y.size ≤ a)
@@ -111,6 +112,25 @@ module _ (r : Holding) (new : List Block) (n : ℕ) (s : Slot) (h : Header) (i k
 
   written_names : (x m : ℕ) → name_at r.heap.blocks x ≡ Some m → name_at new x ≡ Some m
   written_names = names_kept r.slots r.slots r.heap.blocks new n s written Stands-written
+
+  -- no other field's word changes
+  pub others_stay : (q j a : ℕ) → (q ≡ n → j ≡ i → ⊥) → address_of r.slots q ≡ Some a → IsSome (field_of r q j) → word_at new (a + 4 + j) ≡ word_at r.heap.blocks (a + 4 + j)
+  others_stay q j a apart place has =
+      let live = alive r.heap.blocks a q ((kept.entries q a).0 place) in
+      let slot = map_some (λ (t : Slot). t.address) (slot_of r.slots q) a place in
+      let there : header_at r.heap.blocks slot.0.address ≡ Some live.0 = ap (header_at r.heap.blocks) slot.2 ∙ live.1 in
+      let small = field_within r q slot.0 live.0 slot.1 there j has in
+      elim (cases_eq a s.address) [
+        | inl at ↦
+            let is : live.0 ≡ h = same_Some live.0 h (sym live.1 ∙ ap (header_at r.heap.blocks) at ∙ found.there) in
+            let same : q ≡ n = sym live.3 ∙ ap (λ (y : Header). y.name) is ∙ found.named in
+            ap (λ b. word_at new (b + 4 + j)) at ∙ word_other j (apart same) ∙ ap (λ b. word_at r.heap.blocks (b + 4 + j)) (sym at)
+        | inr off ↦
+            elim (disjoint r.heap.blocks a s.address live.0 h found.apart live.1 found.there off) [
+              | inl before ↦ one.words (a + 4 + j) (λ at. absurd (omega arith)) (λ at. absurd (omega arith))
+              | inr after ↦ one.words (a + 4 + j) (λ at. absurd (omega arith)) (λ at. absurd (omega arith))
+            ]
+      ]
 
   with_values : List Val → Entry
   with_values fields = record { bunch = h.bunch; size = h.size; place = record { address = s.address; moves = moves_in h.state }; copy = if s.has_copy then Some fields else None }

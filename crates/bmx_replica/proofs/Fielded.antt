@@ -38,6 +38,26 @@ entry_at-found slots blocks name s h found =
     ap (option_and_then (λ (y : Slot). option_map (entry_in blocks y) (header_at blocks y.address))) found.slot
     ∙ ap (option_map (entry_in blocks s)) found.there
 
+in_copy : (b : Bool) (fields : List Val) (i : ℕ) → IsSome (option_and_then (λ (l : List Val). slice_get l i) (cond b (Some fields) None)) → (b ≡ true) × (i < length fields)
+in_copy false fields i is = absurd (false≢true is)
+in_copy true fields i is =
+    elim (cases_lt i (length fields)) [
+      | inl lt ↦ (refl, lt)
+      | inr past ↦ absurd (false≢true (sym (ap is_some (slice_get_past fields i past)) ∙ is))
+    ]
+
+-- a field that there is lies within the object
+pub field_within : (r : Holding) (name : ℕ) (s : Slot) (h : Header) → slot_of r.slots name ≡ Some s → header_at r.heap.blocks s.address ≡ Some h → (i : ℕ) → IsSome (field_of r name i) → i < h.size
+field_within r name s h slot there i is =
+    let f : ℕ → Val = field_at r.heap.blocks s.address h in
+    let entry : entry_of r name ≡ Some (entry_in r.heap.blocks s h) =
+    ap (option_and_then (λ (y : Slot). option_map (entry_in r.heap.blocks y) (header_at r.heap.blocks y.address))) slot
+    ∙ ap (option_map (entry_in r.heap.blocks s)) there in
+    let P : Option Entry → Type 0 = λ o. IsSome (option_and_then (λ (l : List Val). slice_get l i) (option_and_then (λ (e : Entry). e.copy) o)) in
+    let p = in_copy s.has_copy (values_of f h.size) i (subst P entry is) in
+    let size = length-values_of f h.size in
+    omega (arith, p.1, size)
+
 module _ (r : Holding) (name : ℕ) (s : Slot) (h : Header) (found : IsFound r.slots r.heap.blocks name s h) where
   -- the entry of a name whose object is found
   pub entry_of-found : entry_of r name ≡ Some (entry_in r.heap.blocks s h)
@@ -47,14 +67,6 @@ module _ (r : Holding) (name : ℕ) (s : Slot) (h : Header) (found : IsFound r.s
 
   copy_of-found : copy_of r name ≡ (if s.has_copy then Some (values_of (field_at r.heap.blocks s.address h) h.size) else None)
   copy_of-found = ap (option_and_then (λ (e : Entry). e.copy)) entry_of-found
-
-  in_copy : (b : Bool) (fields : List Val) (i : ℕ) → IsSome (option_and_then (λ (l : List Val). slice_get l i) (cond b (Some fields) None)) → (b ≡ true) × (i < length fields)
-  in_copy false fields i is = absurd (false≢true is)
-  in_copy true fields i is =
-      elim (cases_lt i (length fields)) [
-        | inl lt ↦ (refl, lt)
-        | inr past ↦ absurd (false≢true (sym (ap is_some (slice_get_past fields i past)) ∙ is))
-      ]
 
   -- a field that there is
   pub field_of-there : (i : ℕ) → IsSome (field_of r name i) → (s.has_copy ≡ true) × (i < h.size)

@@ -7,3 +7,4 @@ pub mod Changing
 pub mod Forgetting
 pub mod Making
 pub mod Lying
+pub mod Repointing

@@ -204,3 +204,23 @@ pub record Same (old new : Holding) : Type 0 where
   pub slots : new.slots ≡ old.slots
   pub heap : new.heap ≡ old.heap
   pub spare : old.spare ≤ new.spare
+
+-- no word of another field of a copy changes
+abbrev pub OthersStay : Holding → Holding → ℕ → ℕ → Type 0
+OthersStay old new name i = (q j a : ℕ) → (q ≡ name → j ≡ i → ⊥) → address_of old.slots q ≡ Some a → IsSome (field_of old q j) → word_at new.heap.blocks (a + 4 + j) ≡ word_at old.heap.blocks (a + 4 + j)
+
+-- the word of a field is that of its value: of a reference the current address
+abbrev pub IsCurrent : Holding → ℕ → ℕ → Type 0
+IsCurrent r name i = (v : Val) (a : ℕ) → field_of r name i ≡ Some v → address_of r.slots name ≡ Some a → word_at r.heap.blocks (a + 4 + i) ≡ (word_in r v).word
+
+-- each reference in a copy is to a name with an entry
+abbrev pub HasTargets : Holding → Type 0
+HasTargets r = (name i : ℕ) (v : Val) → field_of r name i ≡ Some v → HasTarget r v
+
+-- field words become current, and all else stays
+pub record Repoints (old new : Holding) : Type 0 where
+  pub entries : (q : ℕ) → entry_of new q ≡ entry_of old q
+  pub rest : new ≡ record old { heap = record old.heap { blocks = new.heap.blocks } }
+  pub current : (q j : ℕ) → IsCurrent old q j → IsCurrent new q j
+  pub meaning : KeepsMeaning old new
+  pub reach : KeepsReach old new

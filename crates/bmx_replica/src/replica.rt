@@ -9,7 +9,7 @@ ghost use Rattle.bmx_replica.specs.Layouts.{Lays, Moves, Readies, CanLie, kinds_
 ghost use Rattle.bmx_segment.specs.declared.segments.PlaceError.TheVariants.{Full};
 ghost use Rattle.bmx_replica.specs.Slots.{slot_of, address_of, PutsSlot};
 ghost use Rattle.bmx_replica.specs.Chains.{Means, name_at};
-ghost use Rattle.bmx_replica.specs.Replicas.{entry_of, info_in, copy_of, field_of, value_in, word_in, with_value, without_copy, at_place, CanMove, MakesObject, Learns, Accepts, Same, KeepsReachOfOthers, HasTarget, IsField, IsFound, IsReplica, Puts, KeepsMeaning, KeepsReach, KeepsNames, ReachesTarget};
+ghost use Rattle.bmx_replica.specs.Replicas.{entry_of, info_in, copy_of, field_of, value_in, word_in, with_value, without_copy, at_place, OthersStay, IsCurrent, HasTargets, Repoints, CanMove, MakesObject, Learns, Accepts, Same, KeepsReachOfOthers, HasTarget, IsField, IsFound, IsReplica, Puts, KeepsMeaning, KeepsReach, KeepsNames, ReachesTarget};
 
 use crate::directory::{Directory, Slot};
 use crate::layout::{NO_WORDS, field_words, kind_in, lay, write_fields};
@@ -252,6 +252,7 @@ impl Replica {
         requires target { HasTarget self.old v }
         ensures entry { Puts self.old self.new name (option_map (with_value i v) (entry_of self.old name)) }
         ensures written { IsSomeAnd (address_of self.old.slots name) (λ a. Writes self.old.heap.blocks self.new.heap.blocks a i (kind_number (word_in self.old v).kind) (word_in self.old v).word) }
+        ensures others { OthersStay self.old self.new name i }
         ensures rest { self.new ≡ record self.old { heap = record self.old.heap { blocks = self.new.heap.blocks } } }
         ensures meaning { KeepsMeaning self.old self.new }
         ensures reach { KeepsReach self.old self.new }
@@ -262,6 +263,47 @@ impl Replica {
             unreachable!()
         };
         self.segments.set_word(found.slot.address, i, kind, word);
+    }
+
+    /// Writes a field of a copy again, so that a reference is stored as the current address of its name.
+    fn repoint_field(&mut self, name: Name, i: u8)
+        requires field { IsSome (field_of self.old name i) }
+        requires targets { HasTargets self.old }
+        ensures done { Repoints self.old self.new }
+        ensures current { IsCurrent self.new name i }
+    {
+        let value = self.read_field(name, i);
+        self.write_field(name, i, value);
+    }
+
+    /// Writes all fields of a name's copy again.
+    fn repoint_fields(&mut self, name: Name)
+        requires targets { HasTargets self.old }
+        ensures done { Repoints self.old self.new }
+        ensures current { (i : ℕ) → IsCurrent self.new name i }
+    {
+        let Some(found) = self.find(name) else {
+            return;
+        };
+        if !found.slot.has_copy {
+            return;
+        }
+        for i in 0..found.header.size {
+            self.repoint_field(name, i);
+        }
+    }
+
+    /// Stores each reference in each copy as the current address of its name, so that no chain is longer
+    /// than the moves from now on. Every word means what it meant. Walks all names.
+    pub fn repoint(&mut self)
+        requires { HasTargets self.old }
+        ensures done { Repoints self.old self.new }
+        ensures current { (name i : ℕ) → IsCurrent self.new name i }
+    {
+        for place in 0..self.directory.len() {
+            let (name, _) = self.directory.at(place);
+            self.repoint_fields(name);
+        }
     }
 
     /// Clears the fields of a name, which has no copy from now on. Where it has no entry nothing changes.

@@ -12,7 +12,7 @@ use Rattle.bmx_replica.specs.contracts.replica.Replica.{the_view}
 use Rattle.bmx_replica.proofs.Laid.{IsLive-from}
 use Rattle.bmx_replica.proofs.Standing.{Stands, IsReplica-stands, Means-stands, names_kept, Reaches-stands, Puts-stands}
 use Rattle.bmx_replica.proofs.Fielded.{field_of-there}
-use Rattle.bmx_replica.proofs.Changing.{Stands-written, entry-written}
+use Rattle.bmx_replica.proofs.Changing.{Stands-written, entry-written, others_stay}
 use Rattle.bmx_replica.proofs.replica.Replica.write_field.Goals as goal
 
 pub set_word-requires : goal.set_word-requires
@@ -126,3 +126,23 @@ returns-clause-names c =
     let st : Stands r.slots r.slots r.heap.blocks new c.args.name s to =
     Stands-written r new c.args.name s h c.args.i kind w c.self.invariant.1 f p.0 p.1 field c.set_word.ensures.written c.set_word.ensures.kinds in
     rw (← c.self.view_is) (names_kept r.slots r.slots r.heap.blocks new c.args.name s to st)
+
+pub returns-clause-others : goal.returns-clause-others
+returns-clause-others c =
+    let r : Holding = the_view c.self.inside in
+    let s : Slot = c.in-Some.found.slot in
+    let h : Header = c.in-Some.found.header in
+    let kind : ℕ = kind_number c.word-kind.result.kind in
+    let w : ℕ = c.word-kind.result.word in
+    let new : List Block = c.set_word.new.self.blocks in
+    let F : Holding → Type 0 = λ x. IsFound x.slots x.heap.blocks c.args.name s h in
+    let f : F r = subst F (sym c.self.view_is) c.in-Some.ensures.found in
+    let H : Holding → Type 0 = λ x. IsSome (field_of x c.args.name c.args.i) in
+    let has : H r = subst H (sym c.self.view_is) c.requires.field in
+    let p = field_of-there r c.args.name s h f c.args.i has in
+    let W : Holding → Type 0 = λ x. IsField x.heap.blocks kind w in
+    let field : W r = subst W (sym c.self.view_is) c.word-kind.ensures.field in
+    let to : Header = with_kinds h (with_kind (kinds_in h.state) c.args.i kind) in
+    let st : Stands r.slots r.slots r.heap.blocks new c.args.name s to =
+    Stands-written r new c.args.name s h c.args.i kind w c.self.invariant.1 f p.0 p.1 field c.set_word.ensures.written c.set_word.ensures.kinds in
+    rw (← c.self.view_is) (others_stay r new c.args.name s h c.args.i kind w c.self.invariant.1 f p.0 p.1 field c.set_word.ensures.written c.set_word.ensures.kinds)
