@@ -1,7 +1,6 @@
 -- Field words that are written again.
-use Rattle.std.proofs.Common.{zero, suc, ◌≡◌, ◌≢◌, ℕ, ◌+◌, ◌<◌, ◌≤◌, Bool, true, false, List, [], ◌∷◌, length, Option, Some, None, IsSome, IsSomeAnd, is_some, slice_get, slice_set, unwrap_or, refl, sym, ap, subst, ◌∙◌, inl, inr, arith}
-use Rattle.std.specs.Prelude.{◌==◌, if◌then◌else◌}
-use Rattle.std.specs.Int.{w64, cast_unsigned}
+use Rattle.std.proofs.Common.{zero, suc, ◌≡◌, ℕ, ◌+◌, ◌<◌, List, [], ◌∷◌, length, Option, Some, None, IsSomeAnd, is_some, slice_get, slice_set, unwrap_or, refl, sym, ap, subst, ◌∙◌, inl, inr, arith}
+use Rattle.std.specs.Prelude.{if◌then◌else◌}
 use Rattle.std.specs.Option.{option_map, option_and_then}
 use Rattle.std.proofs.lemmas.Bool.{cases_eq, eq-eqb, ne_eqb}
 use Rattle.std.proofs.lemmas.Option.{none-some, same_Some}
@@ -10,7 +9,6 @@ use Rattle.bmx_types.specs.declared.values.Val.TheVariants as val
 use Rattle.bmx_segment.specs.Headers.{kind_number}
 use Rattle.bmx_segment.specs.declared.headers.Kind.TheVariants.{Ref}
 use Rattle.bmx_segment.specs.Stores.{word_at, Writes}
-use Rattle.bmx_segment.specs.Heaps.{Heap}
 use Rattle.bmx_replica.specs.Slots.{slot_of, address_of}
 use Rattle.bmx_replica.specs.Replicas.{Holding, Entry, entry_of, field_of, with_value, word_in, Puts, OthersStay, IsCurrent, HasTarget, HasTargets, Repoints, KeepsMeaning, KeepsReach}
 use Rattle.bmx_replica.specs.declared.words.Word.{Word}

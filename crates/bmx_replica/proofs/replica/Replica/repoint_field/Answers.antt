@@ -1,4 +1,3 @@
-use Rattle.std.proofs.Common.{Some}
 use Rattle.bmx_replica.proofs.Repointing.{Repoints-field, current_here}
 use Rattle.bmx_replica.proofs.replica.Replica.repoint_field.Goals as goal
 
