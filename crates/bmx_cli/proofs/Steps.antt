@@ -141,9 +141,9 @@ acted_at lines done old new number c at acts =
     let heap : Heap = heap_of old.node in
     let given : a ≡ answer_in (limit_of lines) (rooms_after_all first_rooms past) (state_after_all opened past) c =
     acts.answers.answer_is
-        ∙ ap (λ l. answer_in l (rooms_of heap) (graph_of old.node) c) at.limit
-        ∙ ap (λ r. answer_in (limit_of lines) r (graph_of old.node) c) at.rooms
-        ∙ ap (λ g. answer_in (limit_of lines) (rooms_after_all first_rooms past) g c) at.state in
+    ∙ ap (λ l. answer_in l (rooms_of heap) (graph_of old.node) c) at.limit
+    ∙ ap (λ r. answer_in (limit_of lines) r (graph_of old.node) c) at.rooms
+    ∙ ap (λ g. answer_in (limit_of lines) (rooms_after_all first_rooms past) g c) at.state in
     let now : map act_of new.history ≡ past ++ act_of step ∷ [] = ap (map act_of) acts.history ∙ map-push act_of old.history step in
     record {
       commands = ap (map done_by) acts.history ∙ map-push done_by old.history step ∙ ap (λ os. os ++ done_by step ∷ []) at.commands
