@@ -11,7 +11,7 @@ mod layout;
 mod replica;
 mod words;
 
-pub use replica::{LearnError, Replica};
+pub use replica::{LearnError, Lent, Replica};
 pub use words::{Word, Words};
 
 #[cfg(test)]

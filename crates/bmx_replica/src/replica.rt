@@ -18,6 +18,7 @@ use bmx_segment::{Clash, Header, Kind, PlaceError, Segments, State};
 use bmx_types::{Address, BunchNo, Info, Name, NoMemory, NodeNo, Place, Val};
 use std::alloc::Global;
 use std::marker::Model;
+use std::mem;
 
 /// How many words a segment has.
 const SEGMENT_WORDS: u32 = 1024;
@@ -72,6 +73,14 @@ impl Model for Replica {
     ghost invariant = { λ r. (r.me ≡ r.segments.me) × IsReplica r.directory.slots r.segments.blocks };
 }
 
+/// The parts of a replica, lent out of it: its names, and its segments, for calls that leave the header and
+/// the words of every name's object as they are.
+#[derive(Drop)]
+pub struct Lent {
+    directory: Directory,
+    pub segments: Segments,
+}
+
 /// Where the object of a name stands, and its header there.
 #[derive(Clone, Copy)]
 struct Found {
@@ -80,6 +89,8 @@ struct Found {
 }
 
 impl Replica {
+    ghost use Rattle.bmx_replica.specs.Lending.{slots_in};
+
     /// No name, nothing made or mapped. Takes no memory.
     pub fn new(alloc: Global, me: NodeNo, limit: u32) -> Replica
         requires { limit ≤ 65535 }
@@ -91,6 +102,42 @@ impl Replica {
             directory: Directory::new(alloc),
             segments: Segments::new(alloc, me, limit),
         }
+    }
+
+    /// Lends the segments, with the names, which the replica is without until they are given back. Takes no
+    /// memory.
+    pub fn lend(&mut self, alloc: Global) -> Lent
+        ensures slots { slots_in result ≡ self.old.slots }
+        ensures segments { result.segments ≡ self.old.heap }
+        ensures replica { IsReplica self.old.slots self.old.heap.blocks }
+        ensures left { self.new.slots ≡ [] }
+        ensures me { self.new.heap.me ≡ self.old.heap.me }
+    {
+        let nothing = Replica::new(alloc, self.me, 0);
+        let Replica {
+            directory,
+            segments,
+            ..
+        } = mem::replace(self, nothing);
+        Lent {
+            directory,
+            segments,
+        }
+    }
+
+    /// Takes back what was lent: the segments of its own node, in which each name's object still stands.
+    pub fn give_back(&mut self, lent: Lent)
+        requires replica { IsReplica (slots_in lent) lent.segments.blocks }
+        requires me { lent.segments.me ≡ self.old.heap.me }
+        ensures slots { self.new.slots ≡ slots_in lent }
+        ensures heap { self.new.heap ≡ lent.segments }
+    {
+        let Lent {
+            directory,
+            segments,
+        } = lent;
+        self.directory = directory;
+        self.segments = segments;
     }
 
     /// The segments.

@@ -1,12 +1,10 @@
-use Rattle.std.proofs.Common.{List, ◌≡◌, ℕ, true, subst, sym, refl}
-use Rattle.std.proofs.Math.Logic.{∥∥₁_map}
+use Rattle.std.proofs.Common.{List, ◌≡◌, ℕ, subst, sym}
 use Rattle.bmx_types.specs.declared.values.Val.{Val}
 use Rattle.bmx_types.specs.Words.{IsAddress}
 use Rattle.bmx_segment.specs.Blocks.{Block}
-use Rattle.bmx_segment.specs.Stores.{header_at}
 use Rattle.bmx_segment.specs.declared.headers.Header.{Header}
 use Rattle.bmx_segment.specs.declared.headers.Kind.TheVariants.{Ref}
-use Rattle.bmx_replica.specs.Chains.{Leads, here, Ends, EndsLive, Reaches, is_live}
+use Rattle.bmx_replica.specs.Chains.{here, Ends, EndsLive, Reaches}
 use Rattle.bmx_replica.specs.Replicas.{ReachesTarget, IsFound}
 use Rattle.bmx_replica.specs.declared.directory.Slot.{Slot}
 use Rattle.bmx_replica.proofs.Chained.{is_end-live}
