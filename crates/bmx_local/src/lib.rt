@@ -5,6 +5,8 @@
 mod locals;
 mod rules;
 mod solos;
+#[cfg(test)]
+mod tests;
 
 pub use locals::Local;
 pub use solos::Solo;

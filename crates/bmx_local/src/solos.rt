@@ -109,6 +109,13 @@ impl Solo {
         }
     }
 
+    /// How many names the node has made, that of the anchor counted.
+    pub fn made(&self) -> u64
+        ensures { result ≡ self.now.made }
+    {
+        self.made
+    }
+
     /// What the node has of the graph.
     pub fn into_local(self) -> Local
         requires { IsSolo self }
