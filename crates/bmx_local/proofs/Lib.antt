@@ -2,3 +2,4 @@ pub mod Shown
 pub mod Kept
 pub mod Opened
 pub mod Rooms
+pub mod Reached

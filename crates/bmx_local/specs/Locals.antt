@@ -1,13 +1,13 @@
 -- When a node's objects and registers mean a graph.
-use Rattle.std.specs.Prelude.{◌≡◌, ℕ, ◌<◌, List, Some, slice_index_or}
+use Rattle.std.specs.Prelude.{◌≡◌, ℕ, ◌<◌, ◌↔◌, List, Option, Some, slice_index_or}
 use Rattle.std.specs.Option.{option_map}
 use Rattle.std.specs.Int.{w64, cast_signed}
 use Rattle.bmx_types.specs.declared.values.Val.{Val}
 use Rattle.bmx_types.specs.declared.values.Val.TheVariants as val
 use Rattle.bmx_segment.specs.declared.headers.Kind.TheVariants.{Null, Int, Ref}
 use Rattle.bmx_replica.specs.declared.words.Word.{Word}
-use Rattle.bmx_replica.specs.Chains.{Reaches}
-use Rattle.bmx_replica.specs.Replicas.{Holding, entry_of, field_of, HasTarget}
+use Rattle.bmx_replica.specs.Chains.{Reaches, living_at}
+use Rattle.bmx_replica.specs.Replicas.{Holding, Entry, entry_of, field_of, HasTarget}
 use Rattle.bmx_graph.specs.State.{State}
 use Rattle.bmx_local.specs.declared.locals.Local.{Local}
 
@@ -26,10 +26,19 @@ Holds r w val.Null = w ≡ null_word
 Holds r w (val.Int k) = (w.kind ≡ Int) × (cast_signed w64 w.word ≡ k)
 Holds r w (val.Ref name) = (w.kind ≡ Ref) × Reaches r.heap.blocks w.word name
 
+-- where a name's entry says that its object stands
+abbrev pub place_of : Holding → ℕ → Option ℕ
+place_of r name = option_map (λ (e : Entry). e.place.address) (entry_of r name)
+
+-- the live header of a name stands where its entry says, and nowhere else
+abbrev pub StandInPlace : Holding → Type 0
+StandInPlace r = (name a : ℕ) → (living_at r.heap.blocks a ≡ Some name) ↔ (place_of r name ≡ Some a)
+
 -- the node has an entry of each object of the graph and of no other name, with a copy that has the
--- object's fields; each reference in a field is to a name that has an entry; each register's word is that
--- of what the graph's register holds
+-- object's fields; each reference in a field is to a name that has an entry; objects stand where their
+-- entries say; each register's word is that of what the graph's register holds
 pub record MeansGraph (l : Local) (s : State) : Type 0 where
   pub objects : (name : ℕ) → option_map (λ e. e.copy) (entry_of l.replica name) ≡ option_map (λ fields. Some fields) (s.object name)
   pub targets : (name i : ℕ) (v : Val) → field_of l.replica name i ≡ Some v → HasTarget l.replica v
+  pub places : StandInPlace l.replica
   pub registers : (r : ℕ) → r < 16 → Holds l.replica (word_of l.registers r) (s.register 0 r)

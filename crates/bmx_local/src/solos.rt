@@ -122,6 +122,8 @@ impl Solo {
         ensures local { result ≡ self.local }
         ensures means { MeansGraph result (graph_of self) }
     {
+        // What `segments` ensures says where objects stand.
+        let _placed = self.local.replica.segments();
         self.local
     }
 
