@@ -16,7 +16,7 @@ use Rattle.bmx_segment.specs.declared.headers.Header.{Header}
 use Rattle.bmx_graph.specs.State.{put}
 use Rattle.bmx_replica.specs.declared.directory.Slot.{Slot}
 use Rattle.bmx_replica.specs.declared.words.Word.{Word}
-use Rattle.bmx_replica.specs.Chains.{name_at}
+use Rattle.bmx_replica.specs.Chains.{name_at, AllLive}
 use Rattle.bmx_replica.specs.Slots.{slot_of}
 use Rattle.bmx_replica.specs.Replicas.{KeepsNames, ReachesTarget}
 use Rattle.bmx_replica.specs.Replicas.{Holding, Entry, entry_of, entry_in, copy_of, field_of, value_in, word_in, values_of, HasTarget, IsField, Puts, KeepsReach, info_in}
@@ -117,6 +117,7 @@ set_solo l made x w v words solo small is field holds held has =
     let each : (P : Word → Type 0) → P w → ((q : ℕ) → P (word_of l.registers q)) → (q : ℕ) → P (word_of words q) =
     λ P here others q. subst P (sym (put q)) (cond_of P (eqb x q) w (word_of l.registers q) here (others q)) in
     record {
+      live = solo.live;
       copies = solo.copies;
       targets = solo.targets;
       few = ap length is ∙ length-set l.registers x w ∙ solo.few;
@@ -160,13 +161,14 @@ pub put_solo : (l : Local) (had : ℕ) (new : Holding) (name made : ℕ) (e : En
     → ((j : ℕ) (v : Val) → slice_get fields j ≡ Some v → HasTarget l.replica v)
     → had ≤ made → ((count : ℕ) → made < count → name ≡ name_word 0 count → ⊥)
     → KeepsReach l.replica new → KeepsNames l.replica new
-    → length new.heap.current ≡ length l.replica.heap.current
+    → length new.heap.current ≡ length l.replica.heap.current → AllLive new.heap.blocks
     → Keeps (record l { replica = new }) made
-put_solo l had new name made e fields solo puts is targets more fresh reach names bunches =
+put_solo l had new name made e fields solo puts is targets more fresh reach names bunches live =
     let old : Holding = l.replica in
     let word : ℕ → Word = word_of l.registers in
     let same : (r : ℕ) → value_at new (word r) ≡ value_at old (word r) = λ r. value_kept old new (kind_number (word r).kind) (word r).word names (solo.fields r) in
     record {
+      live = live;
       copies = λ q there. ⊎_elim
           (λ (x : name ≡ q). subst IsSome (sym (object_put old new name e fields puts is q ∙ cond-true (name == q) (Some fields) (copy_of old q) (eq-eqb name q x))) refl)
           (λ (ne : name ≡ q → ⊥). subst IsSome (sym (object_put old new name e fields puts is q ∙ cond-false (name == q) (Some fields) (copy_of old q) (ne_eqb name q ne)))
@@ -222,6 +224,7 @@ same_but_spare old new slots heap = λ i. record { slots = sym slots i; heap = s
 
 spared : (l : Local) (made spare : ℕ) → Keeps l made → Keeps (record l { replica = record l.replica { spare = spare } }) made
 spared l made spare k = record {
+  live = k.live;
   copies = k.copies;
   targets = k.targets;
   few = k.few;

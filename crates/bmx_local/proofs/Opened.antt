@@ -4,6 +4,9 @@ use Rattle.std.proofs.lemmas.Bool.{cases_eq, false≢true, eq-eqb, ne_eqb, cond-
 use Rattle.std.proofs.lemmas.Option.{none-some}
 use Rattle.std.specs.Option.{option_map}
 use Rattle.bmx_types.specs.Words.{name_word}
+use Rattle.bmx_segment.specs.Blocks.{Block}
+use Rattle.bmx_segment.specs.Stores.{header_at}
+use Rattle.bmx_replica.specs.Chains.{AllLive}
 use Rattle.bmx_types.specs.declared.values.Val.{Val}
 use Rattle.bmx_types.specs.declared.values.Val.TheVariants as val
 use Rattle.bmx_types.specs.declared.openings.Birth.{Birth}
@@ -52,12 +55,13 @@ null_register h words r is = ap (value_at h) (null_word_of words r is)
 
 -- and the node keeps what it is to keep
 pub opened : (old new : Holding) (words : List Word) (name bunch at : ℕ) → old.slots ≡ [] → name ≡ 1 → Puts old new name (Some (blank_entry bunch 32 at))
-    → words ≡ replicate 16 null_word → length new.heap.current ≡ 16 → Keeps (record { replica = new; registers = words }) 1
-opened old new words name bunch at none is puts null bunches =
+    → words ≡ replicate 16 null_word → length new.heap.current ≡ 16 → AllLive new.heap.blocks → Keeps (record { replica = new; registers = words }) 1
+opened old new words name bunch at none is puts null bunches live =
     let each : (P : Word → Type 0) → P null_word → (r : ℕ) → P (word_of words r) = λ P h r. subst P (sym (null_word_of words r null)) h in
     let entry = one_entry old new name bunch at none is puts in
     let copy = one_copy old new name bunch at none is puts in
     record {
+      live = live;
       copies = λ q there. ⊎_elim
           (λ (x : 1 ≡ q). subst IsSome (sym (copy q ∙ cond-true (1 == q) (Some blank) None (eq-eqb 1 q x))) refl)
           (λ (ne : 1 ≡ q → ⊥). let gone : IsSome {T = Entry} None = subst IsSome (entry q ∙ cond-false (1 == q) (Some (blank_entry bunch 32 at)) None (ne_eqb 1 q ne)) there in absurd (false≢true gone))
@@ -74,3 +78,7 @@ opened old new words name bunch at none is puts null bunches =
       anchor = subst IsSome (sym (entry 1)) refl;
       bunches = bunches;
     }
+
+-- where no segment is mapped no header stands
+pub none_live : (blocks : List Block) → blocks ≡ [] → AllLive blocks
+none_live blocks is a h e = absurd (none-some h (sym (ap (λ (bs : List Block). header_at bs a) is) ∙ e))

@@ -1,9 +1,10 @@
 -- When a node's objects and registers mean a graph.
-use Rattle.std.specs.Prelude.{◌≡◌, ℕ, ◌<◌, ◌↔◌, List, Option, Some, slice_index_or}
+use Rattle.std.specs.Prelude.{◌≡◌, ℕ, ◌+◌, ◌<◌, ◌↔◌, List, Option, Some, slice_index_or}
 use Rattle.std.specs.Option.{option_map}
 use Rattle.std.specs.Int.{w64, cast_signed}
 use Rattle.bmx_types.specs.declared.values.Val.{Val}
 use Rattle.bmx_types.specs.declared.values.Val.TheVariants as val
+use Rattle.bmx_segment.specs.Stores.{word_at}
 use Rattle.bmx_segment.specs.declared.headers.Kind.TheVariants.{Null, Int, Ref}
 use Rattle.bmx_replica.specs.declared.words.Word.{Word}
 use Rattle.bmx_replica.specs.Chains.{Reaches, living_at}
@@ -34,11 +35,17 @@ place_of r name = option_map (λ (e : Entry). e.place.address) (entry_of r name)
 abbrev pub StandInPlace : Holding → Type 0
 StandInPlace r = (name a : ℕ) → (living_at r.heap.blocks a ≡ Some name) ↔ (place_of r name ≡ Some a)
 
+-- the word of each field that refers to a name, where that field's object stands, reaches the name
+abbrev pub FieldsReach : Holding → Type 0
+FieldsReach r = (name i a target : ℕ) → field_of r name i ≡ Some (val.Ref target) → place_of r name ≡ Some a → Reaches r.heap.blocks (word_at r.heap.blocks (a + 4 + i)) target
+
 -- the node has an entry of each object of the graph and of no other name, with a copy that has the
--- object's fields; each reference in a field is to a name that has an entry; objects stand where their
--- entries say; each register's word is that of what the graph's register holds
+-- object's fields; each reference in a field is to a name that has an entry, and following the field's word
+-- ends at the live header of that name; objects stand where their entries say; each register's word is that
+-- of what the graph's register holds
 pub record MeansGraph (l : Local) (s : State) : Type 0 where
   pub objects : (name : ℕ) → option_map (λ e. e.copy) (entry_of l.replica name) ≡ option_map (λ fields. Some fields) (s.object name)
   pub targets : (name i : ℕ) (v : Val) → field_of l.replica name i ≡ Some v → HasTarget l.replica v
+  pub fields : FieldsReach l.replica
   pub places : StandInPlace l.replica
   pub registers : (r : ℕ) → r < 16 → Holds l.replica (word_of l.registers r) (s.register 0 r)

@@ -12,6 +12,7 @@ use Rattle.bmx_types.specs.declared.commands.Refusal.TheVariants as refusal
 use Rattle.bmx_segment.specs.Headers.{kind_number}
 use Rattle.bmx_segment.specs.Heaps.{Heap, made_of, room_of}
 use Rattle.bmx_replica.specs.declared.words.Word.{Word}
+use Rattle.bmx_replica.specs.Chains.{AllLive}
 use Rattle.bmx_replica.specs.Replicas.{Holding, entry_of, copy_of, field_of, value_in, HasTarget, IsField}
 use Rattle.bmx_graph.specs.declared.answers.Answer.{Answer}
 use Rattle.bmx_graph.specs.declared.answers.Answer.TheVariants as answer
@@ -40,10 +41,11 @@ graph_of n = record {
   made = λ m. if m == 0 then n.made else 0;
 }
 
--- what a node keeps: each entry has a copy, each reference is to a name with an entry, the words of
+-- what a node keeps: each header is live, each entry has a copy, each reference is to a name with an entry, the words of
 -- registers are those of what they hold, no name to come has an entry, the anchor of bunch 0 has one, and
 -- each of the 16 bunches may have an open segment
 pub record Keeps (l : Local) (made : ℕ) : Type 0 where
+  pub live : AllLive l.replica.heap.blocks
   pub copies : (name : ℕ) → IsSome (entry_of l.replica name) → IsSome (copy_of l.replica name)
   pub targets : (name i : ℕ) (v : Val) → field_of l.replica name i ≡ Some v → HasTarget l.replica v
   pub few : length l.registers ≡ 16

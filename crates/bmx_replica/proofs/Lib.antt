@@ -8,3 +8,4 @@ pub mod Forgetting
 pub mod Making
 pub mod Lying
 pub mod Repointing
+pub mod Living

@@ -64,3 +64,7 @@ pub record Means (blocks : List Block) (w name : ℕ) : Type 0 where
 pub record Reaches (blocks : List Block) (w name : ℕ) : Type 0 where
   pub address : IsAddress w
   pub ends : ∥ EndsLive blocks w name ∥₁
+
+-- no object has moved and none was forgotten: each header is live
+abbrev pub AllLive : List Block → Type 0
+AllLive blocks = (a : ℕ) (h : Header) → header_at blocks a ≡ Some h → is_live h.state ≡ true

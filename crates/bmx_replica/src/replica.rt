@@ -8,7 +8,7 @@ ghost use Rattle.bmx_segment.specs.Heaps.{CanSet, made_of, room_of, handed_of};
 ghost use Rattle.bmx_replica.specs.Layouts.{Lays, Moves, Readies, CanLie, kinds_in, blank_header};
 ghost use Rattle.bmx_segment.specs.declared.segments.PlaceError.TheVariants.{Full};
 ghost use Rattle.bmx_replica.specs.Slots.{slot_of, address_of, PutsSlot};
-ghost use Rattle.bmx_replica.specs.Chains.{Means, name_at};
+ghost use Rattle.bmx_replica.specs.Chains.{Means, name_at, AllLive};
 ghost use Rattle.bmx_replica.specs.Replicas.{entry_of, info_in, copy_of, field_of, value_in, word_in, with_value, without_copy, at_place, OthersStay, IsCurrent, HasTargets, Repoints, CanMove, MakesObject, Learns, Accepts, Same, KeepsReachOfOthers, HasTarget, IsField, IsFound, IsReplica, Puts, KeepsMeaning, KeepsReach, KeepsNames, ReachesTarget};
 
 use crate::directory::{Directory, Slot};
@@ -382,6 +382,7 @@ impl Replica {
         ensures err_slots { OnErr result (self.new.slots ≡ self.old.slots) }
         ensures meaning { KeepsMeaning self.old self.new }
         ensures reach { KeepsReach self.old self.new }
+        ensures live { OnOk result (AllLive self.old.heap.blocks → AllLive self.new.heap.blocks) }
         ensures names { KeepsNames self.old self.new }
     {
         self.directory.reserve(1)?;

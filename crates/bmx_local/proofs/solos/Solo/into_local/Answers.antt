@@ -3,7 +3,8 @@ use Rattle.std.specs.Option.{option_map}
 use Rattle.bmx_types.specs.declared.values.Val.{Val}
 use Rattle.bmx_replica.specs.Replicas.{Entry, entry_of}
 use Rattle.bmx_local.specs.Solos.{graph_of, IsSolo}
-use Rattle.bmx_local.proofs.Reached.{stands_in_place}
+use Rattle.bmx_replica.proofs.Living.{reference_reaches}
+use Rattle.bmx_local.proofs.Reached.{placed_slot, stands_in_place}
 use Rattle.bmx_local.proofs.solos.Solo.into_local.Goals as goal
 
 full : (o : Option (List Val)) → IsSome o → Some o ≡ option_map (λ fields. Some fields) o
@@ -21,6 +22,7 @@ returns-clause-means c =
     record {
       objects = λ name. copies (entry_of n.local.replica name) (c.requires.copies name);
       targets = c.requires.targets;
+      fields = λ name i a target field place. reference_reaches n.local.replica name i a target c.segments-placed.ensures.replica c.requires.live field (placed_slot n.local.replica name a place);
       places = stands_in_place n.local.replica c.segments-placed.ensures.replica;
       registers = λ r small. c.requires.registers r;
     }

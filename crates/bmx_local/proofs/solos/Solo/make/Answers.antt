@@ -35,6 +35,7 @@ set_register-requires-clause-node c =
     (λ count above is. omega (arith, above, sym name ∙ is))
     c.make.ensures.reach c.make.ensures.names
     (made_current n.local.replica c.make.new.self c.unwrap-name.result c.args.bunch c.args.size made)
+    (c.in-Ok.ensures.live c.requires.node.live)
 
 pub returns-in-Ok-clause-ok : goal.returns-in-Ok-clause-ok
 unfolding graph_of IsSolo

@@ -1,4 +1,4 @@
-use Rattle.std.proofs.Common.{◌≡◌, ◌==◌, [], List, Some, Option, cond, length, slice_set, unwrap_or, option_and_then, refl, sym, ap, ◌∙◌, arith}
+use Rattle.std.proofs.Common.{◌≡◌, ℕ, ◌==◌, [], List, Some, None, Option, cond, length, slice_set, unwrap_or, option_and_then, refl, sym, ap, ◌∙◌, arith}
 use Rattle.std.proofs.lemmas.Option.{none-some}
 use Rattle.std.specs.Option.{option_map}
 use Rattle.bmx_types.specs.declared.values.Val.{Val}
@@ -6,12 +6,25 @@ use Rattle.bmx_types.specs.declared.values.Val.TheVariants as val
 use Rattle.bmx_segment.specs.Headers.{kind_number}
 use Rattle.bmx_graph.specs.State.{put}
 use Rattle.bmx_replica.specs.declared.words.Word.{Word}
-use Rattle.bmx_replica.specs.Replicas.{Holding, Entry, entry_of, copy_of, with_value, Puts}
+use Rattle.std.specs.Prelude.{IsSomeAnd}
+use Rattle.bmx_segment.specs.Stores.{Writes}
+use Rattle.bmx_replica.specs.Slots.{address_of}
+use Rattle.bmx_replica.specs.Chains.{AllLive}
+use Rattle.bmx_replica.proofs.Living.{all_live-written}
+use Rattle.bmx_replica.specs.Replicas.{Holding, Entry, entry_of, copy_of, with_value, word_in, Puts}
 use Rattle.bmx_local.specs.Locals.{word_of}
 use Rattle.bmx_local.specs.Solos.{graph_of, IsSolo}
 use Rattle.bmx_local.proofs.Shown.{graph_of-from}
 use Rattle.bmx_local.proofs.Kept.{field_copy, field_there, object_put, put_solo, set_targets, value_kept}
 use Rattle.bmx_local.proofs.solos.Solo.set_field.Goals as goal
+
+-- a field that is written leaves each header live
+written_at : (r new : Holding) (o : Option ℕ) (i : ℕ) (w : Word) → IsSomeAnd o (λ a. Writes r.heap.blocks new.heap.blocks a i (kind_number w.kind) w.word) → AllLive r.heap.blocks → AllLive new.heap.blocks
+written_at r new None i w writes all = absurd writes
+written_at r new (Some a) i w writes all = all_live-written r.heap.blocks new.heap.blocks a i (kind_number w.kind) w.word writes all
+
+written_live : (r new : Holding) (name i : ℕ) (w : Word) → IsSomeAnd (address_of r.slots name) (λ a. Writes r.heap.blocks new.heap.blocks a i (kind_number w.kind) w.word) → AllLive r.heap.blocks → AllLive new.heap.blocks
+written_live r new name i w writes all = written_at r new (address_of r.slots name) i w writes all
 
 pub returns-clause-graph : goal.returns-clause-graph
 unfolding graph_of IsSolo
@@ -47,6 +60,7 @@ returns-clause-node c =
     (λ count above is. none-some h.entry (sym (ap (entry_of r) is ∙ c.requires.node.fresh count above) ∙ h.at))
     c.write_field.ensures.reach c.write_field.ensures.names
     (ap (λ (h : Holding). length h.heap.current) c.write_field.ensures.rest)
+    (written_live r new name c.args.index (word_in r c.args.value) c.write_field.ensures.written c.requires.node.live)
 
 pub returns-clause-heap : goal.returns-clause-heap
 returns-clause-heap c = ap (λ (h : Holding). h.heap) c.write_field.ensures.rest

@@ -13,6 +13,7 @@ use Rattle.bmx_types.specs.declared.addresses.Info.{Info}
 use Rattle.bmx_types.specs.declared.values.Val.{Val}
 use Rattle.bmx_replica.proofs.Making.{HandsOut-same, HandsOut-me, absent_slot, Lays-after, Stands-added, null_fields}
 use Rattle.bmx_replica.proofs.Changing.{CanSet-same}
+use Rattle.bmx_replica.proofs.Living.{all_live-laid}
 use Rattle.bmx_replica.proofs.replica.Replica.make.Goals as goal
 
 pub invariant_of-self-2 : goal.invariant_of-self-2
@@ -128,3 +129,15 @@ returns-clause-names c =
     let there : Header = with_kinds (blank_header i) lays.kinds in
     let st : Stands slots' r.slots r.heap.blocks new c.args.name slot there = Stands-added r.slots slots' r.heap.blocks new i true c.self.invariant.1 absent puts lays before in
     rw (← c.self.view_is) (names_kept r.slots slots' r.heap.blocks new c.args.name slot there st)
+
+pub returns-clause-live : goal.returns-clause-live
+returns-clause-live c =
+    let r : Holding = the_view c.self.inside in
+    let at : ℕ = c.in_ok-address.address in
+    let mid : Heap = c.place.new.self in
+    let new : List Block = c.add_object.new.segments.blocks in
+    let i : Info = record { name = c.args.name; bunch = c.args.bunch; size = c.args.size; place = record { address = at; moves = 0 } } in
+    let hands : HandsOut r.heap mid c.args.bunch c.args.size at = record { roomy = c.in_ok-address.ensures.roomy; fresh = c.in_ok-address.ensures.new } in
+    let same = HandsOut-same r.heap mid c.args.bunch c.args.size at hands in
+    let lays : Lays r.heap.blocks new at (blank_header i) (λ _. 0) = Lays-after r.heap.blocks mid.blocks new at (blank_header i) (λ _. 0) same.0 same.1 c.in-Ok.ensures.laid in
+    rw (← c.self.view_is) (all_live-laid r.heap.blocks new at (blank_header i) (λ _. 0) lays)
