@@ -2,7 +2,8 @@ ghost use Rattle.std.specs.Prelude.{◌≡◌, ◌≤◌, IfSome};
 
 use crate::{LearnError, Replica, Word, Words};
 use bmx_segment::{Kind, PlaceError};
-use bmx_types::{Address, BunchNo, Info, Name, NodeNo, Place, Val};
+use bmx_types::{Address, BunchNo, Info, Name, NoMemory, NodeNo, Place, Val};
+use std::alloc::Global;
 use std::test::Fail;
 
 /// How many names the test of many has.
@@ -41,6 +42,14 @@ fn write(replica: &mut Replica, name: Name, i: u8, number: i64) -> bool {
     }
     replica.write_field(name, i, Val::Int(number));
     true
+}
+
+/// Reserves segments while they are lent.
+fn reserve_lent(replica: &mut Replica, alloc: Global, n: u32) -> Result<(), NoMemory> {
+    let mut lent = replica.lend(alloc);
+    let reserved = lent.segments.reserve(n);
+    replica.give_back(lent);
+    reserved
 }
 
 #[test]
@@ -92,6 +101,19 @@ fn a_moved_object_is_reached_by_its_old_address(rt: HostRuntime) -> Result<(), F
     replica.forget(name);
     assert_eq!(rt; replica.meaning(from.word()), Some(name));
     assert_eq!(rt; replica.info(name), None);
+    Ok(())
+}
+
+#[test]
+fn lent_segments_come_back(rt: HostRuntime) -> Result<(), Fail> {
+    let node = NodeNo::new(3).ok_or("node")?;
+    let bunch = BunchNo::new(0).ok_or("bunch")?;
+    let name = Name::new(node, 1).ok_or("name")?;
+    let mut replica = Replica::new(rt.alloc(), node, 4);
+    assert!(rt; make(&mut replica, name, bunch)?);
+    assert!(rt; write(&mut replica, name, 0, -5));
+    reserve_lent(&mut replica, rt.alloc(), 2)?;
+    assert_eq!(rt; replica.field(name, 0), Some(Val::Int(-5)));
     Ok(())
 }
 
