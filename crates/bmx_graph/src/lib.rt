@@ -9,6 +9,7 @@ mod walks;
 
 pub use answers::Answer;
 pub use graphs::Graph;
+pub use rules::{permits, sum};
 
 #[cfg(test)]
 mod tests;

@@ -3,7 +3,6 @@
 #![tactic(auto)]
 
 mod locals;
-mod rules;
 mod solos;
 #[cfg(test)]
 mod tests;

@@ -3,8 +3,7 @@ ghost use Rattle.bmx_types.specs.Words.{anchor_of};
 ghost use Rattle.bmx_types.specs.declared.commands.Command.TheVariants as command;
 
 use crate::locals::Local;
-use crate::rules::{permits, sum};
-use bmx_graph::Answer;
+use bmx_graph::{Answer, permits, sum};
 use bmx_replica::{Replica, Words};
 use bmx_segment::PlaceError;
 use bmx_types::{BunchNo, Command, Mode, Name, NoMemory, NodeNo, Operand, Refusal, Val};
