@@ -10,3 +10,4 @@ pub mod Pairs
 pub mod Sound
 pub mod Views
 pub mod Shared
+pub mod Readers

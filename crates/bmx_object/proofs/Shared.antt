@@ -211,7 +211,7 @@ shared_fresh w way fresh = record {
       (fresh_copy n (w.holds k) (fresh k)) (fresh_due n (w.holds k) (fresh k));
 }
 
-shared_first : (o : Object) → IsFirst o → IsShared (seen o)
+pub shared_first : (o : Object) → IsFirst o → IsShared (seen o)
 shared_first o (Absent first holds) = shared_fresh (seen o) (λ n k. ap flat (first.way n k)) (λ n. Nowhere (holds n))
 shared_first o (Born first born) = shared_fresh (seen o) (λ n k. ap flat (first.way n k)) (λ n. by_node n (cases n 0))
   where

@@ -1,9 +1,9 @@
 -- What holds of one object over all nodes, whatever steps are taken.
-use Rattle.std.specs.Prelude.{◌≡◌, ℕ, ◌+◌, ◌==◌, ◌&&◌, ◌⊎◌, Bool, true, false, if◌then◌else◌, List, [], ◌∷◌, Option, Some, None, IsSome}
+use Rattle.std.specs.Prelude.{◌≡◌, ℕ, ◌+◌, ◌==◌, ◌&&◌, ◌⊎◌, Bool, true, false, if◌then◌else◌, List, [], ◌∷◌, Contains, Option, Some, None, IsSome}
 use Rattle.bmx_types.specs.declared.numbers.Mode.TheVariants as mode
 use Rattle.bmx_token.specs.declared.parts.Role.{Role}
 use Rattle.bmx_token.specs.declared.parts.Role.TheVariants.{Owner, Parent}
-use Rattle.bmx_object.specs.Machine.{Holding, Slip, Note, Object, Run, IsFirst, IsNowhere, is_handover}
+use Rattle.bmx_object.specs.Machine.{Holding, Slip, Note, Grants, Object, Run, IsFirst, IsNowhere, is_handover}
 
 -- ## owners
 
@@ -65,3 +65,22 @@ WriteExcludes o =
 -- whatever steps are taken from an opening, a token for writing excludes
 abbrev pub TokensExclude : Type 0
 TokensExclude = (o p : Object) → IsFirst o → Run o p → WriteExcludes p
+
+-- ## readers
+
+-- a node owns the object, and has another among its readers
+pub record HasReader (o : Object) (owner reader : ℕ) : Type 0 where
+  pub holding : Holding
+  pub has : o.holds owner ≡ Some holding
+  pub owns : is_owner holding.part.role ≡ true
+  pub listed : Contains holding.part.readers reader
+
+-- each copy but the owner's, and each grant to read on its way, is of a node among the owner's readers: the
+-- owner is the parent of the node that has the copy, or the sender of the grant
+pub record ReadersListed (o : Object) : Type 0 where
+  pub copies : (n parent : ℕ) (h : Holding) → o.holds n ≡ Some h → h.copy ≡ true → h.part.role ≡ Parent parent → HasReader o parent n
+  pub grants : (n m : ℕ) (l : Slip) → Contains (o.way n m) l → Contains l.notes (Grants mode.Read) → HasReader o n m
+
+-- whatever steps are taken from an opening, the owner knows its readers
+abbrev pub ReadersAreListed : Type 0
+ReadersAreListed = (o p : Object) → IsFirst o → Run o p → ReadersListed p

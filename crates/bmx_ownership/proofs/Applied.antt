@@ -7,7 +7,7 @@ use Rattle.bmx_types.specs.declared.openings.Birth.{Birth}
 use Rattle.bmx_types.specs.declared.values.Val.TheVariants as val
 use Rattle.bmx_protocol.proofs.Worked.{worked_run_is_legal}
 use Rattle.bmx_ownership.specs.Laws.{LawsApply}
-use Rattle.bmx_ownership.proofs.Owners.{one_or_more}
+use Rattle.bmx_object.proofs.Readers.{one_or_more}
 
 -- the anchor of bunch 0
 abbrev the_birth : Birth

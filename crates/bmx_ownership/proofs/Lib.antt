@@ -14,5 +14,6 @@ pub mod Names
 pub mod Openings
 pub mod Histories
 pub mod Owners
+pub mod Readers
 pub mod Lifted
 pub mod Applied

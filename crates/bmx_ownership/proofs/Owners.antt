@@ -1,5 +1,5 @@
 -- What the machine's laws say of a store: each name has one owner, and a write excludes.
-use Rattle.std.proofs.Common.{◌≡◌, ℕ, ◌+◌, ◌≤◌, arith, refl, ap, sym, subst, ◌∙◌, Bool, true, false, cond, List, [], ◌∷◌, ◌++◌, map, zero, suc}
+use Rattle.std.proofs.Common.{◌≡◌, ℕ, ◌+◌, ◌≤◌, arith, refl, ap, sym, subst, ◌∙◌, Bool, true, false, cond, List, [], ◌∷◌, ◌++◌, map, suc}
 use Rattle.std.specs.Prelude.{◌==◌, ◌≢◌, ◌&&◌, ◌⊎◌, Option, Some, None, Contains}
 use Rattle.std.proofs.Common.{inl, inr}
 use Rattle.std.proofs.lemmas.List.{map-append}
@@ -18,16 +18,13 @@ use Rattle.bmx_protocol.specs.Worlds.{World, HasOwned, IsMoving, Owns, Has, Gets
 use Rattle.bmx_object.specs.Machine.{Note, Asks, Grants, Recalls, Returns, Tells, IsNowhere}
 use Rattle.bmx_object.specs.Laws.{is_owner, owned_at, handovers, handovers_in, Seat, Moving, is_at, IsOwned, HasOneSeat, WriteExcludes}
 use Rattle.bmx_object.specs.Laws.{At as AtNode}
+use Rattle.bmx_object.proofs.Readers.{one_or_more}
 use Rattle.bmx_ownership.specs.Seen.{seen, seen_slip, seen_notes, seen_holding, note_if, tells}
 use Rattle.bmx_ownership.specs.Laws.{EachHasOneSeat, is_handover_of, handovers_of, SeenSeatIsSeat}
 use Rattle.bmx_ownership.proofs.Basics.{eqb_of, eqb_is, eqb_same, Two, Same, Apart, two}
 use Rattle.bmx_ownership.proofs.Rows.{seen_known}
 
 -- ## where a name stands
-
-pub one_or_more : {A : Type 0} (y : A) (xs : List A) (x : A) → Contains (y ∷ xs) x → (y ≡ x) ⊎ Contains xs x
-one_or_more y xs x (zero, below, is) = inl is
-one_or_more y xs x (suc k, below, is) = inr (k, omega arith, is)
 
 -- what a list has stands between others
 split_at : {A : Type 0} (xs : List A) (x : A) → Contains xs x → (before : List A) × (after : List A) × (xs ≡ before ++ x ∷ after)

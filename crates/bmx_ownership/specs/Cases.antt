@@ -1,11 +1,12 @@
 -- Runs worked by hand, seen for one name, each closed by computing.
 use Rattle.std.specs.Prelude.{◌≡◌, ℕ, [], ◌∷◌, Some, None, refl}
+use Rattle.std.specs.Option.{option_map}
 use Rattle.bmx_types.specs.declared.commands.Command.TheVariants as command
 use Rattle.bmx_types.specs.declared.numbers.Mode.TheVariants as mode
 use Rattle.bmx_protocol.specs.Histories.{on_way}
 use Rattle.bmx_protocol.specs.Worlds.{World, world_of}
 use Rattle.bmx_protocol.specs.Cases.{Play, Do, Serve, Next, played, one_bunch, anchor, r0, told_of_the_object}
-use Rattle.bmx_object.specs.Machine.{Object, Grants, Tells, no_numbers, heard_from, made_holding}
+use Rattle.bmx_object.specs.Machine.{Holding, Object, Grants, Tells, no_numbers, heard_from, made_holding}
 use Rattle.bmx_ownership.specs.Seen.{seen, first_world}
 use Rattle.bmx_ownership.specs.Laws.{handovers_of}
 
@@ -44,6 +45,13 @@ the_anchor_is_given = refl
 
 the_object_is_given : (seen_in granted_the_anchor 2).entering 0 1 ≡ Some (record { sent = 1; got = 0 })
 the_object_is_given = refl
+
+-- a grant to read is on its way to node 1, and node 0 has it among the readers of the anchor, not of the object
+the_reader_is_listed : option_map (λ (h : Holding). h.part.readers) ((seen_in granted_the_anchor 1).holds 0) ≡ Some (1 ∷ [])
+the_reader_is_listed = refl
+
+no_reader_of_the_object : option_map (λ (h : Holding). h.part.readers) ((seen_in granted_the_anchor 2).holds 0) ≡ Some []
+no_reader_of_the_object = refl
 
 -- node 0 has what it made, and node 1 has heard of it once it has taken the grant
 its_maker_has_it : (seen_in told_of_the_object 2).holds 0 ≡ Some made_holding

@@ -1,6 +1,8 @@
 -- What holds of every name in every legal history.
-use Rattle.std.specs.Prelude.{◌≡◌, ℕ, ◌==◌, Bool, true, false, if◌then◌else◌, List, count_by}
+use Rattle.std.specs.Prelude.{◌≡◌, ℕ, ◌==◌, Bool, true, false, if◌then◌else◌, List, Contains, IsSome, count_by}
 use Rattle.bmx_types.specs.Openings.{IsOpening}
+use Rattle.bmx_types.specs.declared.addresses.Info.{Info}
+use Rattle.bmx_msg.specs.declared.letters.Field.{Field}
 use Rattle.bmx_msg.specs.declared.letters.Letter.{Letter}
 use Rattle.bmx_msg.specs.declared.letters.Msg.{Msg}
 use Rattle.bmx_msg.specs.declared.letters.Msg.TheVariants as msg
@@ -10,7 +12,7 @@ use Rattle.bmx_protocol.specs.declared.events.Event.{Event}
 use Rattle.bmx_protocol.specs.Nodes.{Setting, Known}
 use Rattle.bmx_protocol.specs.Steps.{Node}
 use Rattle.bmx_protocol.specs.Histories.{AreAfter, IsLegal}
-use Rattle.bmx_protocol.specs.Worlds.{World, world_of, HasOwned, IsSomewhere, EachHasOneOwner, WritesExclude}
+use Rattle.bmx_protocol.specs.Worlds.{World, world_of, HasOwned, HasParent, IsSomewhere, EachHasOneOwner, WritesExclude}
 use Rattle.bmx_protocol.specs.Cases.{one_bunch, told_of_the_object}
 use Rattle.bmx_ownership.specs.Seen.{seen, first_world}
 
@@ -67,6 +69,23 @@ SeenSeatIsSeat = (w : World) (x : ℕ) (s : Seat) → IsOwned (seen x w) s → I
 -- while a node holds an object for writing, no other node holds it
 abbrev pub WriteExcludes : Type 0
 WriteExcludes = Always WritesExclude
+
+-- a node owns x, and has another among its readers of it
+pub record HasReader (w : World) (x owner reader : ℕ) : Type 0 where
+  pub known : Known
+  pub owned : HasOwned w x owner known
+  pub listed : Contains known.part.readers reader
+
+-- each copy but the owner's, and each grant to read on its way, is of a node among the owner's readers: the
+-- owner is the parent of the node that has the copy, or the sender of the grant
+pub record EachReaderIsListed (w : World) : Type 0 where
+  pub copies : (n x parent : ℕ) (k : Known) → HasParent w x n parent k → IsSome k.copy → HasReader w x parent n
+  pub grants : (n m : ℕ) (l : Letter) (info : Info) (fields : List Field) → Contains (w.way n m) l →
+      l.msg ≡ msg.ReadGrant info fields → HasReader w info.name n m
+
+-- the owner knows the readers of each object
+abbrev pub ReadersAreListed : Type 0
+ReadersAreListed = Always (λ st w. EachReaderIsListed w)
 
 -- the laws speak of something: a store of two nodes opens with one bunch, and a run worked by hand is legal
 -- there

@@ -1,4 +1,4 @@
-ghost use Rattle.bmx_ownership.specs.Laws.{SeenIsRun, OneOwner, OneSeat, SeenSeatIsSeat, WriteExcludes, LawsApply};
+ghost use Rattle.bmx_ownership.specs.Laws.{SeenIsRun, OneOwner, OneSeat, ReadersAreListed, SeenSeatIsSeat, WriteExcludes, LawsApply};
 
 /// The law that what a legal history leads to, seen for one name, is the end of a run of the machine of
 /// one object. It does nothing.
@@ -28,6 +28,12 @@ pub fn seen_seat_is_seat()
 /// It does nothing.
 pub fn write_excludes()
     ensures { WriteExcludes }
+{}
+
+/// The law that in every legal history an object's owner lists its readers: each node that has a copy beside
+/// it, or to which a grant to read is on its way. It does nothing.
+pub fn readers_are_listed()
+    ensures { ReadersAreListed }
 {}
 
 /// The law that there is a store and a legal history of it, worked by hand, to which the other laws apply.

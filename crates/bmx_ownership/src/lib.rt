@@ -1,7 +1,10 @@
-//! One owner for each object, and a write that excludes, in every legal history: each name of a store, with
+//! One owner for each object, which lists its readers, and a write that excludes, in every legal history: each name of a store, with
 //! the letters that speak of it, is a run of the machine of one object. It has definitions and laws alone.
 #![tactic(auto)]
 
 mod laws;
 
-pub use laws::{laws_apply, one_owner, one_seat, seen_is_run, seen_seat_is_seat, write_excludes};
+pub use laws::{
+    laws_apply, one_owner, one_seat, readers_are_listed, seen_is_run, seen_seat_is_seat,
+    write_excludes,
+};

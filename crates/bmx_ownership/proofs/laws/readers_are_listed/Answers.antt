@@ -1,0 +1,5 @@
+use Rattle.bmx_ownership.proofs.Lifted.{readers_always}
+use Rattle.bmx_ownership.proofs.laws.readers_are_listed.Goals as goal
+
+pub returns : goal.returns
+returns c = readers_always
