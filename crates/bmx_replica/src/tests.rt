@@ -61,6 +61,7 @@ fn a_larger_moves_wins(rt: HostRuntime) -> Result<(), Fail> {
     let first = Address::new(other, 1, 0).ok_or("first")?;
     let second = Address::new(other, 1, 100).ok_or("second")?;
     let mut replica = Replica::new(rt.alloc(), node, 4);
+    replica.reserve(1)?;
     replica.learn(&told(name, bunch, first, 2))?;
     replica.learn(&told(name, bunch, second, 1))?;
     let info = replica.info(name).ok_or("info")?;
