@@ -10,7 +10,7 @@ build:
 	mkdir -p bin
 	cp crates/bmx_cli/out/bmx_cli bin/bmx
 
-# The gate: every proof from nothing, each edit that must fail, each test and program.
+# The gate: every proof, each edit that must fail, each test and program.
 test:
 	./.ci/run
 
