@@ -1,8 +1,9 @@
 -- The object over all nodes without its letters: what nodes have, and what is said on each way, in order.
 use Rattle.std.proofs.Common.{◌≡◌, ◌≢◌, ◌⊎◌, inl, inr, ℕ, List, [], ◌∷◌, ◌++◌, replicate, refl, ap, sym}
 use Rattle.std.specs.Prelude.{◌==◌, if◌then◌else◌, Option, Some, None}
+use Rattle.bmx_token.specs.declared.parts.Role.TheVariants.{Owner, Parent}
 use Rattle.bmx_object.specs.Machine.{Note, Tells, Send, send, Holding, Object, Move, Act, made_holding, at_one, at_two, move_of, take_note}
-use Rattle.bmx_object.proofs.Tallies.{Cases, Same, Apart, cases, same_true, apart_false, flat}
+use Rattle.bmx_object.proofs.Tallies.{tally, read_grant, Cases, Same, Apart, cases, same_true, apart_false, flat}
 
 pub record World : Type 0 where
   pub holds : ℕ → Option Holding
@@ -34,6 +35,20 @@ pub record IsEmpty (w : World) : Type 0 where
   pub unknown : (n : ℕ) → w.holds n ≡ None
   pub untold : (n k : ℕ) → w.mail n k ≡ []
 
+-- the world once a node has nothing of the object
+abbrev pub without : World → ℕ → World
+without w me = record { holds = at_one w.holds me None; mail = w.mail }
+
+-- what a node has of the object isn't needed
+pub record IsSpare (w : World) (me : ℕ) (h : Holding) : Type 0 where
+  pub want : h.part.want ≡ None
+  pub queue : h.part.queue ≡ []
+  pub waiting : h.part.waiting ≡ []
+  pub due : h.part.due ≡ None
+  pub no_child : (n : ℕ) (k : Holding) → w.holds n ≡ Some k → k.part.role ≢ Parent me
+  pub no_grant : (n : ℕ) → tally read_grant (w.mail me n) ≡ 0
+  pub alone : h.part.role ≡ Owner → IsEmpty (without w me)
+
 -- one step of the world: a note is taken at a time
 pub data Turn (w v : World) : Type 0 where
   Makes : (me : ℕ) → IsEmpty w → v ≡ after_move w me record { after = Some made_holding; sends = [] } → Turn w v
@@ -42,6 +57,7 @@ pub data Turn (w v : World) : Type 0 where
       take_note me from note (w.holds me) ≡ Some m → v ≡ after_move (with_rest w from me rest) me m → Turn w v
   Writes : (me to tells : ℕ) → (w.holds me ≡ None → tells ≡ 0) →
       v ≡ after_move w me record { after = w.holds me; sends = send to (replicate tells Tells) ∷ [] } → Turn w v
+  Forgets : (me : ℕ) (h : Holding) → w.holds me ≡ Some h → IsSpare w me h → v ≡ without w me → Turn w v
 
 -- ## functions of numbers
 

@@ -11,3 +11,12 @@ pub mod Sound
 pub mod Views
 pub mod Shared
 pub mod Readers
+pub mod Letters
+pub mod Asking
+pub mod Requests
+pub mod Parents
+pub mod Asked
+pub mod Chains
+pub mod Forgetting
+pub mod Tables
+pub mod Fitting

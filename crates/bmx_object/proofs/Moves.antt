@@ -56,7 +56,7 @@ none_moves w me from m = record {
   holds = λ n. refl;
 }
 
-one_moves : (w : World) (me from : ℕ) (note : Note) (rest : List Note) (m : Move) → w.mail from me ≡ note ∷ rest →
+pub one_moves : (w : World) (me from : ℕ) (note : Note) (rest : List Note) (m : Move) → w.mail from me ≡ note ∷ rest →
     Moves w (after_move (with_rest w from me rest) me m) me from (note ∷ []) m
 one_moves w me from note rest m way = record {
   left = at_two w.mail from me rest;

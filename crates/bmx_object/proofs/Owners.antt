@@ -4,11 +4,12 @@ use Rattle.std.specs.Prelude.{◌==◌, ◌&&◌, if◌then◌else◌, Option, S
 use Rattle.bmx_types.specs.declared.numbers.Mode.TheVariants.{Read, Write}
 use Rattle.bmx_token.specs.declared.parts.Ask.{Ask}
 use Rattle.bmx_token.specs.declared.parts.Role.{Role}
+use Rattle.bmx_token.specs.declared.parts.Role.TheVariants.{Owner, Parent}
 use Rattle.bmx_token.specs.declared.parts.Part.{Part}
 use Rattle.bmx_object.specs.Machine.{Note, Asks, Returns, Tells, send, Holding, Object, Move, Run, IsFirst, Absent, Born, IsFirstElsewhere, Unknown, Heard, made_holding, grant, at_one}
 use Rattle.bmx_object.specs.Laws.{is_owner, owned_at, Seat, At, Moving, is_at, is_moving, IsOwned, HasOneSeat, OwnershipIsOne}
 use Rattle.bmx_object.proofs.Tallies.{tally, handover, weighs_nothing, tells_weigh_nothing, handovers_in-tally, Cases, Same, Apart, cases, same_true, eqb_true, flat}
-use Rattle.bmx_object.proofs.Flat.{World, seen, notes_to, sent, after_move, IsEmpty, Turn}
+use Rattle.bmx_object.proofs.Flat.{World, seen, notes_to, sent, after_move, without, IsEmpty, IsSpare, Turn}
 use Rattle.bmx_object.proofs.Runs.{IsKept, kept_run, nowhere_of, sent-none}
 use Rattle.bmx_object.proofs.Acts.{Alters, TakesWanted, Reads, Wants, OwnerWrites, Queues, Frees, Readies, Acts, Rests, Hears, AltersTo, Answers, GrantsRead, HandsOver, Revokes, GetsRead, GetsWrite, ReturnsNone, ReturnsNow, ReturnsLater, GetsBack}
 use Rattle.bmx_object.proofs.Handlers.{tally-send, nothing-send}
@@ -22,7 +23,7 @@ pub data Owns (taken : List Note) (h : Option Holding) (m : Move) : Type 0 where
       ((k : ℕ) → tally handover (notes_to k m.sends) ≡ (if k == to then 1 else 0)) → Owns taken h m
   Gains : owned_at m.after ≡ 1 → tally handover taken ≡ 1 → ((k : ℕ) → tally handover (notes_to k m.sends) ≡ 0) → Owns taken h m
 
-role_kept : (copy : Bool) (p q : Part) → Alters copy p q → q.role ≡ p.role
+pub role_kept : (copy : Bool) (p q : Part) → Alters copy p q → q.role ≡ p.role
 role_kept copy p q (TakesWanted m held want ready e) = ap (λ (x : Part). x.role) e
 role_kept copy p q (Reads has held want e) = ap (λ (x : Part). x.role) e
 role_kept copy p q (Wants m parent role held want e) = ap (λ (x : Part). x.role) e
@@ -43,7 +44,7 @@ one_send k to note h = nothing-send handover k to (note ∷ []) [] (omega arith)
 read_sends_none : (k to selves : ℕ) → tally handover (notes_to k (send to (grant Read selves) ∷ [])) ≡ 0
 read_sends_none k to selves = nothing-send handover k to (grant Read selves) [] (omega (arith, tells_weigh_nothing handover refl selves)) refl
 
-write_sends_one : (k to selves : ℕ) (rest : List Ask) →
+pub write_sends_one : (k to selves : ℕ) (rest : List Ask) →
     tally handover (notes_to k (send to (grant Write selves) ∷ map (λ (a : Ask). send to (Asks a.mode a.asker ∷ [])) rest)) ≡ cond (k == to) 1 0
 write_sends_one k to selves rest =
     tally-send handover k to (grant Write selves) (map (λ (a : Ask). send to (Asks a.mode a.asker ∷ [])) rest) ∙ by_test (k == to)
@@ -243,15 +244,29 @@ none_is_not h b e f = absurd cc
 nil_is_not : {A : Type 0} (a : List Note) (n : Note) (rest : List Note) → a ≡ [] → a ≡ n ∷ rest → A
 nil_is_not a n rest e f = absurd cc
 
+-- a node that isn't the owner forgets, or the owner does and the object is nowhere
+seated_without : (w : World) (me : ℕ) (h : Holding) → w.holds me ≡ Some h → IsSpare w me h → (s : Seat) → IsAt w s → IsSeated (without w me)
+seated_without w me h has spare s at = by_role h.part.role refl
+  where
+    by_node : (n : ℕ) → owned_as h.part.role ≡ 0 → Cases n me → owned_at (cond (n == me) None (w.holds n)) ≡ owned_at (w.holds n)
+    by_node n child (Same e t) = rw t (sym (ap (λ (x : ℕ). owned_at (w.holds x)) e ∙ ap owned_at has ∙ child))
+    by_node n child (Apart e t) = rw t refl
+
+    by_role : (r : Role) → h.part.role ≡ r → IsSeated (without w me)
+    by_role Owner e = inl (spare.alone e)
+    by_role (Parent x) e = inr (s, record { nodes = λ n. by_node n (ap owned_as e) (cases n me) ∙ at.nodes n; mail = at.mail })
+
 pub seated_kept : IsKept IsSeated
 seated_kept w v (inl none) (Turn.Makes me empty e) = made w v me none e
 seated_kept w v (inl none) (Turn.Does me selves a h has e) = none_is_not (w.holds me) h (none.unknown me) has
 seated_kept w v (inl none) (Turn.Takes from me note rest m way t e) = nil_is_not (w.mail from me) note rest (none.untold from me) way
 seated_kept w v (inl none) (Turn.Writes me to tells told e) = inl (empty_writes w v me to tells none (told (none.unknown me)) e)
+seated_kept w v (inl none) (Turn.Forgets me h has spare e) = none_is_not (w.holds me) h (none.unknown me) has
 seated_kept w v (inr at) (Turn.Makes me empty e) = made w v me empty e
 seated_kept w v (inr at) (Turn.Does me selves a h has e) = seated_after w v (does_acted w v me selves a h has e) at
 seated_kept w v (inr at) (Turn.Takes from me note rest m way t e) = seated_after w v (takes_acted w v from me note rest m way t e) at
 seated_kept w v (inr at) (Turn.Writes me to tells told e) = seated_after w v (writes_acted w v me to tells e) at
+seated_kept w v (inr at) (Turn.Forgets me h has spare e) = subst IsSeated (sym e) (seated_without w me h has spare at.0 at.1)
 
 -- ## the law
 

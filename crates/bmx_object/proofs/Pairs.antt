@@ -1,6 +1,6 @@
 -- An owner and a reader: what the owner knows of the reader, what is on the ways between them, and what
 -- the reader has, all as numbers. Each act of either keeps what holds of them.
-use Rattle.std.proofs.Common.{◌≡◌, ℕ, ◌+◌, ◌≤◌, arith}
+use Rattle.std.proofs.Common.{◌≡◌, ◌⊎◌, inl, inr, ℕ, ◌+◌, ◌≤◌, arith}
 
 -- r, w: whether the reader is among the owner's readers, and among those it waits for; g, c: grants to
 -- read and recalls on the way to the reader, and b: grants that stand behind recalls; t: returns on
@@ -9,7 +9,7 @@ use Rattle.std.proofs.Common.{◌≡◌, ℕ, ◌+◌, ◌≤◌, arith}
 pub record IsFine (r w g c b t p d : ℕ) : Type 0 where
   pub granted : 1 ≤ g → 1 ≤ r
   pub copied : p ≤ r
-  pub waited : c + d + t ≤ w
+  pub waited : c + d + t ≡ w
   pub ordered : b ≡ 0
   pub due : 1 ≤ d → g ≡ 0
   pub returned : 1 ≤ t → p ≡ 0
@@ -82,3 +82,9 @@ reader_keeps r w g c b t p d r' w' g' c' b' t' p' d' sg sc tt tg tc st f h o (Co
 reader_keeps r w g c b t p d r' w' g' c' b' t' p' d' sg sc tt tg tc st f h o (Delays less more tg0 tc1 st0) = omega arith
 reader_keeps r w g c b t p d r' w' g' c' b' t' p' d' sg sc tt tg tc st f h o (Answers p0 same tg0 tc1 st1) = omega arith
 reader_keeps r w g c b t p d r' w' g' c' b' t' p' d' sg sc tt tg tc st f h o (Releases p0 less tg0 tc0 st1) = omega arith
+
+-- a node of which nothing is on its way forgets
+pub forgets_keeps : (r w g c b t p d r' w' p' d' : ℕ) → IsFine r w g c b t p d → w' ≡ w → p' ≤ p → d' ≡ d → (r ≤ r') ⊎ ((g ≡ 0) × (p ≡ 0)) →
+    IsFine r' w' g c b t p' d'
+forgets_keeps r w g c b t p d r' w' p' d' f w0 p0 d0 (inl more) = omega arith
+forgets_keeps r w g c b t p d r' w' p' d' f w0 p0 d0 (inr none) = omega (arith, none.0, none.1)

@@ -1,9 +1,10 @@
 -- What each turn of the flat world keeps, each run of the object keeps.
-use Rattle.std.proofs.Common.{◌≡◌, ◌≢◌, ◌⊎◌, inl, inr, ℕ, ◌+◌, List, [], ◌∷◌, ◌++◌, append_assoc, append-nil, replicate, refl, ap, ap₂, sym, subst, subst₂, ◌∙◌, Bool, true, false, cond}
+use Rattle.std.proofs.Common.{◌≡◌, ◌≢◌, ◌⊎◌, inl, inr, ℕ, ◌+◌, arith, List, [], ◌∷◌, ◌++◌, append_assoc, append-nil, replicate, refl, ap, ap₂, sym, subst, subst₂, ◌∙◌, Bool, true, false, cond}
 use Rattle.std.specs.Prelude.{◌==◌, if◌then◌else◌, Option, Some, None}
-use Rattle.bmx_object.specs.Machine.{Note, Slip, Tells, Send, send, Holding, Object, Move, Step, IsNowhere, Run, Stays, Goes, Makes, Does, Takes, Writes, at_one, at_two, with_holding, issue, issue_all, moved, move_of, popped, take_note, take_notes, take_no_note, take_more, and_then}
-use Rattle.bmx_object.proofs.Tallies.{same_true, apart_false, flat}
-use Rattle.bmx_object.proofs.Flat.{World, seen, notes_to, sent, after_move, with_rest, IsEmpty, Turn, at_one-here, at_one-same, at_two-here, at_two-apart, Both, Other, pair_cases}
+use Rattle.bmx_object.specs.Machine.{Note, Slip, Tells, Send, send, Holding, Object, Move, Step, IsNowhere, Run, Stays, Goes, Makes, Does, Takes, Writes, Forgets, Clears, IsUnneeded, is_gift, is_given, Asks, Grants, Recalls, Returns, at_one, at_two, with_holding, issue, issue_all, moved, move_of, popped, take_note, take_notes, take_no_note, take_more, and_then}
+use Rattle.bmx_types.specs.declared.numbers.Mode.TheVariants as mode
+use Rattle.bmx_object.proofs.Tallies.{tally, tally-append, read_grant, same_true, apart_false, flat}
+use Rattle.bmx_object.proofs.Flat.{World, seen, notes_to, sent, after_move, with_rest, without, IsEmpty, IsSpare, Turn, at_one-here, at_one-same, at_two-here, at_two-apart, Both, Other, pair_cases}
 
 pub world_path : (w v : World) → ((n : ℕ) → w.holds n ≡ v.holds n) → ((n k : ℕ) → w.mail n k ≡ v.mail n k) → w ≡ v
 world_path w v p q = λ i. record { holds = λ n. p n i; mail = λ n k. q n k i }
@@ -79,11 +80,11 @@ issued_notes o me s n k = elim (pair_cases me s.to n k) [
         ∙ flat-append (o.way me s.to) (slip ∷ [])
         ∙ ap (λ (x : List Note). flat (o.way me s.to) ++ x) (append-nil s.notes ∙ sym (sent-here me s))
 
-issued_all_holds : (o : Object) (me : ℕ) (sends : List Send) → (issue_all o me sends).holds ≡ o.holds
+pub issued_all_holds : (o : Object) (me : ℕ) (sends : List Send) → (issue_all o me sends).holds ≡ o.holds
 issued_all_holds o me [] = refl
 issued_all_holds o me (s ∷ sends) = issued_all_holds (issue o me s) me sends
 
-issued_all_notes : (o : Object) (me : ℕ) (sends : List Send) (n k : ℕ) →
+pub issued_all_notes : (o : Object) (me : ℕ) (sends : List Send) (n k : ℕ) →
     flat ((issue_all o me sends).way n k) ≡ flat (o.way n k) ++ sent me sends n k
 issued_all_notes o me [] n k = sym (append-nil (flat (o.way n k))) ∙ ap (λ (x : List Note). flat (o.way n k) ++ x) (sym (sent-none me n k))
 issued_all_notes o me (s ∷ sends) n k =
@@ -127,6 +128,44 @@ nowhere_of o h = record {
   untold = λ n m l before after e.
       let all : flat before ++ (l.notes ++ flat after) ≡ [] = sym (flat-append before (l ∷ after)) ∙ ap flat (sym e) ∙ h.untold n m in
       (append_is_empty l.notes (flat after) (append_is_empty (flat before) (l.notes ++ flat after) all).1).0;
+}
+
+-- ## what nothing needs
+
+given_none : (n : Note) (rest : List Note) → is_given (n ∷ rest) ≡ false → (read_grant n ≡ 0) × (is_given rest ≡ false)
+given_none (Asks m asker) rest h = (refl, h)
+given_none (Grants mode.Read) rest h = absurd cc
+given_none (Grants mode.Write) rest h = (refl, h)
+given_none Recalls rest h = (refl, h)
+given_none Returns rest h = (refl, h)
+given_none Tells rest h = absurd cc
+
+ungiven : (notes : List Note) → is_given notes ≡ false → tally read_grant notes ≡ 0
+ungiven [] h = refl
+ungiven (n ∷ notes) h =
+    let g : (read_grant n ≡ 0) × (is_given notes ≡ false) = given_none n notes h in
+    omega (arith, g.0, ungiven notes g.1)
+
+flat_of_ungiven : (letters : List Slip) → ((l : Slip) (before after : List Slip) → letters ≡ before ++ l ∷ after → is_given l.notes ≡ false) →
+    tally read_grant (flat letters) ≡ 0
+flat_of_ungiven [] h = refl
+flat_of_ungiven (l ∷ letters) h =
+    omega (
+      arith,
+      tally-append read_grant l.notes (flat letters),
+      ungiven l.notes (h l [] letters refl),
+      flat_of_ungiven letters (λ k before after e. h k (l ∷ before) after (ap (λ (x : List Slip). l ∷ x) e)),
+    )
+
+spare_of : (o : Object) (me : ℕ) (h : Holding) → IsUnneeded o me h → IsSpare (seen o) me h
+spare_of o me h u = record {
+  want = u.idle.want;
+  queue = u.idle.queue;
+  waiting = u.idle.waiting;
+  due = u.idle.due;
+  no_child = u.no_child;
+  no_grant = λ n. flat_of_ungiven (o.way me n) (u.no_gift n);
+  alone = λ r. empty_of (with_holding o me None) (u.alone r);
 }
 
 -- ## what is kept
@@ -184,10 +223,10 @@ taken_twice w from me front rest a b = world_path _ _ holds mail
           ∙ ap (λ (x : List Note). x ++ sent me (a.sends ++ b.sends) n k) (sym (at_two-apart w.mail from me rest n k h))
     ]
 
-none_is_not : {A : Type 0} {B : Type 0} (a : A) → None ≡ Some a → B
+pub none_is_not : {A : Type 0} {B : Type 0} (a : A) → None ≡ Some a → B
 none_is_not a h = absurd cc
 
-some_is : (a b : Move) → Some a ≡ Some b → a ≡ b
+pub some_is : (a b : Move) → Some a ≡ Some b → a ≡ b
 some_is a b h = cc
 
 -- what taking notes keeps, from any world on
@@ -239,6 +278,10 @@ kept_step P kept o p h (Takes from me l rest m way t e) =
 kept_step P kept o p h (Writes me to tells told e) =
     kept (seen o) (seen p) h (Turn.Writes me to tells told
     (ap seen e ∙ world_path _ _ (λ n. sym (at_one-same o.holds me n)) (λ n k. issued_notes o me (send to (replicate tells Tells)) n k)))
+
+kept_step P kept o p h (Forgets me b holds u e) =
+    kept (seen o) (seen p) h (Turn.Forgets me b holds (spare_of o me b u) (ap seen e))
+kept_step P kept o p h (Clears me other u e) = subst P (sym (ap seen e)) h
 
 pub kept_run : (P : World → Type 0) → IsKept P → (o p : Object) → P (seen o) → Run o p → P (seen p)
 kept_run P kept o p h Stays = h

@@ -1,5 +1,5 @@
 -- Readers and writers: each turn of the world keeps what holds of each node, and of each owner and reader.
-use Rattle.std.proofs.Common.{◌≡◌, inl, inr, ℕ, ◌+◌, ◌*◌, ◌≤◌, arith, List, [], refl, ap, sym, subst, ◌∙◌, Bool, true, false, cond}
+use Rattle.std.proofs.Common.{◌≡◌, ◌≢◌, ◌⊎◌, inl, inr, ℕ, ◌+◌, ◌*◌, ◌≤◌, arith, List, [], refl, ap, sym, subst, ◌∙◌, Bool, true, false, cond}
 use Rattle.std.specs.Prelude.{◌==◌, Option, Some, None, IsSome}
 use Rattle.bmx_types.specs.declared.numbers.Mode.{Mode}
 use Rattle.bmx_types.specs.declared.numbers.Mode.TheVariants.{Write}
@@ -8,14 +8,14 @@ use Rattle.bmx_token.specs.declared.parts.Role.TheVariants.{Owner, Parent}
 use Rattle.bmx_object.specs.Machine.{Note, Holding, Object, Move, IsFirst, Absent, Born, IsFirstElsewhere, Unknown, Heard, made_holding, heard_from}
 use Rattle.bmx_object.specs.Laws.{owned_at, Seat, At, TokensExclude}
 use Rattle.bmx_object.proofs.Tallies.{tally, read_grant, recall, return, behind, behind-append, behind_no_recall, behind_no_grant, Cases, Same, Apart, cases, same_true, flat}
-use Rattle.bmx_object.proofs.Flat.{World, seen, notes_to, sent, Turn}
+use Rattle.bmx_object.proofs.Flat.{World, seen, notes_to, sent, without, IsSpare, Turn}
 use Rattle.bmx_object.proofs.Runs.{IsKept, kept_run}
 use Rattle.bmx_object.proofs.Moves.{came, Moves, Acted, none_moves, does_acted, takes_acted, writes_acted, tally-before, tally-after}
 use Rattle.bmx_object.proofs.Owners.{IsSeated, IsAt, owned_as, seat_at, seated_run}
 use Rattle.bmx_object.proofs.Times.{times}
 use Rattle.bmx_object.proofs.Sound.{IsSound, IsSoundIf, sound_when_made, sound_when_heard, sound_after}
-use Rattle.bmx_object.proofs.Pairs.{IsFine, IsChange, OwnerRests, OwnerActs, ReaderRests, ReaderActs, owner_keeps, reader_keeps}
-use Rattle.bmx_object.proofs.Views.{reads_of, waits_of, copied_as, copy_from, due_to, taken_of, AsOwner, AsReader, View, ByOwner, ByReader, view, view_new}
+use Rattle.bmx_object.proofs.Pairs.{IsFine, IsChange, OwnerRests, OwnerActs, ReaderRests, ReaderActs, owner_keeps, reader_keeps, forgets_keeps}
+use Rattle.bmx_object.proofs.Views.{reads_of, waits_of, copied_as, copy_from, due_as, due_to, taken_of, AsOwner, AsReader, View, ByOwner, ByReader, view, view_new}
 
 -- ## the ways between two nodes
 
@@ -157,6 +157,49 @@ shared_acted w v a s =
     shared_after w v a.me a.from a.taken a.move a.moves (view a.from a.taken (w.holds a.me) a.move a.acts (s.sound a.me))
     (sound_after a.from a.taken (w.holds a.me) a.move a.acts (s.sound a.me)) s
 
+-- what a node has isn't needed, and is forgotten
+shared_without : (w : World) (me : ℕ) (h : Holding) → w.holds me ≡ Some h → IsSpare w me h → IsShared w → IsShared (without w me)
+shared_without w me h has spare s = record {
+  sound = λ n. sound n (cases n me);
+  pairs = λ n k. forgets_keeps _ _ _ _ _ _ _ _ _ _ _ _ (s.pairs n k) (waits n k (cases n me)) (copies n k (cases k me)) (dues n k (cases k me)) (reads n k (cases n me));
+}
+  where
+    after : ℕ → Option Holding
+    after n = (without w me).holds n
+
+    sound : (n : ℕ) → Cases n me → IsSoundIf (after n)
+    sound n (Same e t) = rw t tt
+    sound n (Apart e t) = rw t (s.sound n)
+
+    waits : (n k : ℕ) → Cases n me → times k (waits_of (after n)) ≡ times k (waits_of (w.holds n))
+    waits n k (Same e t) = rw t (sym (ap (λ x. times k (waits_of (w.holds x))) e ∙ ap (λ o. times k (waits_of o)) has ∙ ap (times k) spare.waiting))
+    waits n k (Apart e t) = rw t refl
+
+    copies : (n k : ℕ) → Cases k me → copy_from n (after k) ≤ copy_from n (w.holds k)
+    copies n k (Same e t) = rw t (omega arith)
+    copies n k (Apart e t) = rw t (omega arith)
+
+    dues : (n k : ℕ) → Cases k me → due_to n (after k) ≡ due_to n (w.holds k)
+    dues n k (Same e t) = rw t (sym (ap (λ x. due_to n (w.holds x)) e ∙ ap (due_to n) has ∙ ap (due_as n) spare.due))
+    dues n k (Apart e t) = rw t refl
+
+    no_copy : (k : ℕ) (o : Option Holding) → w.holds k ≡ o → copy_from me o ≡ 0
+    no_copy k None e = refl
+    no_copy k (Some b) e = by_copy b.copy b.part.role (spare.no_child k b e)
+      where
+        by_copy : (c : Bool) (r : Role) → r ≢ Parent me → copied_as me c r ≡ 0
+        by_copy false r none = refl
+        by_copy true Owner none = refl
+        by_copy true (Parent x) none = by_test (cases me x)
+          where
+            by_test : Cases me x → cond {A = ℕ} (me == x) 1 0 ≡ 0
+            by_test (Same f t) = absurd (none (ap (λ (y : ℕ). Parent y) (sym f)))
+            by_test (Apart f t) = rw t refl
+
+    reads : (n k : ℕ) → Cases n me → (times k (reads_of (w.holds n)) ≤ times k (reads_of (after n))) ⊎ ((tally read_grant (w.mail n k) ≡ 0) × (copy_from n (w.holds k) ≡ 0))
+    reads n k (Same e t) = inr (ap (λ x. tally read_grant (w.mail x k)) e ∙ spare.no_grant k, ap (λ (x : ℕ). copy_from x (w.holds k)) e ∙ no_copy k (w.holds k) refl)
+    reads n k (Apart e t) = inl (rw t (omega arith))
+
 pub shared_kept : IsKept IsShared
 shared_kept w v s (Turn.Makes me empty e) =
     let m : Move = record { after = Some made_holding; sends = [] } in
@@ -168,11 +211,12 @@ shared_kept w v s (Turn.Makes me empty e) =
 shared_kept w v s (Turn.Does me selves a h has e) = shared_acted w v (does_acted w v me selves a h has e) s
 shared_kept w v s (Turn.Takes from me note rest m way t e) = shared_acted w v (takes_acted w v from me note rest m way t e) s
 shared_kept w v s (Turn.Writes me to tells told e) = shared_acted w v (writes_acted w v me to tells e) s
+shared_kept w v s (Turn.Forgets me h has spare e) = subst IsShared (sym e) (shared_without w me h has spare s)
 
 -- ## at first
 
-fine_first : (r q g c b t p d : ℕ) → g ≡ 0 → c ≡ 0 → b ≡ 0 → t ≡ 0 → p ≡ 0 → d ≡ 0 → IsFine r q g c b t p d
-fine_first r q g c b t p d g0 c0 b0 t0 p0 d0 = record {
+fine_first : (r q g c b t p d : ℕ) → q ≡ 0 → g ≡ 0 → c ≡ 0 → b ≡ 0 → t ≡ 0 → p ≡ 0 → d ≡ 0 → IsFine r q g c b t p d
+fine_first r q g c b t p d q0 g0 c0 b0 t0 p0 d0 = record {
   granted = omega arith;
   copied = omega arith;
   waited = omega arith;
@@ -198,6 +242,11 @@ fresh_copy n h (Nowhere e) = ap (copy_from n) e
 fresh_copy n h (Owned e) = ap (copy_from n) e
 fresh_copy n h (Known e) = ap (copy_from n) e
 
+fresh_waits : (k : ℕ) (h : Option Holding) → IsFresh h → times k (waits_of h) ≡ 0
+fresh_waits k h (Nowhere e) = ap (λ o. times k (waits_of o)) e
+fresh_waits k h (Owned e) = ap (λ o. times k (waits_of o)) e
+fresh_waits k h (Known e) = ap (λ o. times k (waits_of o)) e
+
 fresh_due : (n : ℕ) (h : Option Holding) → IsFresh h → due_to n h ≡ 0
 fresh_due n h (Nowhere e) = ap (due_to n) e
 fresh_due n h (Owned e) = ap (due_to n) e
@@ -207,7 +256,7 @@ shared_fresh : (w : World) → ((n k : ℕ) → w.mail n k ≡ []) → ((n : ℕ
 shared_fresh w way fresh = record {
   sound = λ n. fresh_sound (w.holds n) (fresh n);
   pairs = λ n k.
-      fine_first _ _ _ _ _ _ _ _ (ap (tally read_grant) (way n k)) (ap (tally recall) (way n k)) (ap behind (way n k)) (ap (tally return) (way k n))
+      fine_first _ _ _ _ _ _ _ _ (fresh_waits k (w.holds n) (fresh n)) (ap (tally read_grant) (way n k)) (ap (tally recall) (way n k)) (ap behind (way n k)) (ap (tally return) (way k n))
       (fresh_copy n (w.holds k) (fresh k)) (fresh_due n (w.holds k) (fresh k));
 }
 
@@ -231,7 +280,7 @@ one_seat w s n m at a b =
     cc
 
 -- who has a reader is the owner
-read_is_owner : (h : Option Holding) (x : ℕ) → IsSoundIf h → 1 ≤ times x (reads_of h) → owned_at h ≡ 1
+pub read_is_owner : (h : Option Holding) (x : ℕ) → IsSoundIf h → 1 ≤ times x (reads_of h) → owned_at h ≡ 1
 read_is_owner None x s r = absurd (omega arith)
 read_is_owner (Some b) x s r = by_role b.part.role refl
   where

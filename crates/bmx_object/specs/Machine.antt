@@ -1,11 +1,12 @@
 -- One object's token over all nodes: what each node has of the object, the letters on their way with
 -- what they say of it, and its entering records. Each step is of one node. What a node does with its
 -- token is what bmx_token says.
-use Rattle.std.specs.Prelude.{◌≡◌, ◌≢◌, ℕ, ◌+◌, ◌==◌, max, Bool, true, false, ◌||◌, if◌then◌else◌, List, [], ◌∷◌, ◌++◌, map, replicate, Option, Some, None, unwrap_or}
+use Rattle.std.specs.Prelude.{◌≡◌, ◌≢◌, ◌⊎◌, ℕ, ◌+◌, ◌==◌, max, Bool, true, false, ◌||◌, if◌then◌else◌, List, [], ◌∷◌, ◌++◌, map, replicate, Option, Some, None, unwrap_or}
 use Rattle.bmx_types.specs.declared.numbers.Mode.{Mode}
 use Rattle.bmx_types.specs.declared.numbers.Mode.TheVariants as mode
 use Rattle.bmx_token.specs.declared.parts.Ask.{Ask}
 use Rattle.bmx_token.specs.declared.parts.Part.{Part}
+use Rattle.bmx_token.specs.declared.parts.Role.TheVariants.{Owner, Parent}
 use Rattle.bmx_token.specs.declared.answers.Acquire.{Acquire}
 use Rattle.bmx_token.specs.declared.answers.Acquire.TheVariants as acquire_is
 use Rattle.bmx_token.specs.declared.answers.Release.{Release}
@@ -270,6 +271,49 @@ pub record IsNowhere (o : Object) : Type 0 where
 abbrev pub made_holding : Holding
 made_holding = record { copy = true; part = owner_part }
 
+-- ## what nothing needs
+
+-- a note asks for the object
+abbrev pub is_ask : Note → Bool
+is_ask (Asks m asker) = true
+is_ask (Grants m) = false
+is_ask Recalls = false
+is_ask Returns = false
+is_ask Tells = false
+
+abbrev pub is_asked : List Note → Bool
+is_asked [] = false
+is_asked (n ∷ notes) = is_ask n || is_asked notes
+
+-- nothing happens about the token: it isn't held or wanted, nobody waits and nothing is owed
+pub record IsIdle (p : Part) : Type 0 where
+  pub held : p.held ≡ None
+  pub want : p.want ≡ None
+  pub due : p.due ≡ None
+  pub queue : p.queue ≡ []
+  pub waiting : p.waiting ≡ []
+
+-- nothing needs what a node has of the object: nothing happens about its token there, it has no record of
+-- another node, is nobody's parent, gives the object in no letter on its way and is asked in none; and where
+-- it owns the object, the object is nowhere else
+pub record IsUnneeded (o : Object) (me : ℕ) (h : Holding) : Type 0 where
+  pub idle : IsIdle h.part
+  pub no_record : (m : ℕ) → o.entering me m ≡ None
+  pub no_child : (m : ℕ) (k : Holding) → o.holds m ≡ Some k → k.part.role ≢ Parent me
+  pub no_gift : (m : ℕ) (l : Slip) (before after : List Slip) → o.way me m ≡ before ++ l ∷ after → is_given l.notes ≡ false
+  pub no_ask : (m : ℕ) (l : Slip) (before after : List Slip) → o.way m me ≡ before ++ l ∷ after → is_asked l.notes ≡ false
+  pub alone : h.part.role ≡ Owner → IsNowhere (with_holding o me None)
+
+-- nothing needs the record at a node of another: the other's parent is not this node, but where ownership is
+-- on its way here; no letter on its way there gives the object; and a request on its way from there has a
+-- grant of ownership in front
+pub record IsUnneededRecord (o : Object) (me other : ℕ) : Type 0 where
+  pub no_child : (k : Holding) → o.holds other ≡ Some k → k.part.role ≡ Parent me →
+      (l : Slip) × (before : List Slip) × (after : List Slip) × (o.way other me ≡ before ++ l ∷ after) × (is_brought l.notes ≡ true)
+  pub no_gift : (l : Slip) (before after : List Slip) → o.way me other ≡ before ++ l ∷ after → is_given l.notes ≡ false
+  pub no_ask : (l : Slip) (before after : List Slip) → o.way other me ≡ before ++ l ∷ after → is_asked l.notes ≡ true →
+      (g : Slip) × (front : List Slip) × (back : List Slip) × (before ≡ front ++ g ∷ back) × (is_brought g.notes ≡ true)
+
 -- one step of one node, from one state of the object to another
 pub data Step (o p : Object) : Type 0 where
   -- it makes the object
@@ -281,6 +325,10 @@ pub data Step (o p : Object) : Type 0 where
       take_notes me from l.notes (o.holds me) ≡ Some m → p ≡ moved (popped o from me l rest) me m → Step o p
   -- it issues a letter about another object, some of whose fields may refer to this one, if it knows this one
   Writes : (me to tells : ℕ) → (o.holds me ≡ None → tells ≡ 0) → p ≡ issue o me (send to (replicate tells Tells)) → Step o p
+  -- it forgets what it has of it, which nothing needs
+  Forgets : (me : ℕ) (h : Holding) → o.holds me ≡ Some h → IsUnneeded o me h → p ≡ with_holding o me None → Step o p
+  -- it clears its record of another node, which nothing needs
+  Clears : (me other : ℕ) → IsUnneededRecord o me other → p ≡ record o { entering = at_two o.entering me other None } → Step o p
 
 -- steps one after another
 pub data Run (o : Object) : Object → Type 0 where
@@ -298,6 +346,8 @@ pub data IsFirstElsewhere (h : Option Holding) : Type 0 where
 pub record IsBorn (o : Object) : Type 0 where
   pub owner : o.holds 0 ≡ Some made_holding
   pub others : (n : ℕ) → n ≢ 0 → IsFirstElsewhere (o.holds n)
+  -- and it has a record of each node that has heard of it
+  pub recorded : (n : ℕ) → o.holds n ≡ Some (heard_from 0) → o.entering 0 n ≡ Some no_numbers
 
 -- a record that stands at first is at node 0, of a node that has heard of the object, and no letter is in it yet
 pub record IsFirstRecord (o : Object) (n m : ℕ) (r : Numbers) : Type 0 where

@@ -48,7 +48,7 @@ record Came (st : Setting) (x : ℕ) (start : Object) (past : List Event) (nodes
   replay : AreAfter st past nodes
   channels : Channels past nodes
   few : (n : ℕ) → (nodes n).state.made ≤ 320000 + steps_of n past
-  aware : (n : ℕ) → IsAware st x (nodes n).state
+  aware : (n : ℕ) → n < st.nodes → IsAware st x (nodes n).state
   named : IsNamed x nodes past
   run : Run start (seen x (world_of nodes past))
 
@@ -135,6 +135,7 @@ record IsEvent (st : Setting) (x : ℕ) (start : Object) (past : List Event) (no
   came : Came st x start past nodes
   step : IsStep st e.node (nodes e.node) e.stamp e.input e.done after
   few : steps_of e.node past + 1 < 2 ^ 55
+  real : e.node < st.nodes
 
 enough_names : (st : Setting) (x : ℕ) (start : Object) (past : List Event) (nodes : ℕ → Node) (e : Event) (after : Node) → IsEvent st x start past nodes e after →
     (nodes e.node).state.made + 1 < 2 ^ 56
@@ -172,7 +173,7 @@ quiet st x start past nodes e after row ev r leaves did freed none = record {
       (Nothing none (λ m. ap (λ (f : ℕ → ℕ). f m) (taken_after e after row r ∙ leaves.taken))) came.channels;
   few = few_more past nodes e after
       (subst (λ (k : ℕ). k ≤ (nodes e.node).state.made + 1) (sym (made_after e after row r)) (at_most_one (nodes e.node).state.made row.after.made leaves.made)) came.few;
-  aware = quiet_aware st x nodes e after row r did freed came.aware;
+  aware = quiet_aware st x nodes e after row r did freed ev.real came.aware;
   named = quiet_named x nodes past e after row is enough did unknown came.named;
   run = quiet_run x nodes past e after row start is did unknown
       (λ new. clean_nowhere x nodes past (new_clean x nodes past e.node came.named enough new)) came.run;
@@ -185,7 +186,7 @@ quiet st x start past nodes e after row ev r leaves did freed none = record {
     enough = enough_names st x start past nodes e after ev
 
     unknown : seen_known ((nodes e.node).state.known x) ≡ None → NoneRefers x (nodes e.node).state
-    unknown none = (came.aware e.node none).0.fields
+    unknown none = (came.aware e.node ev.real none).0.fields
 
     is : IsQuiet x nodes past e after row
     is = record { row_of = r; leaves = leaves; way = λ n m. way_nothing n m past e (came.channels.within n m) (none n m) }
@@ -232,7 +233,7 @@ taking st x start past nodes e after from l ev is next good row r answered same 
           (First from l rest first one (λ m. ap (λ (f : ℕ → ℕ). f m) (taken_after e after took_row here ∙ took.taken))) came.channels;
       few = few_more past nodes e after
           (subst (λ (k : ℕ). k ≤ s.made + 1) (sym (made_after e after took_row here ∙ took.names)) (omega arith)) came.few;
-      aware = taking_aware st x nodes past e after from l rest t came.aware;
+      aware = taking_aware st x nodes past e after from l rest t ev.real came.aware;
       named = taking_named x nodes past e after took_row from l rest t came.named;
       run = taking_run x nodes past e after took_row from l rest start t came.run;
     }
@@ -287,7 +288,7 @@ by_input st x start past nodes e after ev (input.Take from l) is of next step =
 one_more : (st : Setting) (x : ℕ) (start : Object) (past : List Event) (nodes : ℕ → Node) (e : Event) (after : Node) → Came st x start past nodes →
     Fits st past e → IsStep st e.node (nodes e.node) e.stamp e.input e.done after → Came st x start (past ++ e ∷ []) (put nodes e.node after)
 one_more st x start past nodes e after came fits step =
-    by_input st x start past nodes e after (record { came = came; step = step; few = fits.few }) e.input refl fits.an_input fits.next step
+    by_input st x start past nodes e after (record { came = came; step = step; few = fits.few; real = fits.a_node }) e.input refl fits.an_input fits.next step
 
 -- ## histories
 

@@ -1,6 +1,6 @@
 -- A node knows each name that it refers to: where a name is unknown to it, no field of a copy and no register there
 -- refers to it, and it is no anchor. After one more event too.
-use Rattle.std.proofs.Common.{◌≡◌, ℕ, refl, ap, sym, subst, ◌∙◌, Bool, true, false, cond, List, [], ◌∷◌}
+use Rattle.std.proofs.Common.{◌≡◌, ℕ, ◌<◌, refl, ap, sym, subst, ◌∙◌, Bool, true, false, cond, List, [], ◌∷◌}
 use Rattle.std.specs.Prelude.{◌==◌, Option, Some, None, is_some}
 use Rattle.bmx_types.specs.declared.numbers.Mode.{Mode}
 use Rattle.bmx_types.specs.declared.numbers.Mode.TheVariants as mode
@@ -65,19 +65,19 @@ free_after x e after row r free = subst (IsFree x) (sym r.state) (record {
 })
 
 -- a fact of each node that holds of the one that changes and of the others
-pub at_nodes : (P : Node → Type 0) (nodes : ℕ → Node) (me : ℕ) (after : Node) → P after → ((n : ℕ) → P (nodes n)) → (n : ℕ) → P (put nodes me after n)
-at_nodes P nodes me after here others n = by_test (me == n)
+pub at_nodes : (P : Node → Type 0) (nodes : ℕ → Node) (me : ℕ) (after : Node) → P after → (n : ℕ) → P (nodes n) → P (put nodes me after n)
+at_nodes P nodes me after here n other = by_test (me == n)
   where
     by_test : (b : Bool) → P (cond b after (nodes n))
     by_test true = here
-    by_test false = others n
+    by_test false = other
 
 -- entries stay, and where there was none and is none nothing comes to refer to x
 aware_after : (st : Setting) (x : ℕ) (nodes : ℕ → Node) (e : Event) (after : Node) (row : Row) → IsRowOf e after row →
     (is_some (seen_known ((nodes e.node).state.known x)) ≡ true → is_some (seen_known (row.after.known x)) ≡ true) →
     (seen_known ((nodes e.node).state.known x) ≡ None → seen_known (row.after.known x) ≡ None → IsUnborn st x → IsFree x (nodes e.node).state → IsFree x row.after) →
-    ((n : ℕ) → IsAware st x (nodes n).state) → (n : ℕ) → IsAware st x (put nodes e.node after n).state
-aware_after st x nodes e after row r stays freed aware = at_nodes (λ n. IsAware st x n.state) nodes e.node after here aware
+    e.node < st.nodes → ((n : ℕ) → n < st.nodes → IsAware st x (nodes n).state) → (n : ℕ) → n < st.nodes → IsAware st x (put nodes e.node after n).state
+aware_after st x nodes e after row r stays freed real aware n below = at_nodes (λ n. IsAware st x n.state) nodes e.node after here n (aware n below)
   where
     s : NodeState
     s = (nodes e.node).state
@@ -92,7 +92,7 @@ aware_after st x nodes e after row r stays freed aware = at_nodes (λ n. IsAware
     here : IsAware st x after.state
     here none =
         let gone : seen_known (row.after.known x) ≡ None = ap seen_known (sym (known_after x e after row r)) ∙ none in
-        let old : IsFree x s × IsUnborn st x = aware e.node (before gone) in
+        let old : IsFree x s × IsUnborn st x = aware e.node real (before gone) in
         (free_after x e after row r (freed (before gone) gone old.1 old.0), old.1)
 
 -- ## events that take no letter
@@ -103,7 +103,7 @@ seen_some (Some k) h n = cc
 
 pub quiet_aware : (st : Setting) (x : ℕ) (nodes : ℕ → Node) (e : Event) (after : Node) (row : Row) →
     IsRowOf e after row → Did x e.node (nodes e.node).state row → (IsUnborn st x → IsFree x (nodes e.node).state → Freed x row.after) →
-    ((n : ℕ) → IsAware st x (nodes n).state) → (n : ℕ) → IsAware st x (put nodes e.node after n).state
+    e.node < st.nodes → ((n : ℕ) → n < st.nodes → IsAware st x (nodes n).state) → (n : ℕ) → n < st.nodes → IsAware st x (put nodes e.node after n).state
 quiet_aware st x nodes e after row r did freed =
     aware_after st x nodes e after row r (did_stays x e.node (nodes e.node).state row did) (λ none gone unborn free. by_freed gone (freed unborn free))
   where
@@ -190,7 +190,7 @@ unknown_free x me s from seq (msg.InvAck name) only free =
 
 pub taking_aware : (st : Setting) (x : ℕ) (nodes : ℕ → Node) (past : List Event) (e : Event) (after : Node) (from : ℕ) (l : Letter) (rest : List Letter) →
     IsTaking x nodes past e after (take_row e.node (nodes e.node).state from l.seq l.msg) from l rest →
-    ((n : ℕ) → IsAware st x (nodes n).state) → (n : ℕ) → IsAware st x (put nodes e.node after n).state
+    e.node < st.nodes → ((n : ℕ) → n < st.nodes → IsAware st x (nodes n).state) → (n : ℕ) → n < st.nodes → IsAware st x (put nodes e.node after n).state
 taking_aware st x nodes past e after from l rest t =
     aware_after st x nodes e after (take_row e.node s from l.seq l.msg) t.row_of
     (taking_stays x nodes past e after (take_row e.node s from l.seq l.msg) from l rest t)

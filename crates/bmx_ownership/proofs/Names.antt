@@ -178,7 +178,7 @@ named_after x nodes past e after row r out named = record {
     by_clean clean (inl made) = inl
         ((λ i. is_some (seen_known ((cond (eqb_of (sym made.0) i) after (nodes (maker x))).state.known x))) ∙ some made.1)
     by_clean clean (inr still) = inr (record {
-      unknown = at_nodes (λ n. seen_known (n.state.known x) ≡ None) nodes me after (known ∙ still.0) clean.unknown;
+      unknown = λ n. at_nodes (λ n. seen_known (n.state.known x) ≡ None) nodes me after (known ∙ still.0) n (clean.unknown n);
       silent = still.1;
     })
 

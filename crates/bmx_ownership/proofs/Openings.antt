@@ -66,9 +66,13 @@ numbered_birth st opening x i below is none = by_cases (slice_get_cases st.birth
 
 -- ## where a name is
 
+-- a node of the store is told of an anchor at first
+abbrev is_told : Setting → ℕ → ℕ → Bool
+is_told st n x = nat_lt n st.nodes && is_anchor st x
+
 known_at : (st : Setting) (x n : ℕ) (b : Option Birth) → birth_of st x ≡ b →
-    first_known st n x ≡ cond (n == 0) (option_map owned_birth b) (cond (is_anchor st x) (option_map heard_birth b) None)
-known_at st x n b is = ap (λ (k : Option Birth). cond (n == 0) (option_map owned_birth k) (cond (is_anchor st x) (option_map heard_birth k) None)) is
+    first_known st n x ≡ cond (n == 0) (option_map owned_birth b) (cond (is_told st n x) (option_map heard_birth b) None)
+known_at st x n b is = ap (λ (k : Option Birth). cond (n == 0) (option_map owned_birth k) (cond (is_told st n x) (option_map heard_birth k) None)) is
 
 none_at : (a b : Bool) → cond a (option_map owned_birth None) (cond b (option_map heard_birth None) None) ≡ None
 none_at true b = refl
@@ -76,7 +80,7 @@ none_at false true = refl
 none_at false false = refl
 
 unknown_at : (st : Setting) (x n : ℕ) → birth_of st x ≡ None → seen_known (first_known st n x) ≡ None
-unknown_at st x n none = ap seen_known (known_at st x n None none ∙ none_at (n == 0) (is_anchor st x))
+unknown_at st x n none = ap seen_known (known_at st x n None none ∙ none_at (n == 0) (is_told st n x))
 
 no_numbers_there : (r : Numbers) → None ≡ Some r → ⊥
 no_numbers_there r is = cc
@@ -91,13 +95,13 @@ elsewhere b n true false h = Heard refl
 elsewhere b n false false h = Unknown refl
 
 -- a record that stands at first, by the tests that it stands under
-first_record : (st : Setting) (x n m : ℕ) (r : Numbers) (b : Option Birth) → birth_of st x ≡ b → (t u v a : Bool) → (n == 0) ≡ t → nat_lt 0 m ≡ u → is_anchor st x ≡ a →
+first_record : (st : Setting) (x n m : ℕ) (r : Numbers) (b : Option Birth) → birth_of st x ≡ b → (t u v a : Bool) → (n == 0) ≡ t → nat_lt 0 m ≡ u → nat_lt m st.nodes ≡ v → is_anchor st x ≡ a →
     option_map seen_numbers (cond (t && u && v && a) (option_map (λ (c : Birth). blank x c.bunch m) b) None) ≡ Some r →
     IsFirstRecord (seen x (first_world st)) n m r
-first_record st x n m r (Some b) is true true true true here above anchor at = record {
+first_record st x n m r (Some b) is true true true true here above there anchor at = record {
   here = eqb_is n 0 here;
   heard = ap seen_known (known_at st x m (Some b) is
-      ∙ (λ i. cond (not_first i) (Some (owned_birth b)) (cond (anchor i) (Some (heard_birth b)) None)));
+      ∙ (λ i. cond (not_first i) (Some (owned_birth b)) (cond (there i && anchor i) (Some (heard_birth b)) None)));
   numbers = same no_numbers r at;
 }
   where
@@ -106,19 +110,41 @@ first_record st x n m r (Some b) is true true true true here above anchor at = r
 
     same : (c d : Numbers) → Some c ≡ Some d → d ≡ c
     same c d h = cc
-first_record st x n m r None is true true true true here above anchor at = absurd (no_numbers_there r at)
-first_record st x n m r b is true true true false here above anchor at = absurd (no_numbers_there r at)
-first_record st x n m r b is true true false a here above anchor at = absurd (no_numbers_there r at)
-first_record st x n m r b is true false v a here above anchor at = absurd (no_numbers_there r at)
-first_record st x n m r b is false u v a here above anchor at = absurd (no_numbers_there r at)
+first_record st x n m r None is true true true true here above there anchor at = absurd (no_numbers_there r at)
+first_record st x n m r b is true true true false here above there anchor at = absurd (no_numbers_there r at)
+first_record st x n m r b is true true false a here above there anchor at = absurd (no_numbers_there r at)
+first_record st x n m r b is true false v a here above there anchor at = absurd (no_numbers_there r at)
+first_record st x n m r b is false u v a here above there anchor at = absurd (no_numbers_there r at)
 
 first_untouched : (st : Setting) (x : ℕ) → IsUntouched (seen x (first_world st))
 first_untouched st x = record {
   way = λ n m. refl;
   issued = λ n m. refl;
   taken = λ n m. refl;
-  records = λ n m r at. first_record st x n m r (birth_of st x) refl (n == 0) (nat_lt 0 m) (nat_lt m st.nodes) (is_anchor st x) refl refl refl at;
+  records = λ n m r at. first_record st x n m r (birth_of st x) refl (n == 0) (nat_lt 0 m) (nat_lt m st.nodes) (is_anchor st x) refl refl refl refl at;
 }
+
+owned_is_not_heard : {A : Type 0} → Some made_holding ≡ Some (heard_from 0) → A
+owned_is_not_heard e =
+    let both : Some true ≡ Some false = ap (option_map (λ (h : Holding). h.copy)) e in
+    absurd cc
+
+none_is_not_heard : {A : Type 0} → None ≡ Some (heard_from 0) → A
+none_is_not_heard e = absurd cc
+
+recorded : (st : Setting) (x n : ℕ) (b : Birth) → birth_of st x ≡ Some b → (t : Bool) → (n == 0) ≡ t → (v : Bool) → nat_lt n st.nodes ≡ v → (a : Bool) → is_anchor st x ≡ a →
+    seen_known (cond (n == 0) (Some (owned_birth b)) (cond (is_told st n x) (Some (heard_birth b)) None)) ≡ Some (heard_from 0) →
+    (seen x (first_world st)).entering 0 n ≡ Some no_numbers
+recorded st x n b is true here v there a anchor h =
+    owned_is_not_heard ((λ i. seen_known (cond (sym here i) (Some (owned_birth b)) (cond (is_told st n x) (Some (heard_birth b)) None))) ∙ h)
+recorded st x n b is false here true there true anchor h =
+    let above : nat_lt 0 n ≡ true = grind (arith, nat_tests) in
+    (λ i. option_map seen_numbers (cond (above i && there i && anchor i) (option_map (λ (c : Birth). blank x c.bunch n) (birth_of st x)) None))
+    ∙ ap (λ k. option_map seen_numbers (option_map (λ (c : Birth). blank x c.bunch n) k)) is
+recorded st x n b is false here true there false anchor h =
+    none_is_not_heard ((λ i. seen_known (cond (sym here i) (Some (owned_birth b)) (cond (sym there i && sym anchor i) (Some (heard_birth b)) None))) ∙ h)
+recorded st x n b is false here false there a anchor h =
+    none_is_not_heard ((λ i. seen_known (cond (sym here i) (Some (owned_birth b)) (cond (sym there i && is_anchor st x) (Some (heard_birth b)) None))) ∙ h)
 
 pub is_first : (st : Setting) (x : ℕ) → IsFirst (seen x (first_world st))
 is_first st x = by_birth (birth_of st x) refl
@@ -128,7 +154,9 @@ is_first st x = by_birth (birth_of st x) refl
     by_birth (Some b) is = Born (first_untouched st x) (record {
       owner = ap seen_known (known_at st x 0 (Some b) is);
       others = λ n d. subst (λ (k : Option Known). IsFirstElsewhere (seen_known k)) (sym (known_at st x n (Some b) is))
-          (elsewhere b n (is_anchor st x) (n == 0) (eqb_apart n 0 d));
+          (elsewhere b n (is_told st n x) (n == 0) (eqb_apart n 0 d));
+      recorded = λ n heard. recorded st x n b is (n == 0) refl (nat_lt n st.nodes) refl (is_anchor st x) refl
+          (ap seen_known (sym (known_at st x n (Some b) is)) ∙ heard);
     })
 
 -- ## fields
@@ -160,9 +188,9 @@ first_free st opening x n none y k is = by_birth (birth_of st y) refl
   where
     by_birth : (b : Option Birth) → birth_of st y ≡ b → NoRefs x k
     by_birth None at =
-        let both : None ≡ Some k = sym (known_at st y n None at ∙ none_at (n == 0) (is_anchor st y)) ∙ is in
+        let both : None ≡ Some k = sym (known_at st y n None at ∙ none_at (n == 0) (is_told st n y)) ∙ is in
         absurd (cc)
-    by_birth (Some b) at = by_tests (n == 0) (is_anchor st y) none (sym (known_at st y n (Some b) at) ∙ is)
+    by_birth (Some b) at = by_tests (n == 0) (is_told st n y) none (sym (known_at st y n (Some b) at) ∙ is)
       where
         some_is : (j : Known) → Some j ≡ Some k → j ≡ k
         some_is j h = cc
@@ -184,17 +212,17 @@ anchor_is st x b below is = grind (arith, nat_tests)
 
 -- ## the invariants
 
-pub aware_first : (st : Setting) → IsOpening st.nodes st.limit st.births → (x n : ℕ) → IsAware st x (first_node st n).state
-aware_first st opening x n none = (
+pub aware_first : (st : Setting) → IsOpening st.nodes st.limit st.births → (x n : ℕ) → n < st.nodes → IsAware st x (first_node st n).state
+aware_first st opening x n real none = (
   record { fields = first_free st opening x n (λ here. unborn_at here (birth_of st x) refl); registers = λ r. null_free x },
   λ b below is. unborn b below is (birth_of st x) refl,
 )
   where
     -- who knows a name at first
-    known : (b : Birth) → birth_of st x ≡ Some b → (t a : Bool) → (n == 0) ≡ t → is_anchor st x ≡ a → (t || a) ≡ true → ⊥
+    known : (b : Birth) → birth_of st x ≡ Some b → (t a : Bool) → (n == 0) ≡ t → is_told st n x ≡ a → (t || a) ≡ true → ⊥
     known b at true a here anchor h =
         let some : seen_known (first_known st n x) ≡ Some made_holding = ap seen_known (known_at st x n (Some b) at
-        ∙ (λ i. cond (here i) (Some (owned_birth b)) (cond (is_anchor st x) (Some (heard_birth b)) None))) in
+        ∙ (λ i. cond (here i) (Some (owned_birth b)) (cond (is_told st n x) (Some (heard_birth b)) None))) in
         no_holding made_holding (sym none ∙ some)
     known b at false true here anchor h =
         let some : seen_known (first_known st n x) ≡ Some (heard_from 0) = ap seen_known (known_at st x n (Some b) at
@@ -204,15 +232,20 @@ aware_first st opening x n none = (
 
     unborn_at : (n == 0) ≡ true → (b : Option Birth) → birth_of st x ≡ b → birth_of st x ≡ None
     unborn_at here None at = at
-    unborn_at here (Some b) at = absurd (known b at true (is_anchor st x) here refl refl)
+    unborn_at here (Some b) at = absurd (known b at true (is_told st n x) here refl refl)
+
+    told : (b : ℕ) → b < bunches_of st.births → x ≡ anchor_of b → is_told st n x ≡ true
+    told b below is =
+        let here : nat_lt n st.nodes ≡ true = grind (arith, nat_tests) in
+        (λ i. here i && anchor_is st x b below is i)
 
     unborn : (b : ℕ) → b < bunches_of st.births → x ≡ anchor_of b → (c : Option Birth) → birth_of st x ≡ c → ⊥
     unborn b below is None at = numbered_birth st opening x b (omega (arith, opening.born.anchors)) is at
     unborn b below is (Some c) at = by_test (n == 0) refl
       where
         by_test : (t : Bool) → (n == 0) ≡ t → ⊥
-        by_test true here = known c at true true here (anchor_is st x b below is) refl
-        by_test false here = known c at false true here (anchor_is st x b below is) refl
+        by_test true here = known c at true true here (told b below is) refl
+        by_test false here = known c at false true here (told b below is) refl
 
 clean_first : (st : Setting) (x : ℕ) → birth_of st x ≡ None → IsClean x (first_node st) []
 clean_first st x none = record {

@@ -1,7 +1,7 @@
 -- What is said of nodes together, at the opening: all is quiet and at rest; and of two nodes and one
 -- bunch the anchor has its chain, its parent answers for it, its copy is current, and a view shows node 1.
 use Rattle.std.proofs.Common.{◌≡◌, ℕ, zero, suc, ◌<◌, ◌==◌, Bool, true, false, cond, [], ◌∷◌, replicate, find, refl, sym, ap, ◌∙◌, subst, arith, inl}
-use Rattle.std.specs.Prelude.{Option, Some, None, slice_get}
+use Rattle.std.specs.Prelude.{nat_lt, ◌&&◌, Option, Some, None, slice_get}
 use Rattle.std.specs.Option.{option_map}
 use Rattle.std.proofs.lemmas.Bool.{cond_both}
 use Rattle.std.proofs.lemmas.Bool.Decides.{nat_tests}
@@ -29,10 +29,10 @@ at_first st = world_of (first_node st) []
 at_first_all : (P : Known → Type 0) → ((b : Birth) → P (owned_birth b)) → ((b : Birth) → P (heard_birth b)) →
     (st : Setting) (n x : ℕ) (k : Known) → first_known st n x ≡ Some k → P k
 at_first_all P owned heard st n x k e =
-    cond_both (n == 0) (option_map owned_birth (birth_of st x)) (cond (is_anchor st x) (option_map heard_birth (birth_of st x)) None)
+    cond_both (n == 0) (option_map owned_birth (birth_of st x)) (cond (nat_lt n st.nodes && is_anchor st x) (option_map heard_birth (birth_of st x)) None)
     (λ o. o ≡ Some k → P k)
     (λ _ known. mapped owned_birth owned (birth_of st x) known)
-    (λ _ known. cond_both (is_anchor st x) (option_map heard_birth (birth_of st x)) None (λ o. o ≡ Some k → P k)
+    (λ _ known. cond_both (nat_lt n st.nodes && is_anchor st x) (option_map heard_birth (birth_of st x)) None (λ o. o ≡ Some k → P k)
     (λ _ heard_of. mapped heard_birth heard (birth_of st x) heard_of)
     (λ _ none. cc) known)
     e

@@ -119,11 +119,11 @@ owned_birth b = record { bunch = b.bunch; size = length b.fields; copy = Some (m
 abbrev pub heard_birth : Birth → Known
 heard_birth b = record { bunch = b.bunch; size = length b.fields; copy = None; part = child_part 0 }
 
--- what a node knows at first: node 0 each birth, another each anchor
+-- what a node knows at first: node 0 each birth, another node of the store each anchor
 abbrev pub first_known : Setting → ℕ → ℕ → Option Known
 first_known st me name =
     if me == 0 then option_map owned_birth (birth_of st name)
-    else (if is_anchor st name then option_map heard_birth (birth_of st name) else None)
+    else (if nat_lt me st.nodes && is_anchor st name then option_map heard_birth (birth_of st name) else None)
 
 -- the first records: at node 0 one of each anchor from each other node
 abbrev pub first_entering : Setting → ℕ → ℕ → ℕ → Option Record
