@@ -3,7 +3,7 @@ use Rattle.std.proofs.Common.{◌≡◌, ℕ, ◌+◌, ◌-◌, ◌<◌, ◌==�
 use Rattle.std.specs.List.{position_from}
 use Rattle.std.proofs.lemmas.List.{take_all, length-drop}
 use Rattle.bmx_script.specs.Grammar.{lines_of}
-use Rattle.bmx_script.proofs.FieldLemmas.{split_if}
+use Rattle.bmx_script.proofs.ReadLemmas.{split_if}
 
 abbrev is_feed : ℕ → Bool
 is_feed c = c == 10

@@ -1,7 +1,7 @@
 -- Bytes have one reading: each line comes to one verdict.
-use Rattle.std.proofs.Common.{◌≡◌, ℕ, ◌+◌, cond, List, [], ◌∷◌, ◌++◌, length, Result, Err, refl, ap, sym, ◌∙◌, subst, arith}
-use Rattle.bmx_numerals.specs.declared.fields.Field.{Field}
-use Rattle.bmx_numerals.specs.declared.fields.Field.TheVariants.{Form, Range, Good}
+use Rattle.std.proofs.Common.{◌≡◌, ℕ, ◌+◌, cond, List, [], ◌∷◌, ◌++◌, length, Result, Err, refl, ap, sym, ◌∙◌, subst, arith, Ok}
+use Rattle.bmx_numerals.specs.declared.words.Misfit.{Misfit}
+use Rattle.bmx_numerals.specs.declared.words.Misfit.TheVariants.{Form, Range}
 use Rattle.bmx_script.specs.declared.knowledge.Known.{Known}
 use Rattle.bmx_script.specs.declared.lines.Line.{Line}
 use Rattle.bmx_script.specs.declared.lines.LineKind.{LineKind}
@@ -10,10 +10,10 @@ use Rattle.bmx_script.specs.declared.lines.BadCause.TheVariants as cause
 use Rattle.bmx_script.specs.declared.verdicts.Verdict.{Verdict}
 use Rattle.bmx_script.specs.declared.verdicts.Verdict.TheVariants as verdict
 use Rattle.bmx_script.specs.Grammar.{nothing_known, known_after, is_long, is_skipped, lines_of, HasForm, IsGood, IsVerdict, ByVerdict, Reads}
-use Rattle.bmx_script.specs.Distinct.{AreDistinct}
+use Rattle.bmx_script.specs.Inside.Distinct.{AreDistinct}
 use Rattle.bmx_script.specs.Laws.{ReadingIsDetermined}
-use Rattle.bmx_script.specs.Parsing.{read_line}
-use Rattle.bmx_script.specs.Reader.{verdict_of}
+use Rattle.bmx_script.specs.Inside.Parsing.{read_line}
+use Rattle.bmx_script.specs.Inside.Reader.{verdict_of}
 use Rattle.bmx_script.proofs.Exact.{Tells, exact, good_is_read}
 use Rattle.bmx_script.proofs.Sound.{distinct_after}
 
@@ -24,15 +24,15 @@ judged k number end text = cond (is_long number end) (verdict.Wrong cause.Long) 
 has_form : (k : Known) (what : LineKind) (text : List ℕ) → IsGood k what text → HasForm k text
 has_form k what text g = (k.bunches, what, g.form)
 
-no_form : (k : Known) (text : List ℕ) (f : Field LineKind) → Tells k text f → ¬ HasForm k text → f ≡ Form
-no_form k text Form tells none = refl
-no_form k text Range tells none = absurd (none tells.0)
-no_form k text (Good what) tells none = absurd (none (has_form k what text tells))
+no_form : (k : Known) (text : List ℕ) (f : Result LineKind Misfit) → Tells k text f → ¬ HasForm k text → f ≡ Err Form
+no_form k text (Err Form) tells none = refl
+no_form k text (Err Range) tells none = absurd (none tells.0)
+no_form k text (Ok what) tells none = absurd (none (has_form k what text tells))
 
-out_of_range : (k : Known) (text : List ℕ) (f : Field LineKind) → Tells k text f → HasForm k text → ((what : LineKind) → ¬ IsGood k what text) → f ≡ Range
-out_of_range k text Form tells form none = absurd (tells form)
-out_of_range k text Range tells form none = refl
-out_of_range k text (Good what) tells form none = absurd (none what tells)
+out_of_range : (k : Known) (text : List ℕ) (f : Result LineKind Misfit) → Tells k text f → HasForm k text → ((what : LineKind) → ¬ IsGood k what text) → f ≡ Err Range
+out_of_range k text (Err Form) tells form none = absurd (tells form)
+out_of_range k text (Err Range) tells form none = refl
+out_of_range k text (Ok what) tells form none = absurd (none what tells)
 
 is_judged : (k : Known) (number end : ℕ) (text : List ℕ) (v : Verdict) → AreDistinct k.bunches → IsVerdict k number end text v → v ≡ judged k number end text
 is_judged k number end text verdict.Skipped distinct h = rw (h.0, h.1) refl

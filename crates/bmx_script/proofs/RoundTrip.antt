@@ -8,7 +8,7 @@ use Rattle.bmx_script.specs.declared.lines.Bad.{Bad}
 use Rattle.bmx_script.specs.declared.verdicts.Verdict.TheVariants as verdict
 use Rattle.bmx_script.specs.Spelling.{word_of, spelling, printed}
 use Rattle.bmx_script.specs.Grammar.{named_on, nothing_known, known_after, known_after_all, is_long, is_skipped, is_comment, lines_of, IsGood, Reads, IsReading, AreInOrder, AreNumbered, first_number, AreScript, bunches_of, script_text}
-use Rattle.bmx_script.specs.Reader.{print_length}
+use Rattle.bmx_script.specs.Inside.Reader.{print_length}
 use Rattle.bmx_script.proofs.Plain.{has_no_feed, are_words, line_no_feed, line_no_comment}
 use Rattle.bmx_script.proofs.Named.{Agree, line_agrees, named_below, kept, IsProper, proper_after, named_words}
 

@@ -1,11 +1,13 @@
 -- A line and its words: what lies between its spaces.
-use Rattle.std.proofs.Common.{◌≡◌, ℕ, ◌+◌, ◌<◌, ◌==◌, Bool, true, false, not, ◌&&◌, nat_le, List, [], ◌∷◌, ◌++◌, length, get_or, suc, zero, Some, refl, ap, ◌∙◌, arith}
+use Rattle.std.proofs.Common.{◌≡◌, ℕ, ◌+◌, ◌<◌, ◌≤◌, ◌==◌, Bool, true, false, not, ◌&&◌, nat_le, List, [], ◌∷◌, ◌++◌, length, get_or, map, take, drop, suc, zero, Some, None, refl, ap, sym, ◌∙◌, append_assoc, arith}
 use Rattle.std.specs.List.{list_all, position_from, slice_split, join_with_byte}
+use Rattle.std.proofs.lemmas.List.{map-append, length-append, length-map, length-drop}
+use Rattle.std.proofs.lemmas.List.Splits.{length-slice_split}
 use Rattle.std.proofs.lemmas.Bool.{and_parts, and_from, eqb-true, not-true}
 use Rattle.std.specs.Prelude.{IsUtf8, slice_index}
 use Rattle.std.proofs.lemmas.Str.{IsUtf8-from_ascii}
 use Rattle.bmx_script.specs.Grammar.{is_word_byte, is_bunch_word, begins_with_letter, same_word}
-use Rattle.bmx_script.proofs.FieldLemmas.{split_if}
+use Rattle.bmx_script.proofs.ReadLemmas.{split_if}
 
 -- a word without a space
 abbrev pub is_space : ℕ → Bool
@@ -34,6 +36,57 @@ split-join w [] h = split_last w (and_parts (has_no_space w) true h).0
 split-join w (v ∷ vs) h =
     let parts : (has_no_space w ≡ true) × (list_all has_no_space (v ∷ vs) ≡ true) = and_parts (has_no_space w) (list_all has_no_space (v ∷ vs)) h in
     split_word w (join_with_byte 32 (v ∷ vs)) parts.0 ∙ ap (λ x. w ∷ x) (split-join v vs parts.1)
+
+-- up to the first space, and behind it
+split_cut : (i : ℕ) (bytes : List ℕ) (at : ℕ) → position_from is_space i bytes ≡ Some at → (m : ℕ) × (at ≡ i + m) × (m < length bytes) × (slice_split is_space bytes ≡ take m bytes ∷ slice_split is_space (drop (suc m) bytes))
+split_cut i [] at e = cc
+split_cut i (c ∷ cs) at e = split_if (c == 32) (Some i) (position_from is_space (i + 1) cs) (Some at) e
+    (λ h q. let here : i ≡ at = cc in (0, omega arith, omega arith, rw h refl))
+    (λ h q.
+    let found : (m : ℕ) × (at ≡ i + 1 + m) × (m < length cs) × (slice_split is_space cs ≡ take m cs ∷ slice_split is_space (drop (suc m) cs)) = split_cut (i + 1) cs at q in
+    (suc found.0, omega (arith, found.1), omega (arith, found.2), rw (h, found.3) refl))
+
+split_uncut : (i : ℕ) (bytes : List ℕ) → position_from is_space i bytes ≡ None → slice_split is_space bytes ≡ bytes ∷ []
+split_uncut i [] e = refl
+split_uncut i (c ∷ cs) e = split_if (c == 32) (Some i) (position_from is_space (i + 1) cs) None e
+    (λ h q. cc)
+    (λ h q. rw (h, split_uncut (i + 1) cs q) refl)
+
+pub split_at : (bytes : List ℕ) (at : ℕ) → position_from is_space 0 bytes ≡ Some at → slice_split is_space bytes ≡ take at bytes ∷ slice_split is_space (drop (at + 1) bytes)
+split_at bytes at e =
+    let found : (m : ℕ) × (at ≡ 0 + m) × (m < length bytes) × (slice_split is_space bytes ≡ take m bytes ∷ slice_split is_space (drop (suc m) bytes)) = split_cut 0 bytes at e in
+    let here : found.0 ≡ at = omega (arith, found.1) in
+    let behind : suc found.0 ≡ at + 1 = omega (arith, found.1) in
+    found.3 ∙ ap (λ n. take n bytes ∷ slice_split is_space (drop (suc found.0) bytes)) here ∙ ap (λ n. take at bytes ∷ slice_split is_space (drop n bytes)) behind
+
+-- words that were cut off, and a text that is still whole
+pub record IsCut {X : Type 0} (f : X → List ℕ) (words : List X) (rest text : List ℕ) : Type 0 where
+  pub is : map f words ++ slice_split is_space rest ≡ slice_split is_space text
+  pub within : length rest ≤ length text
+
+pub cut_none : {X : Type 0} (f : X → List ℕ) (text : List ℕ) → IsCut f [] text text
+cut_none f text = record { is = refl; within = omega arith }
+
+pub cut_on : {X : Type 0} (f : X → List ℕ) (words more : List X) (w : X) (rest behind text : List ℕ) (at : ℕ) → IsCut f words rest text → more ≡ words ++ w ∷ [] → position_from is_space 0 rest ≡ Some at → f w ≡ take at rest → behind ≡ drop (at + 1) rest → IsCut f more behind text
+cut_on f words more w rest behind text at cut pushed found word after =
+    let rest_is : slice_split is_space rest ≡ f w ∷ slice_split is_space behind =
+    split_at rest at found ∙ ap (λ x. x ∷ slice_split is_space (drop (at + 1) rest)) (sym word) ∙ ap (λ x. f w ∷ slice_split is_space x) (sym after) in
+    let shorter : length behind ≡ length (drop (at + 1) rest) = ap length after in
+    record {
+      is = ap (λ x. map f x ++ slice_split is_space behind) pushed ∙ ap (λ x. x ++ slice_split is_space behind) (map-append f words (w ∷ [])) ∙ append_assoc (map f words) (f w ∷ []) (slice_split is_space behind)
+          ∙ ap (λ x. map f words ++ x) (sym rest_is) ∙ cut.is;
+      within = omega (arith, shorter, length-drop (at + 1) rest, cut.within);
+    }
+
+pub cut_all : {X : Type 0} (f : X → List ℕ) (words more : List X) (w : X) (rest text : List ℕ) → IsCut f words rest text → more ≡ words ++ w ∷ [] → position_from is_space 0 rest ≡ None → f w ≡ rest → map f more ≡ slice_split is_space text
+cut_all f words more w rest text cut pushed none word =
+    ap (map f) pushed ∙ map-append f words (w ∷ []) ∙ ap (λ x. map f words ++ x ∷ []) word ∙ ap (λ x. map f words ++ x) (sym (split_uncut 0 rest none)) ∙ cut.is
+
+-- there are more words than were cut off
+pub cut_more : {X : Type 0} (f : X → List ℕ) (words : List X) (rest text : List ℕ) → IsCut f words rest text → length words < length (slice_split is_space text)
+cut_more f words rest text cut =
+    let all : length (slice_split is_space text) ≡ length (map f words) + length (slice_split is_space rest) = ap length (sym cut.is) ∙ length-append (map f words) (slice_split is_space rest) in
+    omega (arith, all, length-map words f, length-slice_split is_space rest)
 
 -- the same word
 pub same_word-true : (a b : List ℕ) → same_word a b ≡ true → a ≡ b

@@ -46,11 +46,6 @@ same_word = bytes_eq
 abbrev pub nothing_known : Known
 nothing_known = record { section = 0; nodes = 0; bunches = []; limit = None }
 
--- there are at most 8 nodes and 16 bunches
-pub record HasRoom (k : Known) : Type 0 where
-  pub few_nodes : k.nodes ≤ 8
-  pub few_bunches : length k.bunches ≤ 16
-
 -- in which section of a script a line stands, from 1
 abbrev pub section_of : LineKind → ℕ
 section_of line.Version = 1

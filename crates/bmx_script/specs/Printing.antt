@@ -1,5 +1,6 @@
 -- The text of an answer, as a line of a run's output.
-use Rattle.std.specs.Prelude.{◌≡◌, ℕ, pos, List, [], ◌∷◌, ◌++◌, codes, refl}
+use Rattle.std.specs.Prelude.{◌≡◌, ℕ, nat_lt, Bool, pos, List, [], ◌∷◌, ◌++◌, codes, refl}
+use Rattle.std.specs.List.{list_all}
 use Rattle.bmx_types.specs.Words.{maker, count_of}
 use Rattle.bmx_types.specs.declared.values.Val.{Val}
 use Rattle.bmx_types.specs.declared.values.Val.TheVariants as val
@@ -8,6 +9,10 @@ use Rattle.bmx_types.specs.declared.commands.Refusal.TheVariants as refusal
 use Rattle.bmx_numerals.specs.Numerals.{numeral, signed_numeral}
 use Rattle.bmx_script.specs.declared.printing.Shown.{Shown}
 use Rattle.bmx_script.specs.declared.printing.Shown.TheVariants as shown
+
+-- bytes of one character each
+abbrev pub is_ascii : List ℕ → Bool
+is_ascii bytes = list_all (λ c. nat_lt c 128) bytes
 
 -- a name: its maker and its count, with a point (the byte 46) between them
 abbrev pub name_text : ℕ → List ℕ

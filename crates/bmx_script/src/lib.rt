@@ -1,6 +1,7 @@
 //! Scripts: programs of commands for the nodes of a store, read from bytes and printed.
 #![tactic(auto)]
 
+mod bytes;
 mod knowledge;
 mod laws;
 mod lines;
@@ -15,7 +16,7 @@ mod verdicts;
 pub use knowledge::Known;
 pub use laws::reading_is_determined;
 pub use lines::{Bad, BadCause, BunchWords, Fate, Line, LineKind, Lines};
-pub use printing::{Shown, print_line};
+pub use printing::{Shown, ShownLine, print_line, shown_line};
 pub use scripts::{Script, ScriptError, read_script};
 pub use spelling::print_script;
 pub use verdicts::Verdict;

@@ -3,7 +3,7 @@ use Rattle.bmx_script.specs.declared.scripts.Reader.{Reader}
 use Rattle.bmx_script.specs.declared.verdicts.Verdict.{Verdict}
 use Rattle.bmx_script.specs.declared.verdicts.Verdict.TheVariants as verdict
 use Rattle.bmx_script.specs.Grammar.{IsVerdict}
-use Rattle.bmx_script.specs.Reader.{IsSound, end_of}
+use Rattle.bmx_script.specs.Inside.Reader.{IsSound, end_of}
 use Rattle.bmx_script.proofs.Sound.{advanced, sound_skipped, sound_noted}
 use Rattle.bmx_script.proofs.scripts.Reader.take.Goals as goal
 use Rattle.bmx_script.proofs.scripts.Reader.take.Goals.{in-Skipped, in-Is+in_ok-note-in-Is}

@@ -1,6 +1,6 @@
 use Rattle.std.proofs.Common.{◌≡◌, ◌<◌, ◌^◌, take}
 use Rattle.std.specs.Str.Parse.{digits_value}
-use Rattle.bmx_numerals.proofs.reading.number.Given as goal
+use Rattle.bmx_numerals.proofs.reading.value_of.Given as goal
 
 -- the number is that of the digits so far
 abbrev pub invariant-loop-byte : goal.invariant-loop-byte
