@@ -6,6 +6,7 @@ pub mod Heads
 pub mod LineFeeds
 pub mod Named
 pub mod OneReading
+pub mod Opened
 pub mod Operands
 pub mod OtherCounts
 pub mod Plain

@@ -11,18 +11,18 @@ use Rattle.bmx_script.specs.declared.lines.Line.{Line}
 use Rattle.bmx_script.specs.declared.lines.LineKind.{LineKind}
 use Rattle.bmx_script.specs.declared.lines.LineKind.TheVariants as line
 use Rattle.bmx_script.specs.declared.scripts.Reader.{Reader}
-use Rattle.bmx_script.specs.Grammar.{may_follow, section_of, is_built, in_range, same_word, nothing_known, known_after, known_after_all, IsGood, AreInOrder, AreNumbered, first_number, AreScript, script_text, is_long, is_comment, is_skipped, IsVerdict}
+use Rattle.bmx_script.specs.Grammar.{has_no_form, is_out_of_range, may_follow, section_of, is_built, in_range, same_word, nothing_known, known_after, known_after_all, IsGood, AreInOrder, AreNumbered, first_number, AreScript, script_text, is_long, is_comment, is_skipped}
 use Rattle.bmx_script.specs.Inside.Reader.{HasRoom}
 use Rattle.bmx_script.specs.Spelling.{word_of, spelling}
 use Rattle.bmx_script.specs.Inside.Distinct.{AreDistinct}
-use Rattle.bmx_script.specs.Inside.Reader.{verdict_of, end_of, noted, print_length, IsSound}
+use Rattle.bmx_script.specs.Inside.Reader.{verdict_of, IsVerdict, end_of, noted, print_length, IsSound}
 use Rattle.bmx_script.proofs.Exact.{Tells}
 use Rattle.bmx_script.proofs.RoundTrip.{script_length}
 
 -- the verdict on a line that was read
 pub verdict_from : (k : Known) (number end : ℕ) (text : List ℕ) (f : Result LineKind Misfit) → is_long number end ≡ false → is_skipped number text ≡ false → Tells k text f → IsVerdict k number end text (verdict_of f)
-verdict_from k number end text (Err Form) near here tells = (near, here, tells)
-verdict_from k number end text (Err Range) near here tells = (near, here, tells.0, tells.1)
+verdict_from k number end text (Err Form) near here tells = has_no_form near here tells
+verdict_from k number end text (Err Range) near here tells = is_out_of_range near here tells.0 tells.1
 verdict_from k number end text (Ok what) near here tells = (near, here, tells)
 
 none_at : (w : List ℕ) (ws : List (List ℕ)) (i : ℕ) → list_any (same_word w) ws ≡ false → i < length ws → same_word w (word_of ws i) ≡ false

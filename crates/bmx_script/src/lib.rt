@@ -19,4 +19,3 @@ pub use lines::{Bad, BadCause, BunchWords, Fate, Line, LineKind, Lines};
 pub use printing::{Shown, ShownLine, print_line, shown_line};
 pub use scripts::{Script, ScriptError, read_script};
 pub use spelling::print_script;
-pub use verdicts::Verdict;

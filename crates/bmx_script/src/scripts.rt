@@ -1,8 +1,8 @@
 ghost use Rattle.std.specs.Prelude.{◌≡◌, ◌==◌, ◌≢◌, ◌+◌, ◌^◌, ◌<◌, ◌≤◌, [], ◌∷◌, length, IfOk, IfErr, IfSome, OnOk, Ok, Err};
 ghost use Rattle.std.specs.List.{position_from};
-ghost use Rattle.bmx_script.specs.Grammar.{AreScript, nodes_of, bunches_of, limit_of, lines_of, IsVerdict, is_comment as is_comment_lem, is_long as is_long_lem, is_skipped as is_skipped_lem};
+ghost use Rattle.bmx_script.specs.Grammar.{AreScript, nodes_of, bunches_of, limit_of, lines_of, is_comment as is_comment_lem, is_long as is_long_lem, is_skipped as is_skipped_lem};
 ghost use Rattle.bmx_script.specs.Reader.{IsAnswer, ForBad};
-ghost use Rattle.bmx_script.specs.Inside.Reader.{ReadsOn, IsSound, end_of, noted, verdict_of as verdict_of_lem};
+ghost use Rattle.bmx_script.specs.Inside.Reader.{IsVerdict, ReadsOn, IsSound, end_of, noted, verdict_of as verdict_of_lem};
 
 use crate::bytes::place_of;
 use crate::knowledge::{Known, Section};

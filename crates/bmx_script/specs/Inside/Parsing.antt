@@ -14,6 +14,7 @@ use Rattle.bmx_script.specs.declared.lines.LineKind.TheVariants as line
 use Rattle.bmx_script.specs.declared.knowledge.Known.{Known}
 use Rattle.bmx_script.specs.declared.knowledge.Section.{Section}
 use Rattle.bmx_script.specs.declared.knowledge.Section.TheVariants as section
+use Rattle.bmx_script.specs.Bytes.{space, letter_r, at_sign}
 use Rattle.bmx_script.specs.Grammar.{may_follow, is_bunch_word, same_word}
 
 -- the number of a section of a script, from 1
@@ -33,7 +34,7 @@ map_read f (Ok x) = Ok (f x)
 -- a register's number: behind an `r`
 abbrev pub read_register : List ℕ → Result ℕ Misfit
 read_register [] = Err Form
-read_register (c ∷ word) = if c == 114 then read_below 16 word else Err Form
+read_register (c ∷ word) = if c == letter_r then read_below 16 word else Err Form
 
 -- the number of a bunch, by its word
 abbrev pub found_bunch : Option ℕ → Result ℕ Misfit
@@ -43,17 +44,17 @@ found_bunch (Some b) = Ok b
 abbrev pub read_bunch : Known → List ℕ → Result ℕ Misfit
 read_bunch k word = if is_bunch_word word then found_bunch (position_from (same_word word) 0 k.bunches) else Err Form
 
--- a source: a register, or `@` (the byte 64) and a bunch word, for the anchor of that bunch
+-- a source: a register, or `@` and a bunch word, for the anchor of that bunch
 abbrev pub read_source : Known → List ℕ → Result Operand Misfit
 read_source k [] = Err Form
 read_source k (c ∷ word) =
-    if c == 64 then map_read (λ b. operand.Anchor b) (read_bunch k word)
+    if c == at_sign then map_read (λ b. operand.Anchor b) (read_bunch k word)
     else map_read (λ r. operand.Register r) (read_register (c ∷ word))
 
 -- a word that begins as a source does
 abbrev pub begins_as_source : List ℕ → Bool
 begins_as_source [] = false
-begins_as_source (c ∷ word) = (c == 64) || (c == 114)
+begins_as_source (c ∷ word) = (c == at_sign) || (c == letter_r)
 
 -- a value: `null`, a source or an integer
 abbrev pub read_value : Known → List ℕ → Result Operand Misfit
@@ -149,4 +150,4 @@ line_of k (a ∷ b ∷ c ∷ words) = if may_follow k.section 5 then node_line k
 
 -- a line: its words are what lies between its spaces
 abbrev pub read_line : Known → List ℕ → Result LineKind Misfit
-read_line k text = line_of k (slice_split (λ c. c == 32) text)
+read_line k text = line_of k (slice_split (λ c. c == space) text)

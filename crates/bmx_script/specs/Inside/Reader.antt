@@ -1,5 +1,5 @@
 -- The state of the reader between two lines, and what reading on from it comes to: for private functions and proofs.
-use Rattle.std.specs.Prelude.{◌≡◌, ℕ, ◌+◌, ◌-◌, ◌^◌, ◌<◌, ◌≤◌, List, [], ◌∷◌, ◌++◌, length, Result, Ok, Err}
+use Rattle.std.specs.Prelude.{◌≡◌, ℕ, ◌+◌, ◌-◌, ◌^◌, ◌<◌, ◌≤◌, List, [], ◌∷◌, ◌++◌, length, true, false, Result, Ok, Err}
 use Rattle.bmx_numerals.specs.declared.words.Misfit.{Misfit}
 use Rattle.bmx_numerals.specs.declared.words.Misfit.TheVariants.{Form, Range}
 use Rattle.bmx_script.specs.declared.lines.LineKind.{LineKind}
@@ -11,7 +11,7 @@ use Rattle.bmx_script.specs.declared.lines.Line.{Line}
 use Rattle.bmx_script.specs.declared.lines.Bad.{Bad}
 use Rattle.bmx_script.specs.declared.scripts.Reader.{Reader}
 use Rattle.bmx_script.specs.Spelling.{spelling}
-use Rattle.bmx_script.specs.Grammar.{Reads, AreInOrder, AreNumbered, first_number, nothing_known, known_after, known_after_all}
+use Rattle.bmx_script.specs.Grammar.{is_long, is_skipped, IsGood, IsBad, Reads, AreInOrder, AreNumbered, first_number, nothing_known, known_after, known_after_all}
 use Rattle.bmx_script.specs.Inside.Distinct.{AreDistinct}
 
 -- there are at most 8 nodes and 16 bunches
@@ -26,6 +26,12 @@ ReadsOn r texts answer = Reads r.known r.lines r.number r.start texts answer
 -- how many bytes there are up to the line feed of a line that begins here
 abbrev pub end_of : Reader → List ℕ → ℕ
 end_of r text = r.start + (length text + 1)
+
+-- what a line comes to, by its number, the number of bytes to its line feed, and its text
+abbrev pub IsVerdict : Known → ℕ → ℕ → List ℕ → Verdict → Type 0
+IsVerdict k number end text verdict.Skipped = (is_long number end ≡ false) × (is_skipped number text ≡ true)
+IsVerdict k number end text (verdict.Is what) = (is_long number end ≡ false) × (is_skipped number text ≡ false) × IsGood k what text
+IsVerdict k number end text (verdict.Wrong why) = IsBad k number end text why
 
 -- with a line more
 abbrev pub noted : Reader → LineKind → Reader
