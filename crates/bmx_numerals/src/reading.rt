@@ -8,7 +8,7 @@ ghost use Rattle.bmx_numerals.specs.Words.{tested, read_below, read_within, read
 use crate::words::Misfit;
 
 // Whether a word is a number's spelling.
-#[inline(always)]
+#[inline]
 fn spells_a_number(word: &[u8]) -> bool
     ensures { result ≡ is_numeral word.now }
 {
@@ -33,14 +33,15 @@ fn with_digit(number: u64, byte: u8) -> Option<u64>
 pub fn number(word: &[u8]) -> Result<u64, Misfit>
     ensures { result ≡ read_below (2 ^ 64) word.now }
 {
-    if !spells_a_number(word) {
-        return Err(Misfit::Form);
+    match word {
+        [digit] if digit.is_ascii_digit() => Ok(u64::from(*digit - b'0')),
+        _ if spells_a_number(word) => value_of(word),
+        _ => Err(Misfit::Form),
     }
-    value_of(word)
 }
 
 // The number that a numeral spells.
-#[inline(always)]
+#[inline]
 fn value_of(word: &[u8]) -> Result<u64, Misfit>
     requires { is_numeral word.now ≡ true }
     ensures { result ≡ read_below (2 ^ 64) word.now }

@@ -1,6 +1,7 @@
 pub mod Ascii
 pub mod Commands
 pub mod Exact
+pub mod Prefixes
 pub mod ReadLemmas
 pub mod Heads
 pub mod LineFeeds

@@ -17,7 +17,7 @@ feeds_cut : (n : ℕ) (rest : List ℕ) → lines_of (replicate n 10 ++ rest) �
 feeds_cut zero rest = refl
 feeds_cut (suc n) rest = ap (λ (x : List (List ℕ)). [] ∷ x) (feeds_cut n rest)
 
-line_cut : (w rest : List ℕ) → has_no_feed w ≡ true → lines_of (w ++ 10 ∷ rest) ≡ w ∷ lines_of rest
+pub line_cut : (w rest : List ℕ) → has_no_feed w ≡ true → lines_of (w ++ 10 ∷ rest) ≡ w ∷ lines_of rest
 line_cut [] rest h = refl
 line_cut (c ∷ w) rest h =
     let parts : (not (c == 10) ≡ true) × (has_no_feed w ≡ true) = and_parts (not (c == 10)) (has_no_feed w) h in

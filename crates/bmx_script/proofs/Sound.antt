@@ -91,7 +91,7 @@ room_after k line.Settle r range = record { few_nodes = r.few_nodes; few_bunches
 abbrev pub advanced : Reader → List ℕ → Reader
 advanced r text = record { known = r.known; lines = r.lines; number = r.number + 1; start = r.start + (length text + 1) }
 
-near_bounds : (number end : ℕ) → is_long number end ≡ false → (number ≤ 20000) × (end ≤ 2 ^ 20)
+pub near_bounds : (number end : ℕ) → is_long number end ≡ false → (number ≤ 20000) × (end ≤ 2 ^ 20)
 near_bounds number end h =
     let parts : (nat_lt 20000 number ≡ false) × (nat_lt (2 ^ 20) end ≡ false) = or_parts (nat_lt 20000 number) (nat_lt (2 ^ 20) end) h in
     (ltb-false 20000 number parts.0, ltb-false (2 ^ 20) end parts.1)

@@ -1,10 +1,10 @@
 -- A line and its words: what lies between its spaces.
-use Rattle.std.proofs.Common.{◌≡◌, ℕ, ◌+◌, ◌<◌, ◌≤◌, ◌==◌, Bool, true, false, not, ◌&&◌, nat_le, List, [], ◌∷◌, ◌++◌, length, get_or, map, take, drop, suc, zero, Some, None, refl, ap, sym, ◌∙◌, append_assoc, arith}
+use Rattle.std.proofs.Common.{◌≡◌, ℕ, ◌+◌, ◌-◌, ◌<◌, ◌≤◌, ◌≢◌, ◌==◌, Bool, true, false, not, ◌&&◌, nat_le, List, [], ◌∷◌, ◌++◌, length, get_or, map, take, drop, suc, zero, Some, None, refl, ap, sym, ◌∙◌, append_assoc, ⊎_elim, inl, inr, arith}
 use Rattle.std.specs.List.{list_all, position_from, slice_split, join_with_byte}
-use Rattle.std.proofs.lemmas.List.{map-append, length-append, length-map, length-drop}
+use Rattle.std.proofs.lemmas.List.{map-append, length-append, length-map, length-drop, get_or-drop, drop-drop}
 use Rattle.std.proofs.lemmas.List.Splits.{length-slice_split}
-use Rattle.std.proofs.lemmas.Bool.{and_parts, and_from, eqb-true, not-true}
-use Rattle.std.specs.Prelude.{IsUtf8, slice_index}
+use Rattle.std.proofs.lemmas.Bool.{and_parts, and_from, eqb-true, ne_eqb, not-true, cases_lt}
+use Rattle.std.specs.Prelude.{IsUtf8, slice_index, ◌⊎◌}
 use Rattle.std.proofs.lemmas.Str.{IsUtf8-from_ascii}
 use Rattle.bmx_script.specs.Grammar.{is_word_byte, is_bunch_word, begins_with_letter, same_word}
 use Rattle.bmx_script.proofs.ReadLemmas.{split_if}
@@ -59,35 +59,6 @@ split_at bytes at e =
     let behind : suc found.0 ≡ at + 1 = omega (arith, found.1) in
     found.3 ∙ ap (λ n. take n bytes ∷ slice_split is_space (drop (suc found.0) bytes)) here ∙ ap (λ n. take at bytes ∷ slice_split is_space (drop n bytes)) behind
 
--- words that were cut off, and a text that is still whole
-pub record IsCut {X : Type 0} (f : X → List ℕ) (words : List X) (rest text : List ℕ) : Type 0 where
-  pub is : map f words ++ slice_split is_space rest ≡ slice_split is_space text
-  pub within : length rest ≤ length text
-
-pub cut_none : {X : Type 0} (f : X → List ℕ) (text : List ℕ) → IsCut f [] text text
-cut_none f text = record { is = refl; within = omega arith }
-
-pub cut_on : {X : Type 0} (f : X → List ℕ) (words more : List X) (w : X) (rest behind text : List ℕ) (at : ℕ) → IsCut f words rest text → more ≡ words ++ w ∷ [] → position_from is_space 0 rest ≡ Some at → f w ≡ take at rest → behind ≡ drop (at + 1) rest → IsCut f more behind text
-cut_on f words more w rest behind text at cut pushed found word after =
-    let rest_is : slice_split is_space rest ≡ f w ∷ slice_split is_space behind =
-    split_at rest at found ∙ ap (λ x. x ∷ slice_split is_space (drop (at + 1) rest)) (sym word) ∙ ap (λ x. f w ∷ slice_split is_space x) (sym after) in
-    let shorter : length behind ≡ length (drop (at + 1) rest) = ap length after in
-    record {
-      is = ap (λ x. map f x ++ slice_split is_space behind) pushed ∙ ap (λ x. x ++ slice_split is_space behind) (map-append f words (w ∷ [])) ∙ append_assoc (map f words) (f w ∷ []) (slice_split is_space behind)
-          ∙ ap (λ x. map f words ++ x) (sym rest_is) ∙ cut.is;
-      within = omega (arith, shorter, length-drop (at + 1) rest, cut.within);
-    }
-
-pub cut_all : {X : Type 0} (f : X → List ℕ) (words more : List X) (w : X) (rest text : List ℕ) → IsCut f words rest text → more ≡ words ++ w ∷ [] → position_from is_space 0 rest ≡ None → f w ≡ rest → map f more ≡ slice_split is_space text
-cut_all f words more w rest text cut pushed none word =
-    ap (map f) pushed ∙ map-append f words (w ∷ []) ∙ ap (λ x. map f words ++ x ∷ []) word ∙ ap (λ x. map f words ++ x) (sym (split_uncut 0 rest none)) ∙ cut.is
-
--- there are more words than were cut off
-pub cut_more : {X : Type 0} (f : X → List ℕ) (words : List X) (rest text : List ℕ) → IsCut f words rest text → length words < length (slice_split is_space text)
-cut_more f words rest text cut =
-    let all : length (slice_split is_space text) ≡ length (map f words) + length (slice_split is_space rest) = ap length (sym cut.is) ∙ length-append (map f words) (slice_split is_space rest) in
-    omega (arith, all, length-map words f, length-slice_split is_space rest)
-
 -- the same word
 pub same_word-true : (a b : List ℕ) → same_word a b ≡ true → a ≡ b
 same_word-true [] [] h = refl
@@ -120,6 +91,69 @@ position_at t i (x ∷ xs) zero d below here before = rw here (ap Some (omega ar
 position_at t i (x ∷ xs) (suc m) d below here before =
     let first : t x ≡ false = before 0 (omega arith) in
     rw first (position_at t (i + 1) xs m d (omega arith) here (λ q h. before (suc q) (omega arith)) ∙ ap Some (omega arith))
+
+pub position_none : {X : Type 0} (t : X → Bool) (i : ℕ) (xs : List X) (d : X) → ((q : ℕ) → q < length xs → t (get_or xs q d) ≡ false) → position_from t i xs ≡ None
+position_none t i [] d h = refl
+position_none t i (x ∷ xs) d h =
+    let first : t x ≡ false = h 0 (omega arith) in
+    rw first (position_none t (i + 1) xs d (λ q below. h (suc q) (omega arith)))
+
+-- words that were cut off up to a place of a text, and the word from there on, which has no space up to another
+pub record IsCut {X : Type 0} (f : X → List ℕ) (words : List X) (text : List ℕ) (from at : ℕ) : Type 0 where
+  pub is : map f words ++ slice_split is_space (drop from text) ≡ slice_split is_space text
+  pub low : from ≤ at
+  pub plain : (q : ℕ) → from ≤ q → q < at → is_space (get_or text q 0) ≡ false
+
+pub cut_none : {X : Type 0} (f : X → List ℕ) (text : List ℕ) → IsCut f [] text 0 0
+cut_none f text = record { is = refl; low = omega arith; plain = λ q h below. absurd (omega arith) }
+
+-- one more byte of the word
+pub cut_byte : {X : Type 0} (f : X → List ℕ) (words : List X) (text : List ℕ) (from at : ℕ) → IsCut f words text from at → get_or text at 0 ≢ 32 → IsCut f words text from (at + 1)
+cut_byte f words text from at cut other = record {
+  is = cut.is;
+  low = omega (arith, cut.low);
+  plain = λ q h below. ⊎_elim (λ before. cut.plain q h before) (λ (here : q ≡ at). rw here (ne_eqb (get_or text at 0) 32 other)) (cases_below q at below);
+}
+  where
+    cases_below : (q at : ℕ) → q < at + 1 → (q < at) ⊎ (q ≡ at)
+    cases_below q at h = ⊎_elim (λ (b : q < at). inl b) (λ (a : at ≤ q). inr (omega arith)) (cases_lt q at)
+
+-- where the word ends
+found_space : {X : Type 0} (f : X → List ℕ) (words : List X) (text : List ℕ) (from at : ℕ) → IsCut f words text from at → at < length text → get_or text at 0 ≡ 32 → position_from is_space 0 (drop from text) ≡ Some (at - from)
+found_space f words text from at cut below here =
+    let place : from + (at - from) ≡ at = omega (arith, cut.low) in
+    position_at is_space 0 (drop from text) (at - from) 0 (omega (arith, length-drop from text, cut.low))
+    (rw (get_or-drop from text (at - from) 0, place, here) refl)
+    (λ q h. rw (get_or-drop from text q 0) (cut.plain (from + q) (omega arith) (omega (arith, cut.low))))
+    ∙ ap (λ n. Some n) (omega arith)
+
+-- a word more
+pub cut_word : {X : Type 0} (f : X → List ℕ) (words more : List X) (w : X) (text : List ℕ) (from at : ℕ) → IsCut f words text from at → at < length text → get_or text at 0 ≡ 32
+    → more ≡ words ++ w ∷ [] → f w ≡ take (at - from) (drop from text) → IsCut f more text (at + 1) (at + 1)
+cut_word f words more w text from at cut below here pushed word =
+    let behind : drop (at - from + 1) (drop from text) ≡ drop (at + 1) text = drop-drop (at - from + 1) from text ∙ ap (λ n. drop n text) (omega (arith, cut.low)) in
+    let rest_is : slice_split is_space (drop from text) ≡ f w ∷ slice_split is_space (drop (at + 1) text) =
+    split_at (drop from text) (at - from) (found_space f words text from at cut below here)
+    ∙ ap (λ x. x ∷ slice_split is_space (drop (at - from + 1) (drop from text))) (sym word) ∙ ap (λ x. f w ∷ slice_split is_space x) behind in
+    record {
+      is = ap (λ x. map f x ++ slice_split is_space (drop (at + 1) text)) pushed ∙ ap (λ x. x ++ slice_split is_space (drop (at + 1) text)) (map-append f words (w ∷ []))
+          ∙ append_assoc (map f words) (f w ∷ []) (slice_split is_space (drop (at + 1) text)) ∙ ap (λ x. map f words ++ x) (sym rest_is) ∙ cut.is;
+      low = omega arith;
+      plain = λ q h below. absurd (omega arith);
+    }
+
+-- the last word
+pub cut_all : {X : Type 0} (f : X → List ℕ) (words more : List X) (w : X) (text : List ℕ) (from : ℕ) → IsCut f words text from (length text) → more ≡ words ++ w ∷ [] → f w ≡ drop from text → map f more ≡ slice_split is_space text
+cut_all f words more w text from cut pushed word =
+    let none : position_from is_space 0 (drop from text) ≡ None =
+    position_none is_space 0 (drop from text) 0 (λ q h. rw (get_or-drop from text q 0) (cut.plain (from + q) (omega arith) (omega (arith, length-drop from text)))) in
+    ap (map f) pushed ∙ map-append f words (w ∷ []) ∙ ap (λ x. map f words ++ x ∷ []) word ∙ ap (λ x. map f words ++ x) (sym (split_uncut 0 (drop from text) none)) ∙ cut.is
+
+-- there are more words than were cut off
+pub cut_more : {X : Type 0} (f : X → List ℕ) (words : List X) (text : List ℕ) (from at : ℕ) → IsCut f words text from at → length words < length (slice_split is_space text)
+cut_more f words text from at cut =
+    let all : length (slice_split is_space text) ≡ length (map f words) + length (slice_split is_space (drop from text)) = ap length (sym cut.is) ∙ length-append (map f words) (slice_split is_space (drop from text)) in
+    omega (arith, all, length-map words f, length-slice_split is_space (drop from text))
 
 pub position_below : (t : List ℕ → Bool) (words : List (List ℕ)) (j : ℕ) → position_from t 0 words ≡ Some j → j < length words
 position_below t words j e =

@@ -1,7 +1,6 @@
 //! Scripts: programs of commands for the nodes of a store, read from bytes and printed.
 #![tactic(auto)]
 
-mod bytes;
 mod knowledge;
 mod laws;
 mod lines;
@@ -14,7 +13,7 @@ mod tests;
 mod verdicts;
 
 pub use knowledge::Known;
-pub use laws::reading_is_determined;
+pub use laws::{prefix_is_enough, reading_is_determined};
 pub use lines::{Bad, BadCause, BunchWords, Fate, Line, LineKind, Lines};
 pub use printing::{Shown, ShownLine, print_line, shown_line};
 pub use scripts::{Script, ScriptError, read_script};

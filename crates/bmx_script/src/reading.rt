@@ -5,7 +5,6 @@ ghost use Rattle.bmx_script.specs.Grammar.{is_bunch_word as is_bunch_word_lem, i
 ghost use Rattle.bmx_script.specs.Inside.Reader.{HasRoom};
 ghost use Rattle.bmx_script.specs.Inside.Parsing.{read_register, read_bunch, read_source, read_value, begins_as_source as begins_as_source_lem, read_place, of_one, of_two, of_three, line_of, placed_line, head_line as head_line_lem, setting_line as setting_line_lem, read_version, read_nodes, read_segments, declared_bunch, read_line as read_line_lem};
 
-use crate::bytes::place_of;
 use crate::knowledge::{Known, Section, is_word};
 use crate::lines::LineKind;
 use arrayvec::ArrayVec;
@@ -61,18 +60,20 @@ fn words_of(text: &[u8]) -> Option<Words<'_>>
     ensures none { IfNone result (5 < length (slice_split (λ c. c == 32) text.now)) }
 {
     let mut words = ArrayVec::new();
-    let mut rest = text;
-    while let Some(at) = place_of(b' ', rest) {
-        if words.is_full() {
-            return None;
+    let mut from = 0;
+    for (at, byte) in text.iter().enumerate() {
+        if *byte == b' ' {
+            if words.is_full() {
+                return None;
+            }
+            words.push(&text[from..at]);
+            from = at + 1;
         }
-        words.push(&rest[..at]);
-        rest = &rest[at + 1..];
     }
     if words.is_full() {
         return None;
     }
-    words.push(rest);
+    words.push(&text[from..]);
     Some(words)
 }
 

@@ -4,13 +4,13 @@ ghost use Rattle.bmx_script.specs.Grammar.{AreScript, nodes_of, bunches_of, limi
 ghost use Rattle.bmx_script.specs.Reader.{IsAnswer, ForBad};
 ghost use Rattle.bmx_script.specs.Inside.Reader.{IsVerdict, ReadsOn, IsSound, end_of, noted, verdict_of as verdict_of_lem};
 
-use crate::bytes::place_of;
 use crate::knowledge::{Known, Section};
 use crate::lines::{Bad, BadCause, BunchWords, Line, LineKind, Lines};
 use crate::reading::read_line;
 use crate::verdicts::Verdict;
 use bmx_numerals::Misfit;
 use bmx_types::{Items, NoMemory};
+use memchr::memchr;
 use std::alloc::Global;
 use std::marker::Model;
 
@@ -122,10 +122,19 @@ fn first_line(bytes: &[u8]) -> (&[u8], &[u8])
     ensures lines { lines_of bytes.now ≡ result.0.now ∷ lines_of result.1.now }
     ensures shorter { length result.1.now < length bytes.now }
 {
-    match place_of(b'\n', bytes) {
+    match line_feed_in(bytes) {
         Some(at) => (&bytes[..at], &bytes[at + 1..]),
         None => (bytes, &bytes[bytes.len()..]),
     }
+}
+
+/// Where the first line feed stands.
+#[inline(always)]
+fn line_feed_in(bytes: &[u8]) -> Option<usize>
+    ensures found { result ≡ position_from (λ c. c == 10) 0 bytes.now }
+    ensures within { IfSome result (λ at. at < length bytes.now) }
+{
+    memchr(b'\n', bytes)
 }
 
 impl Reader {
