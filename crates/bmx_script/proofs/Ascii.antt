@@ -21,11 +21,11 @@ pub signed_numeral_ascii : (z : ℤ) → is_ascii (signed_numeral z) ≡ true
 signed_numeral_ascii (pos n) = numeral_ascii n
 signed_numeral_ascii (negsuc n) = and_from (nat_lt 45 128) (is_ascii (numeral (n + 1))) refl (numeral_ascii (n + 1))
 
--- what stands in front of ASCII
-pub ascii_on : (all front behind : List ℕ) → all ≡ front ++ behind → is_ascii front ≡ true → is_ascii behind ≡ true → is_ascii all ≡ true
-ascii_on all front behind is p q =
+-- ASCII behind ASCII
+pub ascii_on : (all before behind : List ℕ) → all ≡ before ++ behind → is_ascii before ≡ true → is_ascii behind ≡ true → is_ascii all ≡ true
+ascii_on all before behind is p q =
     subst (λ (x : List ℕ). is_ascii x ≡ true) (sym is)
-    (list_all-append (λ c. nat_lt c 128) front behind ∙ and_from (is_ascii front) (is_ascii behind) p q)
+    (list_all-append (λ c. nat_lt c 128) before behind ∙ and_from (is_ascii before) (is_ascii behind) p q)
 
 below_at : (w : List ℕ) → is_ascii w ≡ true → (i : ℕ) → slice_index w i < 128
 below_at [] h i = omega arith

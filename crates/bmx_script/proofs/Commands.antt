@@ -41,10 +41,10 @@ form_command k ws (command.Same l r) built named =
 pub good_command : (k : Known) (c : Command) → AreDistinct k.bunches → is_built_command c ≡ true → are_words k.bunches (named_in c) ≡ true → fits_command (length k.bunches) c ≡ true
     → read_command k (verb_word c) (operand_words k.bunches c) ≡ Ok c
 good_command k (command.New r b s) distinct built named fits =
-    let front : (nat_lt r 16 ≡ true) × ((nat_lt b (length k.bunches) && nat_le s 32) ≡ true) = and_parts (nat_lt r 16) (nat_lt b (length k.bunches) && nat_le s 32) fits in
-    let more : (nat_lt b (length k.bunches) ≡ true) × (nat_le s 32 ≡ true) = and_parts (nat_lt b (length k.bunches)) (nat_le s 32) front.1 in
+    let first : (nat_lt r 16 ≡ true) × ((nat_lt b (length k.bunches) && nat_le s 32) ≡ true) = and_parts (nat_lt r 16) (nat_lt b (length k.bunches) && nat_le s 32) fits in
+    let more : (nat_lt b (length k.bunches) ≡ true) × (nat_le s 32 ≡ true) = and_parts (nat_lt b (length k.bunches)) (nat_le s 32) first.1 in
     let size : nat_lt s 33 ≡ true = lt-ltb s 33 (omega (arith, leb-true s 32 more.1)) in
-    good_map _ _ ((r, b), s) (good_and _ _ (r, b) s (good_and _ _ r b (good_register r front.0) (good_bunch k b distinct more.0 (the_word k.bunches b named))) (good_below 33 s size))
+    good_map _ _ ((r, b), s) (good_and _ _ (r, b) s (good_and _ _ r b (good_register r first.0) (good_bunch k b distinct more.0 (the_word k.bunches b named))) (good_below 33 s size))
 good_command k (command.Copy r v) distinct built named fits =
     let parts : (nat_lt r 16 ≡ true) × (fits_operand (length k.bunches) v ≡ true) = and_parts (nat_lt r 16) (fits_operand (length k.bunches) v) fits in
     good_map _ _ (r, v) (good_and _ _ r v (good_register r parts.0) (good_value k v distinct named parts.1))
@@ -54,17 +54,17 @@ good_command k (command.Write on) distinct built named fits = good_map _ _ on (g
 good_command k (command.Done on) distinct built named fits = good_map _ _ on (good_source k on distinct built named fits)
 good_command k (command.Set on i v) distinct built named fits =
     let words : (are_words k.bunches (named_by on) ≡ true) × (are_words k.bunches (named_by v) ≡ true) = both_words k.bunches (named_by on) (named_by v) named in
-    let front : (fits_operand (length k.bunches) on ≡ true) × ((nat_lt i 256 && fits_operand (length k.bunches) v) ≡ true) = and_parts (fits_operand (length k.bunches) on) (nat_lt i 256 && fits_operand (length k.bunches) v) fits in
-    let more : (nat_lt i 256 ≡ true) × (fits_operand (length k.bunches) v ≡ true) = and_parts (nat_lt i 256) (fits_operand (length k.bunches) v) front.1 in
-    good_map _ _ ((on, i), v) (good_and _ _ (on, i) v (good_place k on i distinct built words.0 front.0 more.0) (good_value k v distinct words.1 more.1))
+    let first : (fits_operand (length k.bunches) on ≡ true) × ((nat_lt i 256 && fits_operand (length k.bunches) v) ≡ true) = and_parts (fits_operand (length k.bunches) on) (nat_lt i 256 && fits_operand (length k.bunches) v) fits in
+    let more : (nat_lt i 256 ≡ true) × (fits_operand (length k.bunches) v ≡ true) = and_parts (nat_lt i 256) (fits_operand (length k.bunches) v) first.1 in
+    good_map _ _ ((on, i), v) (good_and _ _ (on, i) v (good_place k on i distinct built words.0 first.0 more.0) (good_value k v distinct words.1 more.1))
 good_command k (command.Add on i z) distinct built named fits =
-    let front : (fits_operand (length k.bunches) on ≡ true) × ((nat_lt i 256 && is_i64 z) ≡ true) = and_parts (fits_operand (length k.bunches) on) (nat_lt i 256 && is_i64 z) fits in
-    let more : (nat_lt i 256 ≡ true) × (is_i64 z ≡ true) = and_parts (nat_lt i 256) (is_i64 z) front.1 in
-    good_map _ _ ((on, i), z) (good_and _ _ (on, i) z (good_place k on i distinct built named front.0 more.0) (good_integer z more.1))
+    let first : (fits_operand (length k.bunches) on ≡ true) × ((nat_lt i 256 && is_i64 z) ≡ true) = and_parts (fits_operand (length k.bunches) on) (nat_lt i 256 && is_i64 z) fits in
+    let more : (nat_lt i 256 ≡ true) × (is_i64 z ≡ true) = and_parts (nat_lt i 256) (is_i64 z) first.1 in
+    good_map _ _ ((on, i), z) (good_and _ _ (on, i) z (good_place k on i distinct built named first.0 more.0) (good_integer z more.1))
 good_command k (command.Get r on i) distinct built named fits =
-    let front : (nat_lt r 16 ≡ true) × ((fits_operand (length k.bunches) on && nat_lt i 256) ≡ true) = and_parts (nat_lt r 16) (fits_operand (length k.bunches) on && nat_lt i 256) fits in
-    let more : (fits_operand (length k.bunches) on ≡ true) × (nat_lt i 256 ≡ true) = and_parts (fits_operand (length k.bunches) on) (nat_lt i 256) front.1 in
-    good_map _ _ (r, (on, i)) (good_and _ _ r (on, i) (good_register r front.0) (good_place k on i distinct built named more.0 more.1))
+    let first : (nat_lt r 16 ≡ true) × ((fits_operand (length k.bunches) on && nat_lt i 256) ≡ true) = and_parts (nat_lt r 16) (fits_operand (length k.bunches) on && nat_lt i 256) fits in
+    let more : (fits_operand (length k.bunches) on ≡ true) × (nat_lt i 256 ≡ true) = and_parts (fits_operand (length k.bunches) on) (nat_lt i 256) first.1 in
+    good_map _ _ (r, (on, i)) (good_and _ _ r (on, i) (good_register r first.0) (good_place k on i distinct built named more.0 more.1))
 good_command k (command.Show on i) distinct built named fits =
     let parts : (fits_operand (length k.bunches) on ≡ true) × (nat_lt i 256 ≡ true) = and_parts (fits_operand (length k.bunches) on) (nat_lt i 256) fits in
     good_map _ _ (on, i) (good_place k on i distinct built named parts.0 parts.1)
@@ -138,10 +138,10 @@ three_form : (k : Known) (verb a b c : List ℕ) → is_form (of_three k verb a 
 three_form k verb a b c e = choose_form (same_word verb (codes "new")) _ _ e
     (λ v f.
     let parts : (is_form (read_both (read_register a) (read_bunch k b)) ≡ false) × (is_form (read_below 33 c) ≡ false) = and_form _ _ (map_form _ _ f) in
-    let front : (is_form (read_register a) ≡ false) × (is_form (read_bunch k b) ≡ false) = and_form _ _ parts.0 in
-    let r : (r : ℕ) × (a ≡ register_word r) = register_form a front.0 in
+    let first : (is_form (read_register a) ≡ false) × (is_form (read_bunch k b) ≡ false) = and_form _ _ parts.0 in
+    let r : (r : ℕ) × (a ≡ register_word r) = register_form a first.0 in
     let s : (s : ℕ) × (c ≡ numeral s) = below_form 33 c parts.1 in
-    record { bunches = b ∷ []; command = command.New r.0 0 s.0; built = refl; named = one_word (b ∷ []) 0 b refl (bunch_form k b front.1); words_are = cc (same_word-true verb (codes "new") v, r.1, s.1) })
+    record { bunches = b ∷ []; command = command.New r.0 0 s.0; built = refl; named = one_word (b ∷ []) 0 b refl (bunch_form k b first.1); words_are = cc (same_word-true verb (codes "new") v, r.1, s.1) })
     (λ _ g. choose_form (same_word verb (codes "set")) _ _ g
     (λ v f.
     let ws : List (List ℕ) = behind a ∷ behind c ∷ [] in
@@ -248,9 +248,9 @@ three_good : (k : Known) (verb a b c : List ℕ) (d : Command) → of_three k ve
 three_good k verb a b c d e = split_if (same_word verb (codes "new")) _ _ (Ok d) e
     (λ v f. made_good k verb (a ∷ b ∷ c ∷ []) _ _ d f (λ p g.
     let parts : (read_both (read_register a) (read_bunch k b) ≡ Ok p.0) × (read_below 33 c ≡ Ok p.1) = and_good _ _ p g in
-    let front : (read_register a ≡ Ok p.0.0) × (read_bunch k b ≡ Ok p.0.1) = and_good _ _ p.0 parts.0 in
-    let r : (a ≡ register_word p.0.0) × (nat_lt p.0.0 16 ≡ true) = register_good a p.0.0 front.0 in
-    let bunch : IsBunch k b p.0.1 = bunch_good k b p.0.1 front.1 in
+    let first : (read_register a ≡ Ok p.0.0) × (read_bunch k b ≡ Ok p.0.1) = and_good _ _ p.0 parts.0 in
+    let r : (a ≡ register_word p.0.0) × (nat_lt p.0.0 16 ≡ true) = register_good a p.0.0 first.0 in
+    let bunch : IsBunch k b p.0.1 = bunch_good k b p.0.1 first.1 in
     let s : (c ≡ numeral p.1) × (nat_lt p.1 33 ≡ true) = below_good 33 c p.1 parts.1 in
     let called : word_of k.bunches p.0.1 ≡ b = bunch.called in
     record { built = refl; named = one_word k.bunches p.0.1 b called bunch.proper; words_are = cc (same_word-true verb (codes "new") v, r.0, called, s.0); fits = both r.1 (both bunch.known (le-leb p.1 32 (omega (arith, ltb-true p.1 33 s.1)))) }))

@@ -165,8 +165,8 @@ setting_form k key word e = choose_form (same_word key (codes "bmx") && may_foll
 bunch_parts : (k : Known) (key word : List ℕ) → (same_word key (codes "bunch") && may_follow k.section 3 && is_bunch_word word) ≡ true → (key ≡ codes "bunch") × (may_follow k.section 3 ≡ true) × (is_bunch_word word ≡ true)
 bunch_parts k key word h =
     let parts : ((same_word key (codes "bunch") && may_follow k.section 3) ≡ true) × (is_bunch_word word ≡ true) = and_parts (same_word key (codes "bunch") && may_follow k.section 3) (is_bunch_word word) h in
-    let front : (same_word key (codes "bunch") ≡ true) × (may_follow k.section 3 ≡ true) = and_parts (same_word key (codes "bunch")) (may_follow k.section 3) parts.0 in
-    (same_word-true key (codes "bunch") front.0, front.1, parts.1)
+    let first : (same_word key (codes "bunch") ≡ true) × (may_follow k.section 3 ≡ true) = and_parts (same_word key (codes "bunch")) (may_follow k.section 3) parts.0 in
+    (same_word-true key (codes "bunch") first.0, first.1, parts.1)
 
 head_form : (k : Known) (key word : List ℕ) → is_form (head_line k key word) ≡ false → HasWords k (key ∷ word ∷ [])
 head_form k key word e = choose_form (same_word key (codes "bunch") && may_follow k.section 3 && is_bunch_word word) _ _ e

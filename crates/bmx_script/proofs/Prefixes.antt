@@ -154,8 +154,8 @@ pub prefix_is_enough : PrefixIsEnough
 prefix_is_enough bytes answer = ⊎_elim
     (λ (short : length bytes < 2 ^ 20 + 1). rw (take_all (2 ^ 20 + 1) bytes (omega arith)) (λ h. h, λ h. h))
     (λ (long : 2 ^ 20 + 1 ≤ length bytes).
-    let front : List ℕ = take (2 ^ 20 + 1) bytes in
-    let full : length front ≡ 2 ^ 20 + 1 = length-take-le (2 ^ 20 + 1) bytes long in
-    subst (λ (x : List ℕ). Alike nothing_known [] 1 0 (lines_of front) (lines_of x) answer) (take-append-drop (2 ^ 20 + 1) bytes)
-    (alike (2 ^ 20 + 1) front (drop (2 ^ 20 + 1) bytes) nothing_known [] 1 0 answer (omega arith) (omega arith) (omega arith)))
+    let prefix : List ℕ = take (2 ^ 20 + 1) bytes in
+    let full : length prefix ≡ 2 ^ 20 + 1 = length-take-le (2 ^ 20 + 1) bytes long in
+    subst (λ (x : List ℕ). Alike nothing_known [] 1 0 (lines_of prefix) (lines_of x) answer) (take-append-drop (2 ^ 20 + 1) bytes)
+    (alike (2 ^ 20 + 1) prefix (drop (2 ^ 20 + 1) bytes) nothing_known [] 1 0 answer (omega arith) (omega arith) (omega arith)))
     (cases_lt (length bytes) (2 ^ 20 + 1))

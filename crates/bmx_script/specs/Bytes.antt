@@ -33,9 +33,3 @@ letter_a = 97
 
 abbrev pub letter_z : ℕ
 letter_z = 122
-
-abbrev pub digit_0 : ℕ
-digit_0 = 48
-
-abbrev pub digit_9 : ℕ
-digit_9 = 57

@@ -14,7 +14,8 @@ use Rattle.bmx_script.specs.declared.lines.Bad.{Bad}
 use Rattle.bmx_script.specs.declared.lines.BadCause.{BadCause}
 use Rattle.bmx_script.specs.declared.lines.BadCause.TheVariants as cause
 use Rattle.bmx_script.specs.declared.knowledge.Known.{Known}
-use Rattle.bmx_script.specs.Bytes.{line_feed, hash, underscore, letter_a, letter_z, digit_0, digit_9}
+use Rattle.bmx_numerals.specs.Numerals.{is_digit}
+use Rattle.bmx_script.specs.Bytes.{line_feed, hash, underscore, letter_a, letter_z}
 use Rattle.bmx_script.specs.Spelling.{word_of, spelling, printed}
 
 -- a byte from one to another
@@ -27,7 +28,7 @@ is_letter c = is_within letter_a letter_z c
 
 -- a lower-case letter, a digit or `_`
 abbrev pub is_word_byte : ℕ → Bool
-is_word_byte c = is_letter c || (is_within digit_0 digit_9 c || (c == underscore))
+is_word_byte c = is_letter c || (is_digit c || (c == underscore))
 
 abbrev pub begins_with_letter : List ℕ → Bool
 begins_with_letter [] = false
