@@ -1,5 +1,5 @@
 -- A run between two lines.
-use Rattle.std.specs.Prelude.{◌≡◌, ℕ, ◌+◌, ◌-◌, ◌^◌, ◌<◌, ◌≤◌, List, [], ◌∷◌, ◌++◌, length, map, Option, Some, None}
+use Rattle.std.specs.Prelude.{◌≡◌, ℕ, ◌+◌, ◌-◌, ◌^◌, ◌<◌, ◌≤◌, List, [], ◌∷◌, ◌++◌, length, map}
 use Rattle.bmx_types.specs.declared.commands.Command.{Command}
 use Rattle.bmx_graph.specs.declared.answers.Answer.{Answer}
 use Rattle.bmx_graph.specs.Step.{state_after}
@@ -16,7 +16,7 @@ use Rattle.bmx_cli.specs.declared.runs.Runner.{Runner}
 use Rattle.bmx_cli.specs.declared.runs.RunEnd.{RunEnd}
 use Rattle.bmx_cli.specs.declared.runs.RunEnd.TheVariants as end
 use Rattle.bmx_cli.specs.Texts.{answer_line, step_text, text_of}
-use Rattle.bmx_cli.specs.Runs.{program, done_by, act_of, graph_after, AreAnswersOf, rooms_after_all, Follows, Runs}
+use Rattle.bmx_cli.specs.Runs.{Order, program, done_by, act_of, graph_after, AreAnswersOf, rooms_after_all, Follows}
 
 -- a command is node 0's, of the one bunch, with registers that there are
 abbrev pub FitsOrder : ℕ → Command → Type 0
@@ -88,7 +88,7 @@ pub record IsStopped (lines : List Line) (r : Runner) : Type 0 where
   pub state : graph_of r.node ≡ graph_after lines r.history
   pub solo : IsSolo r.node
 
--- how the run of a script ended
+-- how the run of a script ended: with all of its commands, or with some to come
 abbrev pub IsEnd : List Line → List Step → List ℕ → RunEnd → Type 0
-IsEnd lines history text end.Ended = Runs lines history × (text ≡ text_of history)
-IsEnd lines history text end.NoMemory = Follows lines history × (text ≡ text_of history)
+IsEnd lines history text end.Ended = Follows lines [] history × (text ≡ text_of history)
+IsEnd lines history text end.NoMemory = (to_come : List Order) × Follows lines to_come history × (text ≡ text_of history)
