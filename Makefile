@@ -10,7 +10,7 @@ build:
 	mkdir -p bin
 	cp crates/bmx_cli/out/bmx_cli bin/bmx
 
-# The gate: every proof, each edit that must fail, each test and program.
+# The gate: every proof, each edit that must fail, each test and program, the table of runs, and the claims.
 test:
 	./.ci/run
 
@@ -22,12 +22,24 @@ try:
 examples: build
 	for script in examples/*.bmx; do ./bin/bmx run < $$script | diff $${script%.bmx}.out - || exit 1; done
 
-# Times a script of 2,000 lines and one of 20,000, and prints the ratio.
+# Runs the program by a table: words, closed and full streams, want of memory.
+runs: build
+	python3 tools/runs.py bin/bmx
+
+# Counts what a reader has to believe of each claim of the README.
+claims:
+	python3 tools/claims.py
+
+# Times a script of 2,000 lines and one of 20,000, and prints the ratio. With YARDSTICK=F, a folder with a plain program
+# of the same language and its measure.py, counts the instructions of both besides, by kind of script.
 bench: build
 	python3 bench/lines.py bin/bmx
+ifdef YARDSTICK
+	python3 $(YARDSTICK)/measure.py bin/bmx $(YARDSTICK)/target/release/yardstick --line-writes --sizes 20000 --no-time
+endif
 
 # Proves every crate over what earlier checks kept.
 check:
 	rt all check
 
-.PHONY: run build test try examples bench check
+.PHONY: run build test try examples runs claims bench check

@@ -1,5 +1,5 @@
 -- A script of one node and one bunch: whose its commands are, and what they name.
-use Rattle.std.proofs.Common.{◌≡◌, ℕ, ◌+◌, ◌<◌, ◌≤◌, ◌==◌, true, cond, ◌&&◌, ◌||◌, nat_lt, nat_le, get_or, zero, suc, List, [], ◌∷◌, ◌++◌, length, ⊎_elim, refl, subst, arith}
+use Rattle.std.proofs.Common.{◌≡◌, ℕ, ◌+◌, ◌<◌, ◌≤◌, ◌==◌, true, cond, ◌&&◌, ◌||◌, nat_lt, nat_le, get_or, zero, suc, List, [], ◌∷◌, length, ⊎_elim, refl, subst, arith}
 use Rattle.std.proofs.lemmas.Bool.{and_parts, or_cases, eqb-true, ltb-true, lt-ltb, leb-true, cases_lt, cond-true, false≢true}
 use Rattle.std.proofs.lemmas.List.{length-append}
 use Rattle.bmx_types.specs.Integers.{is_i64}
@@ -13,7 +13,7 @@ use Rattle.bmx_script.specs.declared.lines.LineKind.{LineKind}
 use Rattle.bmx_script.specs.declared.lines.LineKind.TheVariants as line
 use Rattle.bmx_script.specs.Grammar.{may_follow, section_of, fits_operand, fits_command, in_range, known_after, known_after_all, nothing_known, bunches_of, AreInOrder, AreScript}
 use Rattle.bmx_local.specs.Solos.{FitsOperand, FitsCommand}
-use Rattle.bmx_cli.specs.Progress.{FitsLine}
+use Rattle.bmx_cli.specs.Inside.Progress.{FitsLine}
 
 -- no bunch is known before the bunch line and one behind it, and there is one node at most
 pub record IsSmall (k : Known) : Type 0 where

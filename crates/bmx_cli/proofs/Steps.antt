@@ -1,22 +1,17 @@
 -- A run that goes on over a line.
-use Rattle.std.proofs.Common.{◌≡◌, ℕ, ◌+◌, ◌-◌, ◌^◌, ◌<◌, ◌≤◌, ◌==◌, Bool, true, false, cond, suc, zero, List, [], ◌∷◌, ◌++◌, length, map, Option, Some, None, refl, ap, sym, ◌∙◌, subst, append_assoc, arith}
-use Rattle.std.proofs.Common.{nat_lt, nat_le, ◌&&◌, get_or}
-use Rattle.std.proofs.lemmas.Bool.{eqb-true, ltb-true, and_parts}
+use Rattle.std.proofs.Common.{◌≡◌, ℕ, ◌+◌, ◌≤◌, ◌==◌, Bool, true, false, cond, List, [], ◌∷◌, ◌++◌, length, map, Option, Some, None, refl, ap, sym, ◌∙◌, subst, append_assoc, arith}
+use Rattle.std.proofs.lemmas.Bool.{eqb-true}
 use Rattle.std.proofs.lemmas.List.{length-append, append-nil}
 use Rattle.std.specs.List.{cons_option}
-use Rattle.bmx_types.specs.Integers.{is_i64}
-use Rattle.bmx_types.specs.declared.commands.Operand.{Operand}
-use Rattle.bmx_types.specs.declared.commands.Operand.TheVariants as operand
-use Rattle.bmx_script.specs.declared.knowledge.Known.{Known}
 use Rattle.bmx_script.specs.declared.lines.Line.{Line}
 use Rattle.bmx_script.specs.declared.lines.LineKind.{LineKind}
 use Rattle.bmx_script.specs.declared.lines.LineKind.TheVariants as line
-use Rattle.bmx_script.specs.Grammar.{fits_operand, fits_command, in_range, known_after, bunches_of, limit_of, AreInOrder}
+use Rattle.bmx_script.specs.Grammar.{bunches_of, limit_of}
 use Rattle.bmx_cli.specs.declared.runs.Step.{Step}
 use Rattle.bmx_cli.specs.declared.runs.Runner.{Runner}
 use Rattle.bmx_cli.specs.Texts.{answer_line, step_text, text_of}
-use Rattle.bmx_cli.specs.Runs.{AreAnswers, AreAnswersOf, rooms_after_all, Order, order_of, program, done_by, act_of, opening_of, graph_after, anchors, anchor_birth, Follows, Runs}
-use Rattle.bmx_cli.specs.Progress.{heap_of, IsReady, SameSteps, Acts, GoesBy, Goes, IsAt, IsStopped}
+use Rattle.bmx_cli.specs.Runs.{AreAnswers, AreAnswersOf, rooms_after_all, Order, order_of, program, done_by, act_of, opening_of, graph_after, anchors, anchor_birth, Follows}
+use Rattle.bmx_cli.specs.Inside.Progress.{heap_of, IsReady, SameSteps, Acts, GoesBy, Goes, IsAt, IsStopped}
 use Rattle.bmx_types.specs.declared.values.Val.{Val}
 use Rattle.bmx_types.specs.declared.values.Val.TheVariants as val
 use Rattle.bmx_types.specs.declared.commands.Command.{Command}
@@ -24,12 +19,10 @@ use Rattle.bmx_types.specs.declared.commands.Command.TheVariants as command
 use Rattle.bmx_types.specs.declared.numbers.Mode.{Mode}
 use Rattle.bmx_graph.specs.declared.answers.Answer.{Answer}
 use Rattle.bmx_graph.specs.declared.answers.Answer.TheVariants as answer
-use Rattle.bmx_types.specs.declared.openings.Birth.{Birth}
 use Rattle.bmx_local.specs.declared.solos.Solo.{Solo}
 use Rattle.bmx_segment.specs.Heaps.{Heap}
 use Rattle.bmx_local.specs.Rooms.{Rooms, first_rooms, rooms_after, rooms_of, answer_in}
 use Rattle.bmx_local.specs.Solos.{graph_of, IsSolo}
-use Rattle.bmx_types.specs.declared.commands.Refusal.TheVariants as refusal
 use Rattle.bmx_graph.specs.State.{State, opening_state}
 use Rattle.bmx_graph.specs.Step.{Act, state_after, state_after_all, effect_of, with_held, with_field, got, raised, raised_to, target_of, field_at, sum_of, value_of}
 
@@ -193,17 +186,18 @@ unfolding graph_of
 ready_at lines done r few at = record { solo = at.solo; names = omega (arith, few, at.made) }
 
 -- the run is at its end
-pub ended : (lines : List Line) (r : Runner) → IsAt lines lines r → Runs lines r.history × (r.text ≡ text_of r.history)
-ended lines r at = (record { commands = at.commands; answers = at.answers; printed = at.printed }, at.text)
+pub ended : (lines : List Line) (r : Runner) → IsAt lines lines r → Follows lines [] r.history × (r.text ≡ text_of r.history)
+ended lines r at = (record { commands = append-nil _ ∙ at.commands; answers = at.answers; printed = at.printed }, at.text)
 
 pub ended_node : (lines : List Line) (r : Runner) → IsAt lines lines r → IsStopped lines r
 ended_node lines r at = record { state = at.state; solo = at.solo }
 
 -- the run stops before a line
-pub stopped : (lines done rest : List Line) (old new : Runner) → done ++ rest ≡ lines → IsAt lines done old → SameSteps old new → Follows lines new.history × (new.text ≡ text_of new.history)
+pub stopped : (lines done rest : List Line) (old new : Runner) → done ++ rest ≡ lines → IsAt lines done old → SameSteps old new
+    → (to_come : List Order) × Follows lines to_come new.history × (new.text ≡ text_of new.history)
 stopped lines done rest old new all at same = (
+  program rest,
   record {
-    rest = program rest;
     commands = ap (λ h. map done_by h ++ program rest) same.history ∙ ap (λ os. os ++ program rest) at.commands ∙ sym (program-append done rest) ∙ ap program all;
     answers = subst (λ (h : List Step). AreAnswersOf lines (map act_of h)) (sym same.history) at.answers;
     printed = subst (λ (h : List Step). map (λ s. s.printed) h ≡ map step_text h) (sym same.history) at.printed;

@@ -1,10 +1,11 @@
--- A command that shows something changes nothing.
+-- What is told: a command that shows something changes nothing, and how a number prints.
 use Rattle.std.specs.Prelude.{ℤ}
-use Rattle.std.proofs.Common.{◌≡◌, ℕ, Bool, true, false, cond, Option, Some, None, is_some, slice_get, refl, sym, ap, ◌∙◌}
-use Rattle.std.proofs.lemmas.Bool.{false≢true}
+use Rattle.std.proofs.Common.{◌≡◌, ℕ, zero, suc, ◌<◌, ◌^◌, Bool, true, false, cond, Option, Some, None, is_some, slice_get, eqb, decimal, refl, sym, ap, ◌∙◌, arith}
+use Rattle.std.proofs.lemmas.Fmt.{decimal_digit, decimal-digits_of}
+use Rattle.bmx_numerals.specs.Numerals.{numeral}
+use Rattle.std.proofs.lemmas.Bool.{false≢true, cond-false, ne_eqb}
 use Rattle.std.proofs.lemmas.Option.{none-some}
 use Rattle.bmx_types.specs.declared.values.Val.{Val}
-use Rattle.bmx_types.specs.declared.values.Val.TheVariants as val
 use Rattle.bmx_types.specs.declared.commands.Command.{Command}
 use Rattle.bmx_types.specs.declared.commands.Command.TheVariants as command
 use Rattle.bmx_types.specs.declared.commands.Refusal.TheVariants as refusal
@@ -120,3 +121,9 @@ shown_keeps n c answer.Yes x is e = told n c answer.Yes refl is
 shown_keeps n c answer.No x is e = told n c answer.No refl is
 shown_keeps n c answer.Wait x is e = refl
 shown_keeps n c (answer.Refused why) x is e = refl
+
+-- a number's one spelling is what `{}` prints
+pub numeral-decimal : (n : ℕ) → n < 2 ^ 64 → numeral n ≡ decimal n
+numeral-decimal zero fits = sym (decimal_digit 0 (omega arith))
+numeral-decimal (suc m) fits =
+    cond-false (eqb (suc m) 0) _ _ (ne_eqb (suc m) 0 (λ e. omega (arith, e))) ∙ sym (decimal-digits_of (suc m) (omega arith) fits)

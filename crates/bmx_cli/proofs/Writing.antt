@@ -1,101 +1,138 @@
 -- A text that is written piece by piece, and the end of a run.
-use Rattle.std.specs.Prelude.{OnOk, OnErr, IsErrOf}
+use Rattle.std.specs.Prelude.{OnOk, OnErr, IsErrOf, IfSome}
 use Rattle.bmx_outside.specs.declared.sinks.SinkError.{SinkError}
 use Rattle.bmx_outside.specs.declared.sinks.SinkError.TheVariants as fault
-use Rattle.std.proofs.Common.{◌≡◌, ℕ, ◌+◌, ◌-◌, ◌<◌, ◌≤◌, min, Bool, Result, true, false, List, [], Option, Some, None, Ok, Err, length, take, drop, map, refl, ap, sym, ◌∙◌, subst, arith}
-use Rattle.std.proofs.lemmas.List.{length-take, length-drop, take_all, append-nil}
-use Rattle.std.proofs.lemmas.Grind.{common_steps}
+use Rattle.std.proofs.Common.{◌≡◌, ℕ, zero, suc, ◌+◌, ◌<◌, Bool, Result, true, false, List, [], ◌∷◌, ◌++◌, Option, Some, None, Ok, Err, length, take, drop, get_or, map, append_assoc, add-one, refl, ap, sym, ◌∙◌, subst, arith}
+use Rattle.std.proofs.lemmas.List.{length-append, take_all, take-append-le, append-nil}
+use Rattle.std.proofs.Math.Seq.{take-append-add}
+use Rattle.std.specs.List.{flat_map}
 use Rattle.std.specs.Io.KnownBytes.{Appends}
+use Rattle.std.proofs.KnownBytes.{Appends-trans}
 use Rattle.bmx_outside.specs.Streams.{AppendsPart}
-use Rattle.bmx_outside.proofs.Streams.{Appends-take_add}
+use Rattle.bmx_script.specs.declared.lines.Bad.{Bad}
+use Rattle.bmx_script.specs.declared.lines.Line.{Line}
 use Rattle.bmx_script.specs.Grammar.{IsReading}
+use Rattle.bmx_script.proofs.Prefixes.{prefix_is_enough}
 use Rattle.bmx_cli.specs.declared.runs.Run.{Run}
+use Rattle.bmx_cli.specs.declared.runs.Step.{Step}
 use Rattle.bmx_cli.specs.declared.runs.RunEnd.{RunEnd}
 use Rattle.bmx_cli.specs.declared.runs.RunEnd.TheVariants as end
 use Rattle.bmx_cli.specs.declared.statuses.Status.{Status}
 use Rattle.bmx_cli.specs.declared.statuses.Status.TheVariants as status
-use Rattle.bmx_cli.specs.Texts.{text_of, has_refusal}
+use Rattle.bmx_cli.specs.Texts.{step_text, text_of, has_refusal}
 use Rattle.bmx_local.specs.Locals.{MeansGraph}
-use Rattle.bmx_cli.specs.Runs.{Runs, Follows, graph_after}
-use Rattle.bmx_cli.specs.Progress.{IsEnd}
+use Rattle.bmx_cli.specs.Runs.{graph_after}
 use Rattle.bmx_cli.specs.Words.{misfit_in}
-use Rattle.bmx_cli.specs.Top.{WritesFront, Ends, Explains, IsWhole, IsPart, IsFirstOf, read_limit, status_after}
+use Rattle.bmx_cli.specs.Top.{Call, Device, HadFault, Wrote, WroteFront, WrotePart, read_limit, Gave, IsRun, Explains}
+use Rattle.bmx_cli.specs.Inside.Progress.{IsEnd}
+use Rattle.bmx_cli.specs.Inside.Writing.{Ends, printed_by, status_after}
 
-take-front : (n k : ℕ) (xs : List ℕ) → n ≤ k → take n (take k xs) ≡ take n xs
-take-front n k xs h = grind (arith, common_steps)
+-- what the first steps print, what the next one prints, and the rest
+pub printed-split : (steps : List Step) (i : ℕ) (d : Step) → i < length steps
+    → printed_by steps ≡ printed_by (take i steps) ++ ((get_or steps i d).printed ++ printed_by (drop (suc i) steps))
+printed-split [] i d below = absurd (omega arith)
+printed-split (s ∷ steps) zero d below = refl
+printed-split (s ∷ steps) (suc i) d below =
+    ap (λ t. s.printed ++ t) (printed-split steps i d (omega arith))
+    ∙ sym (append_assoc s.printed (printed_by (take i steps)) ((get_or steps i d).printed ++ printed_by (drop (suc i) steps)))
 
--- a part of the next piece was written: a part of the text is
-pub part_of : (a b c : Option (List ℕ)) (text : List ℕ) (at k : ℕ) → at + k ≤ length text → Appends a b (take at text) → AppendsPart b c (take k (drop at text)) → AppendsPart a c text
-part_of a b c text at k fits first part =
-    let short : part.0 < k = omega (arith, part.1, length-take k (drop at text)) in
-    (at + part.0, omega arith, Appends-take_add a b c text at part.0 first (subst (λ (t : List ℕ). Appends b c t) (take-front part.0 k (drop at text) (omega arith)) part.2))
+printed-suc : (steps : List Step) (i : ℕ) (d : Step) → i < length steps → printed_by (take (suc i) steps) ≡ printed_by (take i steps) ++ (get_or steps i d).printed
+printed-suc [] i d below = absurd (omega arith)
+printed-suc (s ∷ steps) zero d below = append-nil s.printed
+printed-suc (s ∷ steps) (suc i) d below =
+    ap (λ t. s.printed ++ t) (printed-suc steps i d (omega arith)) ∙ sym (append_assoc s.printed (printed_by (take i steps)) (get_or steps i d).printed)
 
-pub front_from_all : (a b : Option (List ℕ)) (text : List ℕ) → Appends a b text → WritesFront a b text
-front_from_all a b text h = (length text, subst (λ (t : List ℕ). Appends a b t) (sym (take_all (length text) text (omega arith))) h)
+pub printed-more : (steps : List Step) (i : ℕ) (d : Step) → i < length steps → printed_by (take (i + 1) steps) ≡ printed_by (take i steps) ++ (get_or steps i d).printed
+printed-more steps i d below = ap (λ k. printed_by (take k steps)) (add-one i) ∙ printed-suc steps i d below
 
-pub front_from_part : (a b : Option (List ℕ)) (text : List ℕ) → AppendsPart a b text → WritesFront a b text
-front_from_part a b text h = (h.0, h.2)
+texts_of : List (List ℕ) → List ℕ
+texts_of texts = flat_map (λ t. t) texts
 
-whole_of : (words : List (List ℕ)) (bytes : List ℕ) (run : Run) → misfit_in words ≡ None → IsReading bytes (Ok run.script) → IsEnd run.script run.history run.text end.Ended
-    → MeansGraph run.nodes (graph_after run.script run.history) → IsWhole words bytes run
-whole_of words bytes run usage script e means = record { usage = usage; script = script; history = e.0; nodes = means; text = e.1 }
+flat_map-map : (f : Step → List ℕ) (steps : List Step) → flat_map f steps ≡ texts_of (map f steps)
+unfolding texts_of
+flat_map-map f [] = refl
+flat_map-map f (s ∷ steps) = ap (λ t. f s ++ t) (flat_map-map f steps)
 
-runs_follow : (words : List (List ℕ)) (bytes : List ℕ) (run : Run) → IsWhole words bytes run → IsPart words bytes run
-runs_follow words bytes run whole = record {
-  usage = whole.usage;
-  script = whole.script;
-  nodes = whole.nodes;
-  text = whole.text;
-  history = record { rest = []; commands = append-nil _ ∙ whole.history.commands; answers = whole.history.answers; printed = whole.history.printed };
-}
+-- steps that print what they should print the text of their history
+pub printed_is : (steps : List Step) → map (λ s. s.printed) steps ≡ map step_text steps → printed_by steps ≡ text_of steps
+printed_is steps same = flat_map-map (λ s. s.printed) steps ∙ ap texts_of same ∙ sym (flat_map-map step_text steps)
 
--- how the end of a run explains the program's
-pub explained : (words : List (List ℕ)) (bytes : List ℕ) (read source_rose rose : Type 0) (before behind : Option (List ℕ)) (run : Run) (e : RunEnd) (s : Status)
-    → read → misfit_in words ≡ None → IsReading bytes (Ok run.script) → IsEnd run.script run.history run.text e → MeansGraph run.nodes (graph_after run.script run.history) → Ends run e rose before behind s
-    → Explains words bytes read source_rose rose before behind s (Some run)
-explained words bytes read source_rose rose before behind run end.Ended status.Done all usage script at means ends = (all, whole_of words bytes run usage script at means, ends.0, ends.1)
-explained words bytes read source_rose rose before behind run end.Ended status.SomeRefused all usage script at means ends = (all, whole_of words bytes run usage script at means, ends.0, ends.1)
-explained words bytes read source_rose rose before behind run end.Ended status.WriteFault all usage script at means ends = (all, whole_of words bytes run usage script at means, ends.0, ends.1)
-explained words bytes read source_rose rose before behind run end.Ended status.NoMemory all usage script at means ends = (all, runs_follow words bytes run (whole_of words bytes run usage script at means), ends)
-explained words bytes read source_rose rose before behind run end.Ended (status.Usage k) all usage script at means ends = absurd ends
-explained words bytes read source_rose rose before behind run end.Ended (status.BadScript b) all usage script at means ends = absurd ends
-explained words bytes read source_rose rose before behind run end.Ended status.ReadFault all usage script at means ends = absurd ends
-explained words bytes read source_rose rose before behind run end.NoMemory status.NoMemory all usage script at means ends = (all, record { usage = usage; script = script; history = at.0; nodes = means; text = at.1 }, ends)
-explained words bytes read source_rose rose before behind run end.NoMemory status.Done all usage script at means ends = absurd ends
-explained words bytes read source_rose rose before behind run end.NoMemory status.SomeRefused all usage script at means ends = absurd ends
-explained words bytes read source_rose rose before behind run end.NoMemory status.WriteFault all usage script at means ends = absurd ends
-explained words bytes read source_rose rose before behind run end.NoMemory (status.Usage k) all usage script at means ends = absurd ends
-explained words bytes read source_rose rose before behind run end.NoMemory (status.BadScript b) all usage script at means ends = absurd ends
-explained words bytes read source_rose rose before behind run end.NoMemory status.ReadFault all usage script at means ends = absurd ends
+-- so does the history of a run, however it ended
+pub end_text : (lines : List Line) (history : List Step) (text : List ℕ) (e : RunEnd) → IsEnd lines history text e → text ≡ printed_by history
+end_text lines history text end.Ended is = is.1 ∙ sym (printed_is history is.0.printed)
+end_text lines history text end.NoMemory is = is.2 ∙ sym (printed_is history is.1.printed)
 
--- the first bytes of what a source has left
-pub first_of : Option (List ℕ) → List ℕ
-first_of None = []
-first_of (Some all) = take read_limit all
+-- all before a piece was written, and a part of the piece: a part of the whole is
+pub part_of : (a b c : Option (List ℕ)) (front piece rest : List ℕ) → Appends a b front → AppendsPart b c piece → AppendsPart a c (front ++ (piece ++ rest))
+part_of a b c front piece rest first part =
+    let same : take (length front + part.0) (front ++ (piece ++ rest)) ≡ front ++ take part.0 piece =
+    take-append-add front (piece ++ rest) part.0 ∙ ap (λ t. front ++ t) (take-append-le part.0 piece rest (omega (arith, part.1))) in (
+      length front + part.0,
+      omega (arith, part.1, length-append front (piece ++ rest), length-append piece rest),
+      subst (λ (t : List ℕ). Appends a c t) (sym same) (Appends-trans a b c _ _ first part.2),
+    )
 
-pub first_is : (left : Option (List ℕ)) → IsFirstOf left (first_of left)
-unfolding first_of
-first_is None = tt
-first_is (Some all) = refl
+front_from_all : (sink : Device) (text : List ℕ) → Wrote sink text → WroteFront sink text
+front_from_all sink text h = (length text, subst (λ (t : List ℕ). Wrote sink t) (sym (take_all (length text) text (omega arith))) h)
+
+front_from_part : (sink : Device) (text : List ℕ) → WrotePart sink text → WroteFront sink text
+front_from_part sink text h = (h.0, h.2)
 
 pub nothing_written : (a : Option (List ℕ)) → Appends a a []
 nothing_written None = tt
 nothing_written (Some xs) = sym (append-nil xs)
 
+-- what is read of a source's first bytes is read of all of them
+pub gave_all : (c : Call) (bytes : List ℕ) (script : Result (List Line) Bad) → misfit_in c.words ≡ None
+    → IfSome c.source.before (λ all. bytes ≡ take read_limit all) → IfSome c.source.before (λ all. c.source.behind ≡ Some (drop read_limit all)) → IsReading bytes script → Gave c script
+gave_all c bytes script usage first rest read = (usage, of_all c.source.before c.source.behind bytes script first rest read)
+  where
+    of_all : (left behind : Option (List ℕ)) (bytes : List ℕ) (script : Result (List Line) Bad)
+        → IfSome left (λ all. bytes ≡ take read_limit all) → IfSome left (λ all. behind ≡ Some (drop read_limit all)) → IsReading bytes script
+        → (b : List ℕ) × IfSome left (λ all. (b ≡ all) × (behind ≡ Some (drop read_limit all))) × IsReading b script
+    of_all None behind bytes script first rest read = (bytes, tt, read)
+    of_all (Some all) behind bytes script first rest read =
+        (all, (refl, rest), (prefix_is_enough all script).0 (subst (λ (b : List ℕ). IsReading b script) first read))
+
+-- what is known of a run once it is made, before its text is written
+pub record IsMade (c : Call) (run : Run) (e : RunEnd) : Type 0 where
+  pub script : Gave c (Ok run.script)
+  pub history : IsEnd run.script run.history run.text e
+  pub nodes : MeansGraph run.nodes (graph_after run.script run.history)
+
+whole_run : (c : Call) (run : Run) → IsMade c run end.Ended → IsRun c [] run
+whole_run c run made = record { script = made.script; history = made.history.0; nodes = made.nodes; text = made.history.1 }
+
+-- how the end of a run explains the program's
+pub explained : (c : Call) (run : Run) (e : RunEnd) (s : Status) → IsMade c run e → Ends run e c.sink s → Explains c s (Some run)
+explained c run end.Ended status.Done made ends = (whole_run c run made, ends.0, ends.1)
+explained c run end.Ended status.SomeRefused made ends = (whole_run c run made, ends.0, ends.1)
+explained c run end.Ended status.WriteFault made ends = (whole_run c run made, ends.0, ends.1)
+explained c run end.Ended status.NoMemory made ends = (([], whole_run c run made), ends)
+explained c run end.Ended (status.Usage k) made ends = absurd ends
+explained c run end.Ended (status.BadScript b) made ends = absurd ends
+explained c run end.Ended status.ReadFault made ends = absurd ends
+explained c run end.NoMemory status.NoMemory made ends =
+    ((made.history.0, record { script = made.script; history = made.history.1; nodes = made.nodes; text = made.history.2 }), ends)
+explained c run end.NoMemory status.Done made ends = absurd ends
+explained c run end.NoMemory status.SomeRefused made ends = absurd ends
+explained c run end.NoMemory status.WriteFault made ends = absurd ends
+explained c run end.NoMemory (status.Usage k) made ends = absurd ends
+explained c run end.NoMemory (status.BadScript b) made ends = absurd ends
+explained c run end.NoMemory status.ReadFault made ends = absurd ends
+
 -- an answer with no run
-pub refused_as : (words : List (List ℕ)) (bytes : List ℕ) (read source_rose rose : Type 0) (before behind : Option (List ℕ)) (s t : Status) (run : Option Run)
-    → t ≡ s → run ≡ None → Explains words bytes read source_rose rose before behind s None → Explains words bytes read source_rose rose before behind t run
-refused_as words bytes read source_rose rose before behind s t run same none why =
-    subst (λ (r : Option Run). Explains words bytes read source_rose rose before behind t r) (sym none)
-    (subst (λ (u : Status). Explains words bytes read source_rose rose before behind u None) (sym same) why)
+pub refused_as : (c : Call) (s t : Status) (run : Option Run) → t ≡ s → run ≡ None → Explains c s None → Explains c t run
+refused_as c s t run same none why =
+    subst (λ (r : Option Run). Explains c t r) (sym none) (subst (λ (u : Status). Explains c u None) (sym same) why)
 
 -- how a run and its writing end
-pub ends_so : (run : Run) (e : RunEnd) (wrote : Result (Unit {0}) SinkError) (refused : Bool) (rose : Type 0) (before behind : Option (List ℕ))
-    → OnOk wrote (Appends before behind run.text) → OnErr wrote (AppendsPart before behind run.text) → (IsErrOf wrote fault.Failed → rose) → refused ≡ has_refusal run.history
-    → Ends run e rose before behind (status_after e wrote refused)
-ends_so run end.NoMemory (Ok done) refused rose before behind all part failed is = front_from_all before behind run.text all
-ends_so run end.NoMemory (Err why) refused rose before behind all part failed is = front_from_part before behind run.text part
-ends_so run end.Ended (Ok done) true rose before behind all part failed is = (sym is, all)
-ends_so run end.Ended (Ok done) false rose before behind all part failed is = (sym is, all)
-ends_so run end.Ended (Err fault.Failed) refused rose before behind all part failed is = (failed refl, part)
-ends_so run end.Ended (Err fault.NoMemory) refused rose before behind all part failed is = front_from_part before behind run.text part
+pub ends_so : (run : Run) (e : RunEnd) (wrote : Result (Unit {0}) SinkError) (refused : Bool) (sink : Device)
+    → OnOk wrote (Wrote sink run.text) → OnErr wrote (WrotePart sink run.text) → (IsErrOf wrote fault.Failed → HadFault sink) → refused ≡ has_refusal run.history
+    → Ends run e sink (status_after e wrote refused)
+ends_so run end.NoMemory (Ok done) refused sink all part failed is = front_from_all sink run.text all
+ends_so run end.NoMemory (Err why) refused sink all part failed is = front_from_part sink run.text part
+ends_so run end.Ended (Ok done) true sink all part failed is = (sym is, all)
+ends_so run end.Ended (Ok done) false sink all part failed is = (sym is, all)
+ends_so run end.Ended (Err fault.Failed) refused sink all part failed is = (failed refl, part)
+ends_so run end.Ended (Err fault.NoMemory) refused sink all part failed is = front_from_part sink run.text part

@@ -1,6 +1,6 @@
 pub mod Statuses
 pub mod Texts
-pub mod Progress
 pub mod Runs
 pub mod Words
 pub mod Top
+pub mod Inside

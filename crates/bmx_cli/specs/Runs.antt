@@ -38,9 +38,13 @@ done_by s = record { node = s.node; line = s.line; command = s.command }
 abbrev pub act_of : Step → Act
 act_of s = record { node = s.node; command = s.command; answer = s.answer }
 
--- the anchor of a bunch: an object of 32 null fields
+-- how many fields an anchor has
+abbrev pub anchor_size : ℕ
+anchor_size = 32
+
+-- the anchor of a bunch: an object of null fields
 abbrev pub anchor_birth : ℕ → Birth
-anchor_birth bunch = record { name = anchor_of bunch; bunch = bunch; fields = replicate 32 val.Null }
+anchor_birth bunch = record { name = anchor_of bunch; bunch = bunch; fields = replicate anchor_size val.Null }
 
 -- the anchors of n bunches from a number on
 abbrev pub anchors : ℕ → ℕ → List Birth
@@ -72,16 +76,9 @@ rooms_after_all rooms (a ∷ acts) = rooms_after_all (rooms_after rooms a.comman
 abbrev pub AreAnswersOf : List Line → List Act → Type 0
 AreAnswersOf lines acts = AreAnswers (limit_of lines) first_rooms (opening_of lines) acts
 
--- the history has the first commands of the script, each once and in order, answered so, each with what it
--- prints
-pub record Follows (lines : List Line) (steps : List Step) : Type 0 where
-  pub rest : List Order
-  pub commands : map done_by steps ++ rest ≡ program lines
-  pub answers : AreAnswersOf lines (map act_of steps)
-  pub printed : map (λ s. s.printed) steps ≡ map step_text steps
-
--- it has all of them
-pub record Runs (lines : List Line) (steps : List Step) : Type 0 where
-  pub commands : map done_by steps ≡ program lines
+-- the history has the commands of the script, each once and in order, but for those that are still to come;
+-- they are answered so, and each step has the line that it prints
+pub record Follows (lines : List Line) (to_come : List Order) (steps : List Step) : Type 0 where
+  pub commands : map done_by steps ++ to_come ≡ program lines
   pub answers : AreAnswersOf lines (map act_of steps)
   pub printed : map (λ s. s.printed) steps ≡ map step_text steps

@@ -1,5 +1,5 @@
 -- What a run prints: a line for each field shown, each identity test and each refused command.
-use Rattle.std.specs.Prelude.{◌≡◌, ℕ, Bool, true, false, List, [], ◌∷◌, ◌++◌, Option, Some, None}
+use Rattle.std.specs.Prelude.{ℕ, Bool, true, false, List, [], Option, Some, None}
 use Rattle.std.specs.List.{flat_map, list_any}
 use Rattle.bmx_types.specs.declared.commands.Command.{Command}
 use Rattle.bmx_types.specs.declared.commands.Command.TheVariants as command
@@ -10,19 +10,13 @@ use Rattle.bmx_script.specs.declared.printing.Shown.TheVariants as shown
 use Rattle.bmx_script.specs.Printing.{line_text}
 use Rattle.bmx_cli.specs.declared.runs.Step.{Step}
 
--- what is printed of a value that a command was answered: a field that is shown
-abbrev pub shown_value : Command → Answer → Option Shown
-shown_value (command.Show on index) (answer.Value v) = Some (shown.Value v)
-shown_value c a = None
-
--- what is printed of a command and its answer
+-- what is printed of a command and its answer: a field that is shown, an identity test, a refusal
 abbrev pub shown_of : Command → Answer → Option Shown
-shown_of c answer.Nil = None
-shown_of c answer.Wait = None
-shown_of c (answer.Value v) = shown_value c (answer.Value v)
 shown_of c answer.Yes = Some shown.Yes
 shown_of c answer.No = Some shown.No
 shown_of c (answer.Refused why) = Some (shown.Refused why)
+shown_of (command.Show on index) (answer.Value v) = Some (shown.Value v)
+shown_of c a = None
 
 -- its line, or nothing
 abbrev pub line_if : ℕ → ℕ → Option Shown → List ℕ
@@ -42,11 +36,7 @@ text_of steps = flat_map step_text steps
 
 abbrev pub is_refusal : Answer → Bool
 is_refusal (answer.Refused why) = true
-is_refusal answer.Nil = false
-is_refusal (answer.Value v) = false
-is_refusal answer.Yes = false
-is_refusal answer.No = false
-is_refusal answer.Wait = false
+is_refusal a = false
 
 -- a history has a refused command
 abbrev pub has_refusal : List Step → Bool

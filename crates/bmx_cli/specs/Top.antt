@@ -1,95 +1,78 @@
 -- What the program answers, and why.
-use Rattle.std.specs.Prelude.{◌≡◌, ℕ, ◌+◌, ◌^◌, ◌==◌, Bool, true, false, List, [], Option, Some, None, Result, Ok, Err, length, take, drop, IfSome}
-use Rattle.std.specs.Option.{option_map_or}
-use Rattle.std.specs.List.{position_from}
+use Rattle.std.specs.Prelude.{◌≡◌, ℕ, ◌+◌, ◌^◌, true, false, List, [], Option, Some, None, Result, Ok, Err, take, drop, IfSome}
 use Rattle.std.specs.Io.KnownBytes.{Appends}
+use Rattle.bmx_outside.specs.Faults.{Rose}
 use Rattle.bmx_outside.specs.Streams.{AppendsPart}
-use Rattle.bmx_outside.specs.declared.sinks.SinkError.{SinkError}
-use Rattle.bmx_outside.specs.declared.sinks.SinkError.TheVariants as fault
+use Rattle.bmx_local.specs.Locals.{MeansGraph}
+use Rattle.bmx_script.specs.declared.lines.Bad.{Bad}
+use Rattle.bmx_script.specs.declared.lines.Line.{Line}
 use Rattle.bmx_script.specs.Grammar.{IsReading}
 use Rattle.bmx_cli.specs.declared.runs.Run.{Run}
-use Rattle.bmx_cli.specs.declared.runs.RunEnd.{RunEnd}
-use Rattle.bmx_cli.specs.declared.runs.RunEnd.TheVariants as end
 use Rattle.bmx_cli.specs.declared.statuses.Status.{Status}
 use Rattle.bmx_cli.specs.declared.statuses.Status.TheVariants as status
 use Rattle.bmx_cli.specs.Texts.{text_of, has_refusal}
-use Rattle.bmx_local.specs.Locals.{MeansGraph}
-use Rattle.bmx_cli.specs.Runs.{Follows, Runs, graph_after}
+use Rattle.bmx_cli.specs.Runs.{Order, Follows, graph_after}
 use Rattle.bmx_cli.specs.Words.{misfit_in}
+
+-- a source or a sink before a call and behind it: the bytes that it had left, or that were written to it,
+-- where it tells them, and how many faults it had had
+pub record Device : Type 0 where
+  pub before : Option (List ℕ)
+  pub behind : Option (List ℕ)
+  pub faults_before : ℕ
+  pub faults_behind : ℕ
+
+-- a call of the program: the words of its command line, its source and its sink
+pub record Call : Type 0 where
+  pub words : List (List ℕ)
+  pub source : Device
+  pub sink : Device
+
+-- its count of faults rose in the call
+abbrev pub HadFault : Device → Type 0
+HadFault d = Rose d.faults_before d.faults_behind
+
+-- these bytes were written in the call
+abbrev pub Wrote : Device → List ℕ → Type 0
+Wrote sink text = Appends sink.before sink.behind text
+
+-- a part of these bytes was, from their front, or all of them
+abbrev pub WroteFront : Device → List ℕ → Type 0
+WroteFront sink text = (n : ℕ) × Wrote sink (take n text)
+
+-- a part of them was, but not all
+abbrev pub WrotePart : Device → List ℕ → Type 0
+WrotePart sink text = AppendsPart sink.before sink.behind text
 
 -- how many bytes of a script are read at most: one more than a script may have
 abbrev pub read_limit : ℕ
 read_limit = 2 ^ 20 + 1
 
--- the bytes are the first that the source had left, where it tells
-abbrev pub IsFirstOf : Option (List ℕ) → List ℕ → Type 0
-IsFirstOf left bytes = IfSome left (λ all. bytes ≡ take read_limit all)
+-- these are the bytes that the source had left, and it was read to their end, or so far, where it tells
+abbrev pub HasRead : Device → List ℕ → Type 0
+HasRead source bytes = IfSome source.before (λ all. (bytes ≡ all) × (source.behind ≡ Some (drop read_limit all)))
 
--- the source was read to its end, or to that many bytes, where it tells
-abbrev pub IsRead : Option (List ℕ) → Option (List ℕ) → Type 0
-IsRead left left_now = IfSome left (λ all. left_now ≡ Some (drop read_limit all))
+-- the words are right, and the source's bytes are read as this: a script, or no script with its first bad line
+abbrev pub Gave : Call → Result (List Line) Bad → Type 0
+Gave c script = (misfit_in c.words ≡ None) × ((bytes : List ℕ) × HasRead c.source bytes × IsReading bytes script)
 
--- the words are right, and a run was made of the script that the bytes spell, as far as it went: its
--- history has the first commands of the script, answered as the graph does or refused as full, its nodes
--- mean the graph after that history, and its text is what that history prints
-pub record IsPart (words : List (List ℕ)) (bytes : List ℕ) (run : Run) : Type 0 where
-  pub usage : misfit_in words ≡ None
-  pub script : IsReading bytes (Ok run.script)
-  pub history : Follows run.script run.history
+-- a run was made of the script that the source gave, as far as it went: its history has the script's
+-- commands, each once and in order, but for those that are still to come, answered as the graph does or
+-- refused as full; its nodes mean the graph after that history, and its text is what that history prints
+pub record IsRun (c : Call) (to_come : List Order) (run : Run) : Type 0 where
+  pub script : Gave c (Ok run.script)
+  pub history : Follows run.script to_come run.history
   pub nodes : MeansGraph run.nodes (graph_after run.script run.history)
   pub text : run.text ≡ text_of run.history
 
--- the same of the whole script
-pub record IsWhole (words : List (List ℕ)) (bytes : List ℕ) (run : Run) : Type 0 where
-  pub usage : misfit_in words ≡ None
-  pub script : IsReading bytes (Ok run.script)
-  pub history : Runs run.script run.history
-  pub nodes : MeansGraph run.nodes (graph_after run.script run.history)
-  pub text : run.text ≡ text_of run.history
-
--- how long the first line of a text is, with its line feed (the byte 10)
-abbrev pub line_length : List ℕ → ℕ
-line_length text = option_map_or (λ at. at + 1) (position_from (λ c. c == 10) 0 text) (length text)
-
--- how the program ends: by how the run ended, how its text was written, and whether a command was refused
-abbrev pub status_after : RunEnd → Result (Unit {0}) SinkError → Bool → Status
-status_after end.NoMemory wrote refused = status.NoMemory
-status_after end.Ended (Ok done) true = status.SomeRefused
-status_after end.Ended (Ok done) false = status.Done
-status_after end.Ended (Err fault.Failed) refused = status.WriteFault
-status_after end.Ended (Err fault.NoMemory) refused = status.NoMemory
-
--- a part of the text was written, from its front, or all of it
-abbrev pub WritesFront : Option (List ℕ) → Option (List ℕ) → List ℕ → Type 0
-WritesFront before behind text = (n : ℕ) × Appends before behind (take n text)
-
--- why a call answers so, given its words, the bytes that it read, whether it read all, whether the counts
--- of faults of its source and its sink rose, and what had been written before the call and behind it. Each
--- answer stands with a run or without one; a pair that isn't listed never comes
-abbrev pub Explains : List (List ℕ) → List ℕ → Type 0 → Type 0 → Type 0 → Option (List ℕ) → Option (List ℕ) → Status → Option Run → Type 0
-Explains words bytes read source_rose sink_rose before behind (status.Usage word) None =
-    (misfit_in words ≡ Some word) × Appends before behind []
-Explains words bytes read source_rose sink_rose before behind status.ReadFault None =
-    (misfit_in words ≡ None) × source_rose × Appends before behind []
-Explains words bytes read source_rose sink_rose before behind (status.BadScript bad) None =
-    (misfit_in words ≡ None) × read × IsReading bytes (Err bad) × Appends before behind []
-Explains words bytes read source_rose sink_rose before behind status.NoMemory None =
-    (misfit_in words ≡ None) × Appends before behind []
-Explains words bytes read source_rose sink_rose before behind status.NoMemory (Some run) =
-    read × IsPart words bytes run × WritesFront before behind run.text
-Explains words bytes read source_rose sink_rose before behind status.Done (Some run) =
-    read × IsWhole words bytes run × (has_refusal run.history ≡ false) × Appends before behind run.text
-Explains words bytes read source_rose sink_rose before behind status.SomeRefused (Some run) =
-    read × IsWhole words bytes run × (has_refusal run.history ≡ true) × Appends before behind run.text
-Explains words bytes read source_rose sink_rose before behind status.WriteFault (Some run) =
-    read × IsWhole words bytes run × sink_rose × AppendsPart before behind run.text
-Explains words bytes read source_rose sink_rose before behind s run = ⊥
-
--- the same of the end of a run that was made, whose text is written
-abbrev pub Ends : Run → RunEnd → Type 0 → Option (List ℕ) → Option (List ℕ) → Status → Type 0
-Ends run end.Ended rose before behind status.Done = (has_refusal run.history ≡ false) × Appends before behind run.text
-Ends run end.Ended rose before behind status.SomeRefused = (has_refusal run.history ≡ true) × Appends before behind run.text
-Ends run end.Ended rose before behind status.WriteFault = rose × AppendsPart before behind run.text
-Ends run end.Ended rose before behind status.NoMemory = WritesFront before behind run.text
-Ends run end.NoMemory rose before behind status.NoMemory = WritesFront before behind run.text
-Ends run e rose before behind s = ⊥
+-- why a call answers so. Each answer stands with a run or without one; a pair that isn't listed never comes
+abbrev pub Explains : Call → Status → Option Run → Type 0
+Explains c (status.Usage word) None = (misfit_in c.words ≡ Some word) × Wrote c.sink []
+Explains c status.ReadFault None = (misfit_in c.words ≡ None) × HadFault c.source × Wrote c.sink []
+Explains c (status.BadScript bad) None = Gave c (Err bad) × Wrote c.sink []
+Explains c status.NoMemory None = (misfit_in c.words ≡ None) × Wrote c.sink []
+Explains c status.NoMemory (Some run) = ((to_come : List Order) × IsRun c to_come run) × WroteFront c.sink run.text
+Explains c status.Done (Some run) = IsRun c [] run × (has_refusal run.history ≡ false) × Wrote c.sink run.text
+Explains c status.SomeRefused (Some run) = IsRun c [] run × (has_refusal run.history ≡ true) × Wrote c.sink run.text
+Explains c status.WriteFault (Some run) = IsRun c [] run × HadFault c.sink × WrotePart c.sink run.text
+Explains c s run = ⊥

@@ -9,24 +9,17 @@ mod top;
 mod words;
 
 use bmx_outside::{StdSink, StdSource};
-use std::process::ExitCode;
-use std::{env, io};
+use statuses::Status;
 use top::bmx;
+use words::given_words;
 
-/// Runs the script on standard input and writes what it shows to standard output; the line of the status
-/// goes to standard error, its code is the exit code.
-fn main(rt: HostRuntime) -> io::Result<ExitCode> {
-    let mut words = Vec::new(rt.alloc());
-    for word in env::args(&rt)?.skip(1) {
-        words.push(word)?;
-    }
+/// Runs the script on standard input and writes what it shows to standard output. The status that is
+/// returned tells its line on standard error, and gives the exit code.
+fn main(rt: HostRuntime) -> Status {
+    let Ok(words) = given_words(&rt) else {
+        return Status::NoMemory;
+    };
     let mut source = StdSource::new(rt.stdin());
     let mut sink = StdSink::new(rt.stdout());
-    let outcome = bmx(rt.alloc(), words.as_slice(), &mut source, &mut sink);
-    if let Ok(line) = outcome.status.line(rt.alloc()) {
-        if line.len() > 0 {
-            eprintln!(rt; "{line}")?;
-        }
-    }
-    Ok(ExitCode::from(outcome.status.code()))
+    bmx(rt.alloc(), words.as_slice(), &mut source, &mut sink).status
 }

@@ -3,7 +3,7 @@ ghost use Rattle.bmx_script.specs.Grammar.{AreScript};
 ghost use Rattle.bmx_local.specs.Locals.{MeansGraph};
 ghost use Rattle.bmx_cli.specs.Runs.{graph_after};
 ghost use Rattle.bmx_cli.specs.Texts.{shown_of, has_refusal as has_refusal_lem, is_refusal as is_refusal_lem};
-ghost use Rattle.bmx_cli.specs.Progress.{IsAt, IsEnd, FitsLine, FitsOrder, IsReady, Goes, Acts, Answers, SameNode, SameSteps, IsStopped};
+ghost use Rattle.bmx_cli.specs.Inside.Progress.{IsAt, IsEnd, FitsLine, FitsOrder, IsReady, Goes, Acts, Answers, SameNode, SameSteps, IsStopped};
 
 use bmx_graph::Answer;
 use bmx_local::{Local, Solo};

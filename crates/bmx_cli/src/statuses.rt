@@ -1,10 +1,12 @@
-ghost use Rattle.std.specs.Prelude.{◌≡◌, ◌++◌, string_bytes, IfOk, OnOk};
+ghost use Rattle.std.specs.Prelude.{◌≡◌, Some, IfOk};
+ghost use Rattle.std.specs.Process.{exit_status};
 ghost use Rattle.bmx_cli.specs.Statuses.{code_of, line_of, cause_word as cause_word_lem};
 
-use bmx_numerals::push_number;
 use bmx_script::{Bad, BadCause};
 use bmx_types::{NoMemory, Text};
-use std::alloc::{AllocError, Global};
+use std::alloc::Global;
+use std::fmt;
+use std::process::{ExitCode, Termination};
 
 /// How the program ended.
 #[derive(Clone, Copy, Debug, PartialEq, Eq)]
@@ -45,30 +47,43 @@ impl Status {
     pub fn line(&self, alloc: Global) -> Result<Text, NoMemory>
         ensures { IfOk result (λ text. text ≡ line_of self.now) }
     {
-        let mut text = String::new(alloc);
-        self.push_to(&mut text)?;
-        Ok(Text::from_string(text))
+        Ok(Text::from_string(self.to_string(alloc)?))
     }
+}
 
-    fn push_to(&self, text: &mut String) -> Result<(), AllocError>
-        ensures { OnOk result (string_bytes text.new ≡ string_bytes text.old ++ line_of self.now) }
+/// The line on standard error, without its line feed.
+impl fmt::Display for Status {
+    ghost output = { λ status. Some (line_of status) };
+
+    fn fmt<W: fmt::Write>(&self, f: &mut fmt::Formatter<W>) -> fmt::Result {
+        match *self {
+            Status::Done | Status::SomeRefused => Ok(()),
+            Status::NoMemory => write!(f, "bmx: no memory"),
+            Status::Usage(word) => write!(f, "bmx: usage at word {word}"),
+            Status::BadScript(bad) => {
+                let line = u64::from(bad.line);
+                let cause = cause_word(bad.cause);
+                write!(f, "bmx: line {line}: {cause}")
+            }
+            Status::ReadFault => write!(f, "bmx: read failed"),
+            Status::WriteFault => write!(f, "bmx: write failed"),
+        }
+    }
+}
+
+/// The end of the program: its line goes to standard error, where there is one, and its code is the exit
+/// code, whatever becomes of that line. It takes no memory.
+impl Termination for Status {
+    fn report<R: Eprint>(self, rt: &R) -> ExitCode
+        ensures { exit_status result ≡ code_of self }
     {
         match self {
-            Status::Done | Status::SomeRefused => Ok(()),
-            Status::NoMemory => text.push_str("bmx: no memory"),
-            Status::Usage(word) => {
-                text.push_str("bmx: usage at word ")?;
-                push_number(text, *word)
+            Status::Done | Status::SomeRefused => {}
+            _ => {
+                let _ = rt.eprintln(self);
             }
-            Status::BadScript(bad) => {
-                text.push_str("bmx: line ")?;
-                push_number(text, u64::from(bad.line))?;
-                text.push_str(": ")?;
-                text.push_str(cause_word(bad.cause))
-            }
-            Status::ReadFault => text.push_str("bmx: read failed"),
-            Status::WriteFault => text.push_str("bmx: write failed"),
         }
+        ExitCode::from(self.code())
     }
 }
 

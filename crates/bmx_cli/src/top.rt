@@ -1,11 +1,12 @@
-ghost use Rattle.std.specs.Prelude.{◌≡◌, ◌≤◌, ◌<◌, map, string_bytes, length, OnOk, OnErr, IsErrOf, None, Some, ◌==◌, IfSome};
-ghost use Rattle.std.specs.List.{position_from};
+ghost use Rattle.std.specs.Prelude.{◌≡◌, ◌≤◌, map, string_bytes, OnOk, OnErr, IsErrOf, IsSome, None, Some};
 ghost use Rattle.std.specs.Io.KnownBytes.{Appends};
 ghost use Rattle.bmx_outside.specs.Faults.{Rose};
 ghost use Rattle.bmx_outside.specs.Streams.{AppendsPart};
-ghost use Rattle.bmx_cli.specs.Top.{Explains, IsFirstOf, IsRead, Ends, status_after as status_after_lem, line_length as line_length_lem};
+ghost use Rattle.bmx_cli.specs.Words.{misfit_in};
+ghost use Rattle.bmx_cli.specs.Top.{Explains};
+ghost use Rattle.bmx_cli.specs.Inside.Writing.{Ends, printed_by, status_after as status_after_lem};
 
-use crate::runs::{Run, RunEnd, has_refusal, run_script};
+use crate::runs::{Run, RunEnd, Step, has_refusal, run_script};
 use crate::statuses::Status;
 use crate::words::misfit;
 use bmx_outside::{ReadError, Sink, SinkError, Source, read_to_limit, write_all};
@@ -30,9 +31,13 @@ pub fn bmx<S: Source, K: Sink>(
     source: &mut S,
     sink: &mut K,
 ) -> Outcome
-    ensures { (bytes : _) × IsFirstOf (S.left source.old) bytes
-        × Explains (map string_bytes words.now) bytes (IsRead (S.left source.old) (S.left source.new)) (Rose (S.faults source.old) (S.faults source.new)) (Rose (K.faults sink.old) (K.faults sink.new))
-        (K.out sink.old) (K.out sink.new) result.status result.run }
+    ensures explained { Explains (record {
+      words = map string_bytes words.now;
+      source = record { before = S.left source.old; behind = S.left source.new; faults_before = S.faults source.old; faults_behind = S.faults source.new };
+      sink = record { before = K.out sink.old; behind = K.out sink.new; faults_before = K.faults sink.old; faults_behind = K.faults sink.new };
+    }) result.status result.run }
+    // Nothing is read, and nothing is written.
+    ensures wrong_words { IsSome (misfit_in (map string_bytes words.now)) → (source.new ≡ source.old) × (sink.new ≡ sink.old) }
 {
     if let Some(word) = misfit(words) {
         return refused(Status::Usage(word));
@@ -62,10 +67,11 @@ fn refused(status: Status) -> Outcome
 
 /// Writes the text of a run, and tells how the program ends.
 fn written<K: Sink>(sink: &mut K, run: Run, end: RunEnd) -> Outcome
+    requires { run.text ≡ printed_by run.history }
     ensures run { result.run ≡ Some run }
-    ensures status { Ends run end (Rose (K.faults sink.old) (K.faults sink.new)) (K.out sink.old) (K.out sink.new) result.status }
+    ensures status { Ends run end (record { before = K.out sink.old; behind = K.out sink.new; faults_before = K.faults sink.old; faults_behind = K.faults sink.new }) result.status }
 {
-    let wrote = write_lines(sink, run.text.as_bytes());
+    let wrote = write_lines(sink, run.history.as_slice());
     let status = status_after(end, wrote, has_refusal(&run.history));
     Outcome {
         status,
@@ -92,38 +98,28 @@ fn status_after(end: RunEnd, wrote: Result<(), SinkError>, refused: bool) -> Sta
     }
 }
 
-/// Writes a text line by line, each write offering what is left of the line.
-fn write_lines<K: Sink>(sink: &mut K, text: &[u8]) -> Result<(), SinkError>
-    ensures ok { OnOk result (Appends (K.out sink.old) (K.out sink.new) text.now) }
-    ensures err { OnErr result (AppendsPart (K.out sink.old) (K.out sink.new) text.now) }
+/// Writes what steps print, line by line, each write offering what is left of the line.
+fn write_lines<K: Sink>(sink: &mut K, steps: &[Step]) -> Result<(), SinkError>
+    ensures ok { OnOk result (Appends (K.out sink.old) (K.out sink.new) (printed_by steps.now)) }
+    ensures err { OnErr result (AppendsPart (K.out sink.old) (K.out sink.new) (printed_by steps.now)) }
     ensures failed { IsErrOf result SinkError.Failed → Rose (K.faults sink.old) (K.faults sink.new) }
     ensures faults { K.faults sink.old ≤ K.faults sink.new }
 {
-    let mut at = 0;
-    while at < text.len() {
-        let end = at + line_length(&text[at..]);
-        write_all(sink, &text[at..end])?;
-        at = end;
+    for step in steps {
+        write_line(sink, step.printed.as_bytes())?;
     }
     Ok(())
 }
 
-/// How long the first line of a text is, with its line feed.
-fn line_length(text: &[u8]) -> usize
-    requires { 0 < length text.now }
-    ensures value { result ≡ line_length_lem text.now }
-    ensures range { (0 < result) × (result ≤ length text.now) }
+/// Writes a line, or nothing where a step prints none.
+fn write_line<K: Sink>(sink: &mut K, line: &[u8]) -> Result<(), SinkError>
+    ensures ok { OnOk result (Appends (K.out sink.old) (K.out sink.new) line.now) }
+    ensures err { OnErr result (AppendsPart (K.out sink.old) (K.out sink.new) line.now) }
+    ensures failed { IsErrOf result SinkError.Failed → Rose (K.faults sink.old) (K.faults sink.new) }
+    ensures faults { K.faults sink.old ≤ K.faults sink.new }
 {
-    match line_feed_in(text) {
-        Some(at) => at + 1,
-        None => text.len(),
+    if line.len() == 0 {
+        return Ok(());
     }
-}
-
-/// Where the first line feed of a text stands.
-fn line_feed_in(text: &[u8]) -> Option<usize>
-    ensures found { result ≡ position_from (λ c. c == 10) 0 text.now }
-    ensures within { IfSome result (λ at. at < length text.now) }
-{
-    text.iter().position(|b| *b == b'\n')
+    write_all(sink, line)
 }

@@ -4,24 +4,35 @@ use Rattle.std.specs.Int.Digits.{digits_of}
 use Rattle.std.specs.List.{list_all}
 use Rattle.std.specs.Str.Parse.{digits_value}
 
--- a number in decimal digits, with no zero in front: 48 is the byte of `0`
-abbrev pub numeral : ℕ → List ℕ
-numeral n = if n == 0 then 48 ∷ [] else map (λ d. 48 + d) (digits_of 10 n)
+-- the bytes of digits, from that of `0` to that of `9`
+abbrev pub digit_0 : ℕ
+digit_0 = 48
 
--- an integer, with `-` (the byte 45) before a negative one
+abbrev pub digit_9 : ℕ
+digit_9 = 57
+
+-- the byte of `-`
+abbrev pub minus : ℕ
+minus = 45
+
+-- a number in decimal digits, with no zero in front
+abbrev pub numeral : ℕ → List ℕ
+numeral n = if n == 0 then digit_0 ∷ [] else map (λ d. digit_0 + d) (digits_of 10 n)
+
+-- an integer, with `-` before a negative one
 abbrev pub signed_numeral : ℤ → List ℕ
 signed_numeral (pos n) = numeral n
-signed_numeral (negsuc n) = 45 ∷ numeral (n + 1)
+signed_numeral (negsuc n) = minus ∷ numeral (n + 1)
 
 -- the byte of a decimal digit
 abbrev pub is_digit : ℕ → Bool
-is_digit c = nat_le 48 c && nat_le c 57
+is_digit c = nat_le digit_0 c && nat_le c digit_9
 
 -- one digit, or digits of which the first is not `0`
 abbrev pub is_numeral : List ℕ → Bool
 is_numeral [] = false
 is_numeral (c ∷ []) = is_digit c
-is_numeral (c ∷ (d ∷ ds)) = not (c == 48) && list_all is_digit (c ∷ (d ∷ ds))
+is_numeral (c ∷ (d ∷ ds)) = not (c == digit_0) && list_all is_digit (c ∷ (d ∷ ds))
 
 -- the number that a word spells, if it spells one
 abbrev pub number_in : List ℕ → Option ℕ
@@ -39,7 +50,7 @@ negative_in (Some n) = negative_of n
 -- the integer that a word spells, if it spells one: `-` and a number, or a number
 abbrev pub integer_in : List ℕ → Option ℤ
 integer_in [] = None
-integer_in (c ∷ cs) = if c == 45 then negative_in (number_in cs) else option_map pos (number_in (c ∷ cs))
+integer_in (c ∷ cs) = if c == minus then negative_in (number_in cs) else option_map pos (number_in (c ∷ cs))
 
 zero_is_one_digit : numeral 0 ≡ codes "0"
 zero_is_one_digit = refl

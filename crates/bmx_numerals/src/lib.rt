@@ -2,60 +2,62 @@
 //! negative integer has `-` in front, which `0` never has. No other word is read as a number.
 #![tactic(auto)]
 
-mod fields;
 mod printing;
 mod reading;
+mod words;
 
-pub use fields::Field;
-pub use printing::{push_integer, push_number};
-pub use reading::{integer, number, number_below, number_within, read_number};
+pub use printing::{push_integer, push_number, write_integer, write_number};
+pub use reading::{integer, number, number_below, number_within};
+pub use words::{Misfit, both};
 
 #[cfg(test)]
 mod tests {
     use crate::{
-        Field, integer, number, number_below, number_within, push_integer, push_number, read_number,
+        Misfit, both, integer, number, number_below, number_within, push_integer, push_number,
+        write_integer, write_number,
     };
     use std::test::Fail;
 
     #[test]
     fn words_that_are_numbers(rt: HostRuntime) {
         for (word, value) in [
-            ("0", Some(0)),
-            ("7", Some(7)),
-            ("42", Some(42)),
-            ("18446744073709551615", Some(18446744073709551615)),
-            ("18446744073709551616", Some(18446744073709551615)),
-            ("", None),
-            ("00", None),
-            ("01", None),
-            (" 1", None),
-            ("1 ", None),
-            ("+1", None),
-            ("-1", None),
-            ("1a", None),
+            ("0", Ok(0)),
+            ("7", Ok(7)),
+            ("42", Ok(42)),
+            ("18446744073709551615", Ok(18446744073709551615)),
+            ("18446744073709551616", Err(Misfit::Range)),
+            ("18446744073709551616x", Err(Misfit::Form)),
+            ("", Err(Misfit::Form)),
+            ("00", Err(Misfit::Form)),
+            ("01", Err(Misfit::Form)),
+            (" 1", Err(Misfit::Form)),
+            ("1 ", Err(Misfit::Form)),
+            ("+1", Err(Misfit::Form)),
+            ("-1", Err(Misfit::Form)),
+            ("1a", Err(Misfit::Form)),
         ] {
-            assert_eq!(rt; read_number(word.as_bytes()), value, "{word}");
+            assert_eq!(rt; number(word.as_bytes()), value, "{word}");
         }
     }
 
     #[test]
     fn words_that_are_integers(rt: HostRuntime) {
         for (word, value) in [
-            ("0", Field::Good(0)),
-            ("7", Field::Good(7)),
-            ("-1", Field::Good(-1)),
-            ("-42", Field::Good(-42)),
-            ("9223372036854775807", Field::Good(9223372036854775807)),
-            ("9223372036854775808", Field::Range),
-            ("-9223372036854775808", Field::Good(-9223372036854775808)),
-            ("-9223372036854775809", Field::Range),
-            ("-18446744073709551616", Field::Range),
-            ("", Field::Form),
-            ("-", Field::Form),
-            ("-0", Field::Form),
-            ("-01", Field::Form),
-            ("--1", Field::Form),
-            ("+1", Field::Form),
+            ("0", Ok(0)),
+            ("7", Ok(7)),
+            ("-1", Ok(-1)),
+            ("-42", Ok(-42)),
+            ("9223372036854775807", Ok(9223372036854775807)),
+            ("9223372036854775808", Err(Misfit::Range)),
+            ("-9223372036854775808", Ok(-9223372036854775808)),
+            ("-9223372036854775809", Err(Misfit::Range)),
+            ("-18446744073709551616", Err(Misfit::Range)),
+            ("", Err(Misfit::Form)),
+            ("-", Err(Misfit::Form)),
+            ("-0", Err(Misfit::Form)),
+            ("-01", Err(Misfit::Form)),
+            ("--1", Err(Misfit::Form)),
+            ("+1", Err(Misfit::Form)),
         ] {
             assert_eq!(rt; integer(word.as_bytes()), value, "{word}");
         }
@@ -63,21 +65,33 @@ mod tests {
 
     #[test]
     fn values_out_of_their_range(rt: HostRuntime) {
+        assert_eq!(rt; number_below(b"7", 8), Ok(7));
+        assert_eq!(rt; number_below(b"8", 8), Err(Misfit::Range));
+        assert_eq!(rt; number_below(b"08", 8), Err(Misfit::Form));
+        assert_eq!(rt; number_within(b"0", 1, 8), Err(Misfit::Range));
+        assert_eq!(rt; number_within(b"1", 1, 8), Ok(1));
+        assert_eq!(rt; number_within(b"8", 1, 8), Ok(8));
+        assert_eq!(rt; number_within(b"9", 1, 8), Err(Misfit::Range));
+        assert_eq!(rt; both(number(b"1"), integer(b"-2")), Ok((1, -2)));
         assert_eq!(rt;
-            number(b"18446744073709551615"),
-            Field::Good(18446744073709551615)
+            both(number_below(b"9", 8), integer(b"-0")),
+            Err(Misfit::Form)
         );
-        assert_eq!(rt; number(b"18446744073709551616"), Field::Range);
-        assert_eq!(rt; number_below(b"7", 8), Field::Good(7));
-        assert_eq!(rt; number_below(b"8", 8), Field::Range);
-        assert_eq!(rt; number_below(b"08", 8), Field::Form);
-        assert_eq!(rt; number_within(b"0", 1, 8), Field::Range);
-        assert_eq!(rt; number_within(b"1", 1, 8), Field::Good(1));
-        assert_eq!(rt; number_within(b"8", 1, 8), Field::Good(8));
-        assert_eq!(rt; number_within(b"9", 1, 8), Field::Range);
-        assert_eq!(rt; number(b"1").and(integer(b"-2")), Field::Good((1, -2)));
-        assert_eq!(rt; number_below(b"9", 8).and(integer(b"-0")), Field::Form);
-        assert_eq!(rt; number_below(b"9", 8).and(integer(b"0")), Field::Range);
+        assert_eq!(rt;
+            both(number_below(b"9", 8), integer(b"0")),
+            Err(Misfit::Range)
+        );
+    }
+
+    #[test]
+    fn numbers_in_place(rt: HostRuntime) {
+        let mut bytes = [b'.'; 24];
+        let start = write_number(18446744073709551615, &mut bytes, 23);
+        assert_eq!(rt; start, 3);
+        assert_eq!(rt; bytes.as_slice(), b"...18446744073709551615.".as_slice());
+        let start = write_integer(-7, &mut bytes, 22);
+        assert_eq!(rt; start, 20);
+        assert_eq!(rt; bytes.as_slice(), b"...18446744073709551-75.".as_slice());
     }
 
     #[test]

@@ -1,12 +1,14 @@
 //! Reading numbers from words.
-ghost use Rattle.std.specs.Prelude.{◌≡◌, ℕ, ◌+◌, ◌-◌, ◌*◌, ◌^◌, ◌<◌, min, option_map, IsTrue, SomeIff};
+ghost use Rattle.std.specs.Prelude.{◌≡◌, ℕ, ◌+◌, ◌*◌, ◌^◌, ◌<◌, true, IsTrue, SomeIff};
 ghost use Rattle.std.specs.Char.{digit_value};
-ghost use Rattle.bmx_numerals.specs.Numerals.{is_digit, is_numeral, number_in, negative_of};
-ghost use Rattle.bmx_numerals.specs.Fields.{is_i64, tested, field_below, field_within, field_integer};
+ghost use Rattle.bmx_types.specs.Integers.{is_i64};
+ghost use Rattle.bmx_numerals.specs.Numerals.{is_digit, is_numeral, negative_of};
+ghost use Rattle.bmx_numerals.specs.Words.{tested, read_below, read_within, read_integer};
 
-use crate::fields::Field;
+use crate::words::Misfit;
 
 // Whether a word is a number's spelling.
+#[inline]
 fn spells_a_number(word: &[u8]) -> bool
     ensures { result ≡ is_numeral word.now }
 {
@@ -18,6 +20,7 @@ fn spells_a_number(word: &[u8]) -> bool
 }
 
 // The number that has one more digit at its end.
+#[inline(always)]
 fn with_digit(number: u64, byte: u8) -> Option<u64>
     requires { IsTrue (is_digit byte) }
     ensures { SomeIff result (number * 10 + digit_value byte < 2 ^ 64) (number * 10 + digit_value byte) }
@@ -26,83 +29,80 @@ fn with_digit(number: u64, byte: u8) -> Option<u64>
 }
 
 /// What a word comes to as a number of 64 bits. Linear in the word's length.
-pub fn number(word: &[u8]) -> Field<u64>
-    ensures { result ≡ field_below (2 ^ 64) word.now }
+#[inline(always)]
+pub fn number(word: &[u8]) -> Result<u64, Misfit>
+    ensures { result ≡ read_below (2 ^ 64) word.now }
 {
-    if !spells_a_number(word) {
-        return Field::Form;
+    match word {
+        [digit] if digit.is_ascii_digit() => Ok(u64::from(*digit - b'0')),
+        _ if spells_a_number(word) => value_of(word),
+        _ => Err(Misfit::Form),
     }
+}
+
+// The number that a numeral spells.
+#[inline]
+fn value_of(word: &[u8]) -> Result<u64, Misfit>
+    requires { is_numeral word.now ≡ true }
+    ensures { result ≡ read_below (2 ^ 64) word.now }
+{
     let mut number = 0;
     for byte in word {
         let Some(longer) = with_digit(number, *byte) else {
-            return Field::Range;
+            return Err(Misfit::Range);
         };
         number = longer;
     }
-    Field::Good(number)
-}
-
-/// The number that a word spells, or the largest `u64` for a larger one; `None` where the word is no
-/// number's spelling. Linear in the word's length.
-pub fn read_number(word: &[u8]) -> Option<u64>
-    ensures { result ≡ option_map (λ n. min n (2 ^ 64 - 1)) (number_in word.now) }
-{
-    match number(word) {
-        Field::Form => None,
-        Field::Range => Some(u64::MAX),
-        Field::Good(number) => Some(number),
-    }
+    Ok(number)
 }
 
 /// What a word comes to as a number below `limit`. Linear in the word's length.
-pub fn number_below(word: &[u8], limit: u64) -> Field<u64>
-    ensures { result ≡ field_below limit word.now }
+#[inline(always)]
+pub fn number_below(word: &[u8], limit: u64) -> Result<u64, Misfit>
+    ensures { result ≡ read_below limit word.now }
 {
     match number(word) {
-        Field::Good(number) if number >= limit => Field::Range,
-        field => field,
+        Ok(number) if number >= limit => Err(Misfit::Range),
+        read => read,
     }
 }
 
 /// What a word comes to as a number from `low` to `high`, both of them included. Linear in the
 /// word's length.
-pub fn number_within(word: &[u8], low: u64, high: u64) -> Field<u64>
-    ensures { result ≡ field_within low high word.now }
+#[inline(always)]
+pub fn number_within(word: &[u8], low: u64, high: u64) -> Result<u64, Misfit>
+    ensures { result ≡ read_within low high word.now }
 {
     match number(word) {
-        Field::Good(number) if number < low || number > high => Field::Range,
-        field => field,
+        Ok(number) if number < low || number > high => Err(Misfit::Range),
+        read => read,
     }
 }
 
 // The negative of a number as an integer of 64 bits, which 0 does not have.
-fn negated(number: u64) -> Field<i64>
+fn negated(number: u64) -> Result<i64, Misfit>
     ensures { result ≡ tested is_i64 (negative_of number) }
 {
     if number == 0 {
-        Field::Form
+        Err(Misfit::Form)
     } else if number > i64::MAX as u64 + 1 {
-        Field::Range
+        Err(Misfit::Range)
     } else {
-        Field::Good(-((number - 1) as i64) - 1)
+        Ok(-((number - 1) as i64) - 1)
     }
 }
 
 /// What a word comes to as an integer of 64 bits, with a sign: `-` for a negative one, and nothing
 /// for another. Linear in the word's length.
-pub fn integer(word: &[u8]) -> Field<i64>
-    ensures { result ≡ field_integer word.now }
+#[inline(always)]
+pub fn integer(word: &[u8]) -> Result<i64, Misfit>
+    ensures { result ≡ read_integer word.now }
 {
     match word {
-        [b'-', digits @ ..] => match number(digits) {
-            Field::Form => Field::Form,
-            Field::Range => Field::Range,
-            Field::Good(number) => negated(number),
-        },
-        _ => match number(word) {
-            Field::Form => Field::Form,
-            Field::Good(number) if number <= i64::MAX as u64 => Field::Good(number as i64),
-            Field::Range | Field::Good(_) => Field::Range,
+        [b'-', digits @ ..] => negated(number(digits)?),
+        _ => match number(word)? {
+            number if number <= i64::MAX as u64 => Ok(number as i64),
+            _ => Err(Misfit::Range),
         },
     }
 }

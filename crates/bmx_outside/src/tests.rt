@@ -1,4 +1,4 @@
-ghost use Rattle.std.specs.Prelude.{◌≤◌, IfOk};
+ghost use Rattle.std.specs.Prelude.{◌≤◌, IfOk, None};
 
 use crate::{
     Calls, Failed, MemSink, MemSource, NoFaultSink, NoFaultSource, ReadError, Sink, SinkError,
@@ -63,10 +63,40 @@ fn reading_to_a_limit(rt: HostRuntime) -> Result<(), Fail> {
         assert_eq!(rt; bytes.as_slice(), read, "at limit {limit}");
         assert_eq!(rt; source.left(), left, "at limit {limit}");
     }
-    let mut source = MemSource::new(rt.alloc(), b"abcdef", 4, calls(rt.alloc(), &[2])?)?;
-    let failed = read_to_limit(rt.alloc(), &mut source, 100);
-    assert_eq!(rt; failed.err(), Some(ReadError::Failed));
-    assert_eq!(rt; (source.left(), source.faults()), (b"ef".as_slice(), 1));
+    Ok(())
+}
+
+#[test]
+fn a_source_failing_at_each_call_in_turn(rt: HostRuntime) -> Result<(), Fail> {
+    // three reads of at most two bytes and one at the end of the input: what is left by a fault at each
+    for (fault, left) in [
+        (1, b"abcdef".as_slice()),
+        (2, b"cdef"),
+        (3, b"ef"),
+        (4, b""),
+    ] {
+        let mut source = MemSource::new(rt.alloc(), b"abcdef", 2, calls(rt.alloc(), &[fault])?)?;
+        let failed = read_to_limit(rt.alloc(), &mut source, 100);
+        assert_eq!(rt; failed.err(), Some(ReadError::Failed), "at {fault}");
+        assert_eq!(rt; (source.left(), source.faults()), (left, 1), "at {fault}");
+        let rest = read_to_limit(rt.alloc(), &mut source, 100).expect(&rt, "memory");
+        assert_eq!(rt; rest.as_slice(), left, "after {fault}");
+    }
+    Ok(())
+}
+
+#[test]
+fn a_long_input(rt: HostRuntime) -> Result<(), Fail> {
+    // more than is asked for at once: each byte is read once and in order
+    let mut long = Vec::new(rt.alloc());
+    for place in 0..10_000u32 {
+        long.push((place % 251) as u8)?;
+    }
+    for limit in [4_096, 4_097, 9_999, 10_000, 20_000] {
+        let mut source = NoFaultSource::new(rt.alloc(), long.as_slice(), 20_000)?;
+        let bytes = read_to_limit(rt.alloc(), &mut source, limit).expect(&rt, "memory");
+        assert_eq!(rt; bytes.as_slice(), &long[..limit.min(long.len())]);
+    }
     Ok(())
 }
 
@@ -77,14 +107,55 @@ fn writing_all_of_a_text(rt: HostRuntime) -> Result<(), Fail> {
     assert_eq!(rt; write_all(&mut sink, b""), Ok(()));
     assert_eq!(rt; sink.out(), b"first line\n".as_slice());
 
-    let mut sink = MemSink::new(rt.alloc(), 4, calls(rt.alloc(), &[2])?)?;
-    assert_eq!(rt; write_all(&mut sink, b""), Ok(()));
-    assert_eq!(rt;
-        write_all(&mut sink, b"first line\n"),
-        Err(SinkError::Failed)
-    );
-    assert_eq!(rt; (sink.out(), sink.faults()), (b"firs".as_slice(), 1));
     Ok(())
+}
+
+#[test]
+fn a_sink_failing_at_each_call_in_turn(rt: HostRuntime) -> Result<(), Fail> {
+    // three writes of at most four bytes: what is out by a fault at each
+    for (fault, out) in [(1, b"".as_slice()), (2, b"firs"), (3, b"first li")] {
+        let mut sink = MemSink::new(rt.alloc(), 4, calls(rt.alloc(), &[fault])?)?;
+        assert_eq!(rt; write_all(&mut sink, b""), Ok(()));
+        assert_eq!(rt;
+            write_all(&mut sink, b"first line\n"),
+            Err(SinkError::Failed),
+            "at {fault}"
+        );
+        assert_eq!(rt; (sink.out(), sink.faults()), (out, 1), "at {fault}");
+    }
+    Ok(())
+}
+
+/// A sink that takes no byte at its second write, and one at each other.
+#[derive(Drop)]
+struct Stubborn {
+    writes: u64,
+    faults: u64,
+}
+
+impl Sink for Stubborn {
+    ghost out = { λ _. None };
+
+    ghost faults = { λ s. s.faults };
+
+    fn write(&mut self, _piece: &[u8]) -> Result<usize, SinkError> {
+        self.writes = self.writes.saturating_add(1);
+        if self.writes == 2 {
+            self.faults = self.faults.saturating_add(1);
+            return Ok(0);
+        }
+        Ok(1)
+    }
+}
+
+#[test]
+fn a_sink_that_takes_no_byte_has_failed(rt: HostRuntime) {
+    let mut sink = Stubborn {
+        writes: 0,
+        faults: 0,
+    };
+    assert_eq!(rt; write_all(&mut sink, b"abc"), Err(SinkError::Failed));
+    assert_eq!(rt; (sink.writes, sink.faults), (2, 1));
 }
 
 // It fails at every second call, and gives or takes one byte at the others, up to a third.

@@ -1,23 +1,23 @@
 -- What the reader computes of a line is what the grammar says of it.
-use Rattle.std.proofs.Common.{◌≡◌, ℕ, ◌<◌, ◌==◌, Bool, true, false, cond, not, ◌&&◌, ◌||◌, nat_lt, nat_le, List, [], ◌∷◌, length, Option, Some, None, is_none, refl, ap, sym, ◌∙◌, subst, arith}
+use Rattle.std.proofs.Common.{◌≡◌, ℕ, ◌<◌, ◌==◌, Bool, true, false, cond, not, ◌&&◌, ◌||◌, nat_lt, nat_le, List, [], ◌∷◌, length, Option, Some, None, is_none, refl, ap, sym, ◌∙◌, subst, arith, Result, Ok, Err}
 use Rattle.std.specs.Prelude.{codes}
 use Rattle.std.specs.List.{list_any, slice_split, join_with_byte}
 use Rattle.std.proofs.lemmas.List.Splits.{join_with_byte-slice_split}
 use Rattle.std.proofs.lemmas.Bool.{and_parts, leb-true, eq-eqb, eqb-true, or_parts, or_from, not-true, not_from_false}
 use Rattle.bmx_types.specs.declared.commands.Command.{Command}
 use Rattle.bmx_types.specs.declared.commands.Command.TheVariants as command
-use Rattle.bmx_numerals.specs.declared.fields.Field.{Field}
-use Rattle.bmx_numerals.specs.declared.fields.Field.TheVariants.{Form, Range, Good}
+use Rattle.bmx_numerals.specs.declared.words.Misfit.{Misfit}
+use Rattle.bmx_numerals.specs.declared.words.Misfit.TheVariants.{Form, Range}
 use Rattle.bmx_numerals.specs.Numerals.{numeral}
-use Rattle.bmx_numerals.specs.Fields.{field_below, field_within}
+use Rattle.bmx_numerals.specs.Words.{read_below, read_within}
 use Rattle.bmx_script.specs.declared.knowledge.Known.{Known}
 use Rattle.bmx_script.specs.declared.lines.LineKind.{LineKind}
 use Rattle.bmx_script.specs.declared.lines.LineKind.TheVariants as line
 use Rattle.bmx_script.specs.Spelling.{verb_word, operand_words, command_words, line_words, spelling}
 use Rattle.bmx_script.specs.Grammar.{is_within, may_follow, section_of, is_built, is_built_command, is_bunch_word, same_word, named_on, named_in, in_range, fits_command, IsSpelled, HasForm, IsGood}
-use Rattle.bmx_script.specs.Distinct.{AreDistinct}
-use Rattle.bmx_script.specs.Parsing.{field_map, command_field, node_line, first_limit, declared_bunch, setting_line, head_line, line_field, read_line}
-use Rattle.bmx_script.proofs.FieldLemmas.{is_form, split_if, if_true, if_false, form_and, form_map, and_form, map_form, good_and, good_map, and_good, map_good, form_below, below_form, below_good, good_below, form_within, within_form, within_good, good_within}
+use Rattle.bmx_script.specs.Inside.Distinct.{AreDistinct}
+use Rattle.bmx_script.specs.Inside.Parsing.{map_read, read_command, node_line, first_limit, declared_bunch, setting_line, head_line, line_of, read_line}
+use Rattle.bmx_script.proofs.ReadLemmas.{is_form, split_if, if_true, if_false, form_and, form_map, and_form, map_form, good_and, good_map, and_good, map_good, form_below, below_form, below_good, good_below, form_within, within_form, within_good, good_within}
 use Rattle.bmx_script.proofs.Words.{is_space, same_word-true}
 use Rattle.bmx_script.proofs.Plain.{are_words, plain_line}
 use Rattle.bmx_script.proofs.Operands.{both, choose_form, if_form, if_good}
@@ -38,17 +38,17 @@ some_operands ws (command.Get r on i) = omega arith
 some_operands ws (command.Show on i) = omega arith
 some_operands ws (command.Same l r) = omega arith
 
-node_words : (k : Known) (node verb : List ℕ) (operands : List (List ℕ)) → 0 < length operands → may_follow k.section 5 ≡ true → line_field k (node ∷ verb ∷ operands) ≡ node_line k node verb operands
+node_words : (k : Known) (node verb : List ℕ) (operands : List (List ℕ)) → 0 < length operands → may_follow k.section 5 ≡ true → line_of k (node ∷ verb ∷ operands) ≡ node_line k node verb operands
 node_words k node verb [] some stands = absurd (omega arith)
-node_words k node verb (a ∷ operands) some stands = if_true (may_follow k.section 5) (node_line k node verb (a ∷ operands)) Form (node_line k node verb (a ∷ operands)) stands refl
+node_words k node verb (a ∷ operands) some stands = if_true (may_follow k.section 5) (node_line k node verb (a ∷ operands)) (Err Form) (node_line k node verb (a ∷ operands)) stands refl
 
-form_do : (k : Known) (ws : List (List ℕ)) (node : ℕ) (c : Command) → may_follow k.section 5 ≡ true → is_built_command c ≡ true → are_words ws (named_in c) ≡ true → is_form (line_field k (numeral node ∷ command_words ws c)) ≡ false
+form_do : (k : Known) (ws : List (List ℕ)) (node : ℕ) (c : Command) → may_follow k.section 5 ≡ true → is_built_command c ≡ true → are_words ws (named_in c) ≡ true → is_form (line_of k (numeral node ∷ command_words ws c)) ≡ false
 form_do k ws node c stands built named =
     ap is_form (node_words k (numeral node) (verb_word c) (operand_words ws c) (some_operands ws c) stands)
     ∙ form_map _ _ (form_and _ _ (form_below k.nodes node) (form_command k ws c built named))
 
 good_do : (k : Known) (node : ℕ) (c : Command) → AreDistinct k.bunches → may_follow k.section 5 ≡ true → is_built_command c ≡ true → are_words k.bunches (named_in c) ≡ true
-    → (nat_lt node k.nodes && fits_command (length k.bunches) c) ≡ true → line_field k (numeral node ∷ command_words k.bunches c) ≡ Good (line.Do node c)
+    → (nat_lt node k.nodes && fits_command (length k.bunches) c) ≡ true → line_of k (numeral node ∷ command_words k.bunches c) ≡ Ok (line.Do node c)
 good_do k node c distinct stands built named fits =
     let parts : (nat_lt node k.nodes ≡ true) × (fits_command (length k.bunches) c ≡ true) = and_parts (nat_lt node k.nodes) (fits_command (length k.bunches) c) fits in
     node_words k (numeral node) (verb_word c) (operand_words k.bunches c) (some_operands k.bunches c) stands
@@ -61,18 +61,18 @@ no_form_limit (Some n) = refl
 form_declared : (k : Known) (w : List ℕ) → is_form (declared_bunch k w) ≡ false
 form_declared k w = either (list_any (same_word w) k.bunches || not (nat_lt (length k.bunches) 16))
   where
-    either : (b : Bool) → is_form (cond b Range (Good (line.Bunch w None))) ≡ false
+    either : (b : Bool) → is_form (cond b (Err Range) (Ok (line.Bunch w None))) ≡ false
     either true = refl
     either false = refl
 
 -- a test that holds
-is_form_if : (b : Bool) (f g : Field LineKind) → b ≡ true → is_form f ≡ false → is_form (cond b f g) ≡ false
+is_form_if : (b : Bool) (f g : Result LineKind Misfit) → b ≡ true → is_form f ≡ false → is_form (cond b f g) ≡ false
 is_form_if b f g h e = ap is_form (if_true b f g f h refl) ∙ e
 
-is_good_if : (b : Bool) (f g : Field LineKind) (x : LineKind) → b ≡ true → f ≡ Good x → cond b f g ≡ Good x
-is_good_if b f g x h e = if_true b f g (Good x) h e
+is_good_if : (b : Bool) (f g : Result LineKind Misfit) (x : LineKind) → b ≡ true → f ≡ Ok x → cond b f g ≡ Ok x
+is_good_if b f g x h e = if_true b f g (Ok x) h e
 
-form_line : (k : Known) (ws : List (List ℕ)) (what : LineKind) → may_follow k.section (section_of what) ≡ true → is_built what ≡ true → are_words ws (named_on what) ≡ true → is_form (line_field k (line_words ws what)) ≡ false
+form_line : (k : Known) (ws : List (List ℕ)) (what : LineKind) → may_follow k.section (section_of what) ≡ true → is_built what ≡ true → are_words ws (named_on what) ≡ true → is_form (line_of k (line_words ws what)) ≡ false
 form_line k ws line.Version stands built named = is_form_if (may_follow k.section 1) _ _ stands refl
 form_line k ws (line.Nodes count) stands built named = is_form_if (may_follow k.section 2) _ _ stands (form_map _ _ (form_within 1 1 count))
 form_line k ws (line.Bunch w None) stands built named = is_form_if (may_follow k.section 3 && is_bunch_word w) _ _ (both stands built) (form_declared k w)
@@ -91,7 +91,7 @@ form_line k ws line.Settle stands built named = cc
 one_within : (n : ℕ) → (n == 1) ≡ true → (nat_le 1 n && nat_le n 1) ≡ true
 one_within n h = rw (eqb-true n 1 h) refl
 
-good_limit : (o : Option ℕ) → is_none o ≡ true → first_limit o ≡ Good tt
+good_limit : (o : Option ℕ) → is_none o ≡ true → first_limit o ≡ Ok tt
 good_limit None h = refl
 good_limit (Some n) h = cc
 
@@ -100,7 +100,7 @@ not_true true h = refl
 not_true false h = cc
 
 good_line : (k : Known) (what : LineKind) → AreDistinct k.bunches → may_follow k.section (section_of what) ≡ true → is_built what ≡ true → are_words k.bunches (named_on what) ≡ true
-    → in_range k what ≡ true → line_field k (line_words k.bunches what) ≡ Good what
+    → in_range k what ≡ true → line_of k (line_words k.bunches what) ≡ Ok what
 good_line k line.Version distinct stands built named range = is_good_if (may_follow k.section 1) _ _ _ stands refl
 good_line k (line.Nodes count) distinct stands built named range = is_good_if (may_follow k.section 2) _ _ _ stands (good_map _ _ count (good_within 1 1 count (one_within count range)))
 good_line k (line.Bunch w None) distinct stands built named range =
@@ -108,7 +108,7 @@ good_line k (line.Bunch w None) distinct stands built named range =
     let free : (list_any (same_word w) k.bunches || not (nat_lt (length k.bunches) 16)) ≡ false =
     or_from (list_any (same_word w) k.bunches) (not (nat_lt (length k.bunches) 16)) (not-true (list_any (same_word w) k.bunches) parts.0) (not_true (nat_lt (length k.bunches) 16) parts.1) in
     is_good_if (may_follow k.section 3 && is_bunch_word w) _ _ _ (both stands built)
-    (if_false (list_any (same_word w) k.bunches || not (nat_lt (length k.bunches) 16)) Range (Good (line.Bunch w None)) (Good (line.Bunch w None)) free refl)
+    (if_false (list_any (same_word w) k.bunches || not (nat_lt (length k.bunches) 16)) (Err Range) (Ok (line.Bunch w None)) (Ok (line.Bunch w None)) free refl)
 good_line k (line.Bunch w (Some f)) distinct stands built named range = cc
 good_line k (line.Segments l) distinct stands built named range =
     let parts : (is_within 1 65535 l ≡ true) × (is_none k.limit ≡ true) = and_parts (is_within 1 65535 l) (is_none k.limit) range in
@@ -136,7 +136,7 @@ record HasWords (k : Known) (words : List (List ℕ)) : Type 0 where
 
 node_form : (k : Known) (node verb : List ℕ) (operands : List (List ℕ)) → may_follow k.section 5 ≡ true → is_form (node_line k node verb operands) ≡ false → HasWords k (node ∷ verb ∷ operands)
 node_form k node verb operands stands e =
-    let parts : (is_form (field_below k.nodes node) ≡ false) × (is_form (command_field k verb operands) ≡ false) = and_form _ _ (map_form _ _ e) in
+    let parts : (is_form (read_below k.nodes node) ≡ false) × (is_form (read_command k verb operands) ≡ false) = and_form _ _ (map_form _ _ e) in
     let n : (n : ℕ) × (node ≡ numeral n) = below_form k.nodes node parts.0 in
     let c : HasCommand verb operands = command_form k verb operands parts.1 in
     let words : command_words c.bunches c.command ≡ verb ∷ operands = c.words_are in
@@ -156,7 +156,7 @@ setting_form k key word e = choose_form (same_word key (codes "bmx") && may_foll
     (λ _ i. choose_form (same_word key (codes "segments") && may_follow k.section 4) _ _ i
     (λ h f.
     let parts : (same_word key (codes "segments") ≡ true) × (may_follow k.section 4 ≡ true) = and_parts (same_word key (codes "segments")) (may_follow k.section 4) h in
-    let fields : (is_form (field_within 1 65535 word) ≡ false) × (is_form (first_limit k.limit) ≡ false) = and_form _ _ (map_form _ _ f) in
+    let fields : (is_form (read_within 1 65535 word) ≡ false) × (is_form (first_limit k.limit) ≡ false) = and_form _ _ (map_form _ _ f) in
     let n : (n : ℕ) × (word ≡ numeral n) = within_form 1 65535 word fields.0 in
     record { bunches = []; what = line.Segments n.0; stands = parts.1; built = refl; named = refl; words_are = cc (same_word-true key (codes "segments") parts.0, n.1) })
     (λ _ f. cc)))
@@ -165,8 +165,8 @@ setting_form k key word e = choose_form (same_word key (codes "bmx") && may_foll
 bunch_parts : (k : Known) (key word : List ℕ) → (same_word key (codes "bunch") && may_follow k.section 3 && is_bunch_word word) ≡ true → (key ≡ codes "bunch") × (may_follow k.section 3 ≡ true) × (is_bunch_word word ≡ true)
 bunch_parts k key word h =
     let parts : ((same_word key (codes "bunch") && may_follow k.section 3) ≡ true) × (is_bunch_word word ≡ true) = and_parts (same_word key (codes "bunch") && may_follow k.section 3) (is_bunch_word word) h in
-    let front : (same_word key (codes "bunch") ≡ true) × (may_follow k.section 3 ≡ true) = and_parts (same_word key (codes "bunch")) (may_follow k.section 3) parts.0 in
-    (same_word-true key (codes "bunch") front.0, front.1, parts.1)
+    let first : (same_word key (codes "bunch") ≡ true) × (may_follow k.section 3 ≡ true) = and_parts (same_word key (codes "bunch")) (may_follow k.section 3) parts.0 in
+    (same_word-true key (codes "bunch") first.0, first.1, parts.1)
 
 head_form : (k : Known) (key word : List ℕ) → is_form (head_line k key word) ≡ false → HasWords k (key ∷ word ∷ [])
 head_form k key word e = choose_form (same_word key (codes "bunch") && may_follow k.section 3 && is_bunch_word word) _ _ e
@@ -175,7 +175,7 @@ head_form k key word e = choose_form (same_word key (codes "bunch") && may_follo
     record { bunches = []; what = line.Bunch word None; stands = parts.1; built = parts.2; named = refl; words_are = cc (parts.0) })
     (λ _ g. setting_form k key word g)
 
-words_form : (k : Known) (words : List (List ℕ)) → is_form (line_field k words) ≡ false → HasWords k words
+words_form : (k : Known) (words : List (List ℕ)) → is_form (line_of k words) ≡ false → HasWords k words
 words_form k [] e = cc
 words_form k (a ∷ []) e = cc
 words_form k (a ∷ b ∷ []) e = head_form k a b e
@@ -193,15 +193,15 @@ record IsLine (k : Known) (words : List (List ℕ)) (what : LineKind) : Type 0 w
   range : in_range k what ≡ true
 
 -- a line that was made of a field
-made_line : {A : Type 0} (k : Known) (words : List (List ℕ)) (make : A → LineKind) (f : Field A) (what : LineKind) → field_map make f ≡ Good what
-    → ((x : A) → f ≡ Good x → IsLine k words (make x)) → IsLine k words what
+made_line : {A : Type 0} (k : Known) (words : List (List ℕ)) (make : A → LineKind) (f : Result A Misfit) (what : LineKind) → map_read make f ≡ Ok what
+    → ((x : A) → f ≡ Ok x → IsLine k words (make x)) → IsLine k words what
 made_line {A} k words make f what e then =
-    let found : (x : A) × (f ≡ Good x) × (make x ≡ what) = map_good make f what e in
+    let found : (x : A) × (f ≡ Ok x) × (make x ≡ what) = map_good make f what e in
     subst (λ (l : LineKind). IsLine k words l) found.2 (then found.0 found.1)
 
-node_good : (k : Known) (node verb : List ℕ) (operands : List (List ℕ)) (what : LineKind) → may_follow k.section 5 ≡ true → node_line k node verb operands ≡ Good what → IsLine k (node ∷ verb ∷ operands) what
+node_good : (k : Known) (node verb : List ℕ) (operands : List (List ℕ)) (what : LineKind) → may_follow k.section 5 ≡ true → node_line k node verb operands ≡ Ok what → IsLine k (node ∷ verb ∷ operands) what
 node_good k node verb operands what stands e = made_line k (node ∷ verb ∷ operands) _ _ what e (λ p f.
-    let parts : (field_below k.nodes node ≡ Good p.0) × (command_field k verb operands ≡ Good p.1) = and_good _ _ p f in
+    let parts : (read_below k.nodes node ≡ Ok p.0) × (read_command k verb operands ≡ Ok p.1) = and_good _ _ p f in
     let n : (node ≡ numeral p.0) × (nat_lt p.0 k.nodes ≡ true) = below_good k.nodes node p.0 parts.0 in
     let c : IsCommand k verb operands p.1 = command_good k verb operands p.1 parts.1 in
     let words : command_words k.bunches p.1 ≡ verb ∷ operands = c.words_are in
@@ -212,29 +212,29 @@ exactly_one n h =
     let parts : (nat_le 1 n ≡ true) × (nat_le n 1 ≡ true) = and_parts (nat_le 1 n) (nat_le n 1) h in
     eq-eqb n 1 (omega (arith, leb-true 1 n parts.0, leb-true n 1 parts.1))
 
-limit_good : (o : Option ℕ) (u : Unit {0}) → first_limit o ≡ Good u → is_none o ≡ true
+limit_good : (o : Option ℕ) (u : Unit {0}) → first_limit o ≡ Ok u → is_none o ≡ true
 limit_good None u e = refl
 limit_good (Some n) u e = cc
 
-setting_good : (k : Known) (key word : List ℕ) (what : LineKind) → setting_line k key word ≡ Good what → IsLine k (key ∷ word ∷ []) what
-setting_good k key word what e = split_if (same_word key (codes "bmx") && may_follow k.section 1) _ _ (Good what) e
+setting_good : (k : Known) (key word : List ℕ) (what : LineKind) → setting_line k key word ≡ Ok what → IsLine k (key ∷ word ∷ []) what
+setting_good k key word what e = split_if (same_word key (codes "bmx") && may_follow k.section 1) _ _ (Ok what) e
     (λ h f.
     let parts : (same_word key (codes "bmx") ≡ true) × (may_follow k.section 1 ≡ true) = and_parts (same_word key (codes "bmx")) (may_follow k.section 1) h in
-    let one : (same_word word (codes "1") ≡ true) × (Good line.Version ≡ Good what) = if_good _ _ what f in
+    let one : (same_word word (codes "1") ≡ true) × (Ok line.Version ≡ Ok what) = if_good _ _ what f in
     let is : line.Version ≡ what = cc (one.1) in
     subst (λ (l : LineKind). IsLine k (key ∷ word ∷ []) l) is
     (record { stands = parts.1; built = refl; named = refl; words_are = cc (same_word-true key (codes "bmx") parts.0, same_word-true word (codes "1") one.0); range = refl }))
-    (λ _ g. split_if (same_word key (codes "nodes") && may_follow k.section 2) _ _ (Good what) g
+    (λ _ g. split_if (same_word key (codes "nodes") && may_follow k.section 2) _ _ (Ok what) g
     (λ h f.
     let parts : (same_word key (codes "nodes") ≡ true) × (may_follow k.section 2 ≡ true) = and_parts (same_word key (codes "nodes")) (may_follow k.section 2) h in
     made_line k (key ∷ word ∷ []) _ _ what f (λ n j.
     let is : (word ≡ numeral n) × ((nat_le 1 n && nat_le n 1) ≡ true) = within_good 1 1 word n j in
     record { stands = parts.1; built = refl; named = refl; words_are = cc (same_word-true key (codes "nodes") parts.0, is.0); range = exactly_one n is.1 }))
-    (λ _ i. split_if (same_word key (codes "segments") && may_follow k.section 4) _ _ (Good what) i
+    (λ _ i. split_if (same_word key (codes "segments") && may_follow k.section 4) _ _ (Ok what) i
     (λ h f.
     let parts : (same_word key (codes "segments") ≡ true) × (may_follow k.section 4 ≡ true) = and_parts (same_word key (codes "segments")) (may_follow k.section 4) h in
     made_line k (key ∷ word ∷ []) _ _ what f (λ p j.
-    let fields : (field_within 1 65535 word ≡ Good p.0) × (first_limit k.limit ≡ Good p.1) = and_good _ _ p j in
+    let fields : (read_within 1 65535 word ≡ Ok p.0) × (first_limit k.limit ≡ Ok p.1) = and_good _ _ p j in
     let is : (word ≡ numeral p.0) × (is_within 1 65535 p.0 ≡ true) = within_good 1 65535 word p.0 fields.0 in
     record { stands = parts.1; built = refl; named = refl; words_are = cc (same_word-true key (codes "segments") parts.0, is.0); range = both is.1 (limit_good k.limit p.1 fields.1) }))
     (λ _ f. cc)))
@@ -243,11 +243,11 @@ true_from_not_false : (b : Bool) → not b ≡ false → b ≡ true
 true_from_not_false true h = refl
 true_from_not_false false h = cc
 
-head_good : (k : Known) (key word : List ℕ) (what : LineKind) → head_line k key word ≡ Good what → IsLine k (key ∷ word ∷ []) what
-head_good k key word what e = split_if (same_word key (codes "bunch") && may_follow k.section 3 && is_bunch_word word) _ _ (Good what) e
+head_good : (k : Known) (key word : List ℕ) (what : LineKind) → head_line k key word ≡ Ok what → IsLine k (key ∷ word ∷ []) what
+head_good k key word what e = split_if (same_word key (codes "bunch") && may_follow k.section 3 && is_bunch_word word) _ _ (Ok what) e
     (λ h f.
     let parts : (key ≡ codes "bunch") × (may_follow k.section 3 ≡ true) × (is_bunch_word word ≡ true) = bunch_parts k key word h in
-    split_if (list_any (same_word word) k.bunches || not (nat_lt (length k.bunches) 16)) Range (Good (line.Bunch word None)) (Good what) f
+    split_if (list_any (same_word word) k.bunches || not (nat_lt (length k.bunches) 16)) (Err Range) (Ok (line.Bunch word None)) (Ok what) f
     (λ _ q. cc)
     (λ t q.
     let free : (list_any (same_word word) k.bunches ≡ false) × (not (nat_lt (length k.bunches) 16) ≡ false) = or_parts _ _ t in
@@ -262,31 +262,31 @@ head_good k key word what e = split_if (same_word key (codes "bunch") && may_fol
     })))
     (λ _ g. setting_good k key word what g)
 
-words_good : (k : Known) (words : List (List ℕ)) (what : LineKind) → line_field k words ≡ Good what → IsLine k words what
+words_good : (k : Known) (words : List (List ℕ)) (what : LineKind) → line_of k words ≡ Ok what → IsLine k words what
 words_good k [] what e = cc
 words_good k (a ∷ []) what e = cc
 words_good k (a ∷ b ∷ []) what e = head_good k a b what e
 words_good k (a ∷ b ∷ c ∷ words) what e =
-    let parts : (may_follow k.section 5 ≡ true) × (node_line k a b (c ∷ words) ≡ Good what) = if_good _ _ what e in
+    let parts : (may_follow k.section 5 ≡ true) × (node_line k a b (c ∷ words) ≡ Ok what) = if_good _ _ what e in
     node_good k a b (c ∷ words) what parts.0 parts.1
 
 -- ## the answer for a line
 
 -- what the grammar says of a text, by the field that was read from it
-abbrev pub Tells : Known → List ℕ → Field LineKind → Type 0
-Tells k text Form = ¬ HasForm k text
-Tells k text Range = HasForm k text × ((what : LineKind) → ¬ IsGood k what text)
-Tells k text (Good what) = IsGood k what text
+abbrev pub Tells : Known → List ℕ → Result LineKind Misfit → Type 0
+Tells k text (Err Form) = ¬ HasForm k text
+Tells k text (Err Range) = HasForm k text × ((what : LineKind) → ¬ IsGood k what text)
+Tells k text (Ok what) = IsGood k what text
 
-read_words : (k : Known) (ws : List (List ℕ)) (what : LineKind) (text : List ℕ) → IsSpelled k ws what text → slice_split is_space text ≡ line_words ws what
-read_words k ws what text s = ap (slice_split is_space) (sym s.spelled) ∙ plain_line ws what s.built s.words
+its_words : (k : Known) (ws : List (List ℕ)) (what : LineKind) (text : List ℕ) → IsSpelled k ws what text → slice_split is_space text ≡ line_words ws what
+its_words k ws what text s = ap (slice_split is_space) (sym s.spelled) ∙ plain_line ws what s.built s.words
 
 spelled_is_read : (k : Known) (ws : List (List ℕ)) (what : LineKind) (text : List ℕ) → IsSpelled k ws what text → is_form (read_line k text) ≡ false
-spelled_is_read k ws what text s = ap (λ x. is_form (line_field k x)) (read_words k ws what text s) ∙ form_line k ws what s.stands s.built s.words
+spelled_is_read k ws what text s = ap (λ x. is_form (line_of k x)) (its_words k ws what text s) ∙ form_line k ws what s.stands s.built s.words
 
-pub good_is_read : (k : Known) (what : LineKind) (text : List ℕ) → AreDistinct k.bunches → IsGood k what text → read_line k text ≡ Good what
+pub good_is_read : (k : Known) (what : LineKind) (text : List ℕ) → AreDistinct k.bunches → IsGood k what text → read_line k text ≡ Ok what
 good_is_read k what text distinct g =
-    ap (λ x. line_field k x) (read_words k k.bunches what text g.form) ∙ good_line k what distinct g.form.stands g.form.built g.form.words g.range
+    ap (λ x. line_of k x) (its_words k k.bunches what text g.form) ∙ good_line k what distinct g.form.stands g.form.built g.form.words g.range
 
 joined : (k : Known) (ws : List (List ℕ)) (what : LineKind) (text : List ℕ) → line_words ws what ≡ slice_split is_space text → spelling ws what ≡ text
 joined k ws what text e = ap (join_with_byte 32) e ∙ join_with_byte-slice_split 32 text
@@ -296,7 +296,7 @@ read_has_form k text e =
     let found : HasWords k (slice_split is_space text) = words_form k (slice_split is_space text) e in
     (found.bunches, found.what, record { stands = found.stands; built = found.built; words = found.named; spelled = joined k found.bunches found.what text found.words_are })
 
-read_is_good : (k : Known) (text : List ℕ) (what : LineKind) → read_line k text ≡ Good what → IsGood k what text
+read_is_good : (k : Known) (text : List ℕ) (what : LineKind) → read_line k text ≡ Ok what → IsGood k what text
 read_is_good k text what e =
     let found : IsLine k (slice_split is_space text) what = words_good k (slice_split is_space text) what e in
     record {
@@ -304,10 +304,10 @@ read_is_good k text what e =
       range = found.range;
     }
 
-tells_by : (k : Known) (text : List ℕ) (f : Field LineKind) → AreDistinct k.bunches → read_line k text ≡ f → Tells k text f
-tells_by k text Form distinct e = λ h. let bad : is_form (read_line k text) ≡ false = spelled_is_read k h.0 h.1 text h.2 in let form : true ≡ false = sym (ap is_form e) ∙ bad in cc
-tells_by k text Range distinct e = (read_has_form k text (ap is_form e), λ what g. let good : Range ≡ Good what = sym e ∙ good_is_read k what text distinct g in cc)
-tells_by k text (Good what) distinct e = read_is_good k text what e
+tells_by : (k : Known) (text : List ℕ) (f : Result LineKind Misfit) → AreDistinct k.bunches → read_line k text ≡ f → Tells k text f
+tells_by k text (Err Form) distinct e = λ h. let bad : is_form (read_line k text) ≡ false = spelled_is_read k h.0 h.1 text h.2 in let form : true ≡ false = sym (ap is_form e) ∙ bad in cc
+tells_by k text (Err Range) distinct e = (read_has_form k text (ap is_form e), λ what g. let good : (Err Range) ≡ Ok what = sym e ∙ good_is_read k what text distinct g in cc)
+tells_by k text (Ok what) distinct e = read_is_good k text what e
 
 -- what is read of a line is what the grammar says of it
 pub exact : (k : Known) (text : List ℕ) → AreDistinct k.bunches → Tells k text (read_line k text)

@@ -7,7 +7,8 @@ use Rattle.bmx_script.specs.declared.knowledge.Known.{Known}
 use Rattle.bmx_script.specs.declared.lines.Line.{Line}
 use Rattle.bmx_script.specs.declared.lines.LineKind.{LineKind}
 use Rattle.bmx_script.specs.declared.lines.LineKind.TheVariants as line
-use Rattle.bmx_script.specs.Grammar.{may_follow, section_of, in_range, known_after, known_after_all, nothing_known, AreInOrder, AreScript, HasRoom, is_within, limit_in}
+use Rattle.bmx_script.specs.Grammar.{may_follow, section_of, in_range, known_after, known_after_all, nothing_known, AreInOrder, AreScript, is_within, limit_in}
+use Rattle.bmx_script.specs.Inside.Reader.{HasRoom}
 use Rattle.bmx_script.proofs.Sound.{room_after}
 
 -- from 1 to 65,535 segments

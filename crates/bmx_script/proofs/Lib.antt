@@ -1,10 +1,13 @@
+pub mod Ascii
 pub mod Commands
 pub mod Exact
-pub mod FieldLemmas
+pub mod Prefixes
+pub mod ReadLemmas
 pub mod Heads
 pub mod LineFeeds
 pub mod Named
 pub mod OneReading
+pub mod Opened
 pub mod Operands
 pub mod OtherCounts
 pub mod Plain

@@ -1,12 +1,25 @@
 -- Where a text is cut into lines.
-use Rattle.std.proofs.Common.{◌≡◌, ℕ, ◌+◌, ◌-◌, ◌<◌, ◌==◌, Bool, List, [], ◌∷◌, length, take, drop, suc, Some, None, refl, ap, ◌∙◌, arith}
+use Rattle.std.proofs.Common.{◌≡◌, ℕ, ◌+◌, ◌-◌, ◌<◌, ◌==◌, Bool, true, false, Option, List, [], ◌∷◌, length, take, drop, suc, Some, None, get_or, refl, ap, sym, ◌∙◌, arith}
 use Rattle.std.specs.List.{position_from}
 use Rattle.std.proofs.lemmas.List.{take_all, length-drop}
 use Rattle.bmx_script.specs.Grammar.{lines_of}
-use Rattle.bmx_script.proofs.FieldLemmas.{split_if}
+use Rattle.memchr.specs.Find.{IsFirstByte, is_byte}
+use Rattle.bmx_script.proofs.ReadLemmas.{split_if}
+use Rattle.bmx_script.proofs.Words.{position_at, position_none}
 
 abbrev is_feed : ℕ → Bool
 is_feed c = c == 10
+
+not_true_false : (b : Bool) → ¬ (b ≡ true) → b ≡ false
+not_true_false true h = absurd (h refl)
+not_true_false false h = refl
+
+-- the first line feed, as a search finds it
+pub first_feed : (bytes : List ℕ) (r : Option ℕ) → IsFirstByte (is_byte 10) bytes r → r ≡ position_from is_feed 0 bytes
+first_feed bytes None none = sym (position_none is_feed 0 bytes 0 (λ q below. not_true_false (is_feed (get_or bytes q 0)) (none q (omega arith) below)))
+first_feed bytes (Some k) found = sym
+    (position_at is_feed 0 bytes k 0 found.0.high found.1 (λ q h. not_true_false (is_feed (get_or bytes q 0)) (found.0.before q (omega arith) h))
+    ∙ ap (λ n. Some n) (omega arith))
 
 -- up to the first line feed, and behind it
 cut_at : (i : ℕ) (bytes : List ℕ) (at : ℕ) → position_from is_feed i bytes ≡ Some at → (m : ℕ) × (at ≡ i + m) × (m < length bytes) × (lines_of bytes ≡ take m bytes ∷ lines_of (drop (suc m) bytes))

@@ -1,19 +1,21 @@
 -- Bytes have one reading: each line comes to one verdict.
-use Rattle.std.proofs.Common.{◌≡◌, ℕ, ◌+◌, cond, List, [], ◌∷◌, ◌++◌, length, Result, Err, refl, ap, sym, ◌∙◌, subst, arith}
-use Rattle.bmx_numerals.specs.declared.fields.Field.{Field}
-use Rattle.bmx_numerals.specs.declared.fields.Field.TheVariants.{Form, Range, Good}
+use Rattle.std.proofs.Common.{◌≡◌, ℕ, ◌+◌, cond, List, [], ◌∷◌, ◌++◌, length, Result, Err, refl, ap, sym, ◌∙◌, subst, arith, Ok}
+use Rattle.bmx_numerals.specs.declared.words.Misfit.{Misfit}
+use Rattle.bmx_numerals.specs.declared.words.Misfit.TheVariants.{Form, Range}
 use Rattle.bmx_script.specs.declared.knowledge.Known.{Known}
 use Rattle.bmx_script.specs.declared.lines.Line.{Line}
 use Rattle.bmx_script.specs.declared.lines.LineKind.{LineKind}
 use Rattle.bmx_script.specs.declared.lines.Bad.{Bad}
+use Rattle.bmx_script.specs.declared.lines.BadCause.{BadCause}
 use Rattle.bmx_script.specs.declared.lines.BadCause.TheVariants as cause
 use Rattle.bmx_script.specs.declared.verdicts.Verdict.{Verdict}
 use Rattle.bmx_script.specs.declared.verdicts.Verdict.TheVariants as verdict
-use Rattle.bmx_script.specs.Grammar.{nothing_known, known_after, is_long, is_skipped, lines_of, HasForm, IsGood, IsVerdict, ByVerdict, Reads}
-use Rattle.bmx_script.specs.Distinct.{AreDistinct}
+use Rattle.bmx_script.specs.Grammar.{nothing_known, known_after, is_long, is_skipped, lines_of, HasForm, IsGood, IsBad, is_far, has_no_form, is_out_of_range, Reads}
+use Rattle.bmx_script.specs.Inside.Distinct.{AreDistinct}
 use Rattle.bmx_script.specs.Laws.{ReadingIsDetermined}
-use Rattle.bmx_script.specs.Parsing.{read_line}
-use Rattle.bmx_script.specs.Reader.{verdict_of}
+use Rattle.bmx_script.specs.Inside.Parsing.{read_line}
+use Rattle.bmx_script.specs.Inside.Reader.{verdict_of, IsVerdict}
+use Rattle.bmx_script.proofs.Opened.{GoesOn, IsOpened, opened, IsEnded, Whole, Early, ended}
 use Rattle.bmx_script.proofs.Exact.{Tells, exact, good_is_read}
 use Rattle.bmx_script.proofs.Sound.{distinct_after}
 
@@ -24,44 +26,52 @@ judged k number end text = cond (is_long number end) (verdict.Wrong cause.Long) 
 has_form : (k : Known) (what : LineKind) (text : List ℕ) → IsGood k what text → HasForm k text
 has_form k what text g = (k.bunches, what, g.form)
 
-no_form : (k : Known) (text : List ℕ) (f : Field LineKind) → Tells k text f → ¬ HasForm k text → f ≡ Form
-no_form k text Form tells none = refl
-no_form k text Range tells none = absurd (none tells.0)
-no_form k text (Good what) tells none = absurd (none (has_form k what text tells))
+no_form : (k : Known) (text : List ℕ) (f : Result LineKind Misfit) → Tells k text f → ¬ HasForm k text → f ≡ Err Form
+no_form k text (Err Form) tells none = refl
+no_form k text (Err Range) tells none = absurd (none tells.0)
+no_form k text (Ok what) tells none = absurd (none (has_form k what text tells))
 
-out_of_range : (k : Known) (text : List ℕ) (f : Field LineKind) → Tells k text f → HasForm k text → ((what : LineKind) → ¬ IsGood k what text) → f ≡ Range
-out_of_range k text Form tells form none = absurd (tells form)
-out_of_range k text Range tells form none = refl
-out_of_range k text (Good what) tells form none = absurd (none what tells)
+out_of_range : (k : Known) (text : List ℕ) (f : Result LineKind Misfit) → Tells k text f → HasForm k text → ((what : LineKind) → ¬ IsGood k what text) → f ≡ Err Range
+out_of_range k text (Err Form) tells form none = absurd (tells form)
+out_of_range k text (Err Range) tells form none = refl
+out_of_range k text (Ok what) tells form none = absurd (none what tells)
+
+bad_is_judged : (k : Known) (number end : ℕ) (text : List ℕ) (why : BadCause) → AreDistinct k.bunches → IsBad k number end text why → verdict.Wrong why ≡ judged k number end text
+bad_is_judged k number end text cause.Long distinct (is_far far) = rw far refl
+bad_is_judged k number end text cause.Form distinct (has_no_form near here none) = rw (near, here) (sym (ap verdict_of (no_form k text (read_line k text) (exact k text distinct) none)))
+bad_is_judged k number end text cause.Range distinct (is_out_of_range near here form none) = rw (near, here) (sym (ap verdict_of (out_of_range k text (read_line k text) (exact k text distinct) form none)))
+bad_is_judged k number end text cause.End distinct x = elim x [ ]
 
 is_judged : (k : Known) (number end : ℕ) (text : List ℕ) (v : Verdict) → AreDistinct k.bunches → IsVerdict k number end text v → v ≡ judged k number end text
 is_judged k number end text verdict.Skipped distinct h = rw (h.0, h.1) refl
 is_judged k number end text (verdict.Is what) distinct h = rw (h.0, h.1) (sym (ap verdict_of (good_is_read k what text distinct h.2)))
-is_judged k number end text (verdict.Wrong cause.Long) distinct h = rw h refl
-is_judged k number end text (verdict.Wrong cause.Form) distinct h = rw (h.0, h.1) (sym (ap verdict_of (no_form k text (read_line k text) (exact k text distinct) h.2)))
-is_judged k number end text (verdict.Wrong cause.Range) distinct h = rw (h.0, h.1) (sym (ap verdict_of (out_of_range k text (read_line k text) (exact k text distinct) h.2 h.3)))
-is_judged k number end text (verdict.Wrong cause.End) distinct h = absurd h
+is_judged k number end text (verdict.Wrong why) distinct h = bad_is_judged k number end text why distinct h
 
 -- the same answer behind the same verdict
-goes_on : (k : Known) (lines : List Line) (number start : ℕ) (text : List ℕ) (texts : List (List ℕ)) (a b : Result (List Line) Bad)
+goes_on : (k : Known) (lines : List Line) (number end : ℕ) (text : List ℕ) (texts : List (List ℕ)) (a b : Result (List Line) Bad)
     → ((j : Known) (ls : List Line) (n s : ℕ) → AreDistinct j.bunches → Reads j ls n s texts a → Reads j ls n s texts b → a ≡ b)
-    → AreDistinct k.bunches → (v : Verdict) → IsVerdict k number (start + (length text + 1)) text v
-    → ByVerdict v (Reads k lines (number + 1) (start + (length text + 1)) texts a) (λ what. Reads (known_after k what) (lines ++ record { number = number; what = what } ∷ []) (number + 1) (start + (length text + 1)) texts a) (λ why. a ≡ Err (record { line = number; cause = why }))
-    → ByVerdict v (Reads k lines (number + 1) (start + (length text + 1)) texts b) (λ what. Reads (known_after k what) (lines ++ record { number = number; what = what } ∷ []) (number + 1) (start + (length text + 1)) texts b) (λ why. b ≡ Err (record { line = number; cause = why }))
-    → a ≡ b
-goes_on k lines number start text texts a b then distinct verdict.Skipped h p q = then k lines (number + 1) (start + (length text + 1)) distinct p q
-goes_on k lines number start text texts a b then distinct (verdict.Is what) h p q =
-    then (known_after k what) (lines ++ record { number = number; what = what } ∷ []) (number + 1) (start + (length text + 1)) (distinct_after k what distinct h.2.range) p q
-goes_on k lines number start text texts a b then distinct (verdict.Wrong why) h p q = p ∙ sym q
+    → AreDistinct k.bunches → (v : Verdict) → IsVerdict k number end text v → GoesOn k lines number end texts a v → GoesOn k lines number end texts b v → a ≡ b
+goes_on k lines number end text texts a b then distinct verdict.Skipped h p q = then k lines (number + 1) end distinct p q
+goes_on k lines number end text texts a b then distinct (verdict.Is what) h p q =
+    then (known_after k what) (lines ++ record { number = number; what = what } ∷ []) (number + 1) end (distinct_after k what distinct h.2.range) p q
+goes_on k lines number end text texts a b then distinct (verdict.Wrong why) h p q = p ∙ sym q
+
+one_end : (k : Known) (lines : List Line) (number : ℕ) (a b : Result (List Line) Bad) → IsEnded k lines number a → IsEnded k lines number b → a ≡ b
+one_end k lines number a b (Whole h p) (Whole g q) = p ∙ sym q
+one_end k lines number a b (Whole h p) (Early g q) = absurd (omega arith)
+one_end k lines number a b (Early h p) (Whole g q) = absurd (omega arith)
+one_end k lines number a b (Early h p) (Early g q) = p ∙ sym q
 
 one_answer : (texts : List (List ℕ)) (a b : Result (List Line) Bad) (k : Known) (lines : List Line) (number start : ℕ) → AreDistinct k.bunches
     → Reads k lines number start texts a → Reads k lines number start texts b → a ≡ b
-one_answer [] a b k lines number start distinct p q = p ∙ sym q
+one_answer [] a b k lines number start distinct p q = one_end k lines number a b (ended k lines number start a p) (ended k lines number start b q)
 one_answer (text ∷ texts) a b k lines number start distinct p q =
     let end : ℕ = start + (length text + 1) in
-    let same : q.0 ≡ p.0 = is_judged k number end text q.0 distinct q.1 ∙ sym (is_judged k number end text p.0 distinct p.1) in
-    let On : Verdict → Type 0 = λ v. ByVerdict v (Reads k lines (number + 1) end texts b) (λ what. Reads (known_after k what) (lines ++ record { number = number; what = what } ∷ []) (number + 1) end texts b) (λ why. b ≡ Err (record { line = number; cause = why })) in
-    goes_on k lines number start text texts a b (λ j ls n s d x y. one_answer texts a b j ls n s d x y) distinct p.0 p.1 p.2 (subst On same q.2)
+    let first : IsOpened k lines number start text texts a = opened k lines number start text texts a p in
+    let second : IsOpened k lines number start text texts b = opened k lines number start text texts b q in
+    let same : second.verdict ≡ first.verdict = is_judged k number end text second.verdict distinct second.is ∙ sym (is_judged k number end text first.verdict distinct first.is) in
+    goes_on k lines number end text texts a b (λ j ls n s d x y. one_answer texts a b j ls n s d x y) distinct first.verdict first.is first.on
+    (subst (λ (v : Verdict). GoesOn k lines number end texts b v) same second.on)
 
 pub reading_is_determined : ReadingIsDetermined
 reading_is_determined bytes a b p q = one_answer (lines_of bytes) a b nothing_known [] 1 0 (λ x y h below. absurd (omega arith)) p q

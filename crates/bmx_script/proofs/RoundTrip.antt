@@ -5,10 +5,9 @@ use Rattle.std.proofs.lemmas.List.{length-append, length-replicate}
 use Rattle.bmx_script.specs.declared.knowledge.Known.{Known}
 use Rattle.bmx_script.specs.declared.lines.Line.{Line}
 use Rattle.bmx_script.specs.declared.lines.Bad.{Bad}
-use Rattle.bmx_script.specs.declared.verdicts.Verdict.TheVariants as verdict
 use Rattle.bmx_script.specs.Spelling.{word_of, spelling, printed}
-use Rattle.bmx_script.specs.Grammar.{named_on, nothing_known, known_after, known_after_all, is_long, is_skipped, is_comment, lines_of, IsGood, Reads, IsReading, AreInOrder, AreNumbered, first_number, AreScript, bunches_of, script_text}
-use Rattle.bmx_script.specs.Reader.{print_length}
+use Rattle.bmx_script.specs.Grammar.{named_on, nothing_known, known_after, known_after_all, is_long, is_skipped, is_comment, lines_of, IsGood, Reads, ends, skips, takes, IsReading, AreInOrder, AreNumbered, first_number, AreScript, bunches_of, script_text}
+use Rattle.bmx_script.specs.Inside.Reader.{print_length}
 use Rattle.bmx_script.proofs.Plain.{has_no_feed, are_words, line_no_feed, line_no_comment}
 use Rattle.bmx_script.proofs.Named.{Agree, line_agrees, named_below, kept, IsProper, proper_after, named_words}
 
@@ -18,7 +17,7 @@ feeds_cut : (n : ℕ) (rest : List ℕ) → lines_of (replicate n 10 ++ rest) �
 feeds_cut zero rest = refl
 feeds_cut (suc n) rest = ap (λ (x : List (List ℕ)). [] ∷ x) (feeds_cut n rest)
 
-line_cut : (w rest : List ℕ) → has_no_feed w ≡ true → lines_of (w ++ 10 ∷ rest) ≡ w ∷ lines_of rest
+pub line_cut : (w rest : List ℕ) → has_no_feed w ≡ true → lines_of (w ++ 10 ∷ rest) ≡ w ∷ lines_of rest
 line_cut [] rest h = refl
 line_cut (c ∷ w) rest h =
     let parts : (not (c == 10) ≡ true) × (has_no_feed w ≡ true) = and_parts (not (c == 10)) (has_no_feed w) h in
@@ -38,11 +37,9 @@ skipped_on zero k done number start texts answer next end p q behind few short o
     let here : next ≡ number = omega arith in
     let there : end ≡ start = omega arith in
     subst (λ (s : ℕ). Reads k done number s texts answer) there (subst (λ (m : ℕ). Reads k done m end texts answer) here on)
-skipped_on (suc n) k done number start texts answer next end p q behind few short on = (
-  verdict.Skipped,
-  (near number (start + 1) (omega arith) (omega arith), and_from (nat_lt 1 number) true (lt-ltb 1 number (behind (omega arith))) refl),
-  skipped_on n k done (number + 1) (start + 1) texts answer next end (omega arith) (omega arith) (λ h. omega arith) few short on,
-)
+skipped_on (suc n) k done number start texts answer next end p q behind few short on =
+    skips (near number (start + 1) (omega arith) (omega arith)) (and_from (nat_lt 1 number) true (lt-ltb 1 number (behind (omega arith))) refl)
+    (skipped_on n k done (number + 1) (start + 1) texts answer next end (omega arith) (omega arith) (λ h. omega arith) few short on)
 
 not_skipped : (number : ℕ) (text : List ℕ) → is_comment text ≡ false → is_skipped number text ≡ false
 not_skipped number text h = rw h (never (nat_lt 1 number))
@@ -62,7 +59,7 @@ reads_on : (ws : List (List ℕ)) (k : Known) (done ls : List Line) (above start
     → AreNumbered above 20001 ls → (above ≡ 0 → first_number 1 ls ≡ 1) → start + length (printed ws (above + 1) ls) ≤ 2 ^ 20
     → Reads k done (above + 1) start (lines_of (printed ws (above + 1) ls)) (Ok (done ++ ls))
 reads_on ws k done [] above start words proper order head numbers first short =
-    rw (append-nil done, le-ltb k.section 3 head) refl
+    subst (λ (x : List Line). Reads k done (above + 1) start [] (Ok x)) (sym (append-nil done)) (ends head)
 reads_on ws k done (l ∷ ls) above start words proper order head numbers first short =
     let n : ℕ = l.number - (above + 1) in
     let rest : List ℕ = printed ws (l.number + 1) ls in
@@ -83,7 +80,7 @@ reads_on ws k done (l ∷ ls) above start words proper order head numbers first 
     let same : Reads (known_after k l.what) (done ++ l ∷ []) (l.number + 1) end (lines_of rest) (Ok (done ++ l ∷ ls)) =
     subst (λ (x : List Line). Reads (known_after k l.what) (done ++ l ∷ []) (l.number + 1) end (lines_of rest) (Ok x)) (append_assoc done (l ∷ []) ls) after in
     let here : Reads k done l.number (start + n) (text ∷ lines_of rest) (Ok (done ++ l ∷ ls)) =
-    (verdict.Is l.what, (near l.number end low (omega arith), not_skipped l.number text (line_no_comment ws l.what), good), same) in
+    takes l.what (near l.number end low (omega arith)) (not_skipped l.number text (line_no_comment ws l.what)) good same in
     subst (λ (x : List (List ℕ)). Reads k done (above + 1) start x (Ok (done ++ l ∷ ls))) (sym cut)
     (skipped_on n k done (above + 1) start (text ∷ lines_of rest) (Ok (done ++ l ∷ ls)) l.number (start + n) (omega arith) refl
     (λ some. behind above (λ h. first h) some) (omega arith) (omega arith) here)

@@ -1,28 +1,29 @@
 -- A reader that goes on over a line stays sound.
-use Rattle.std.proofs.Common.{◌≡◌, ℕ, ◌+◌, ◌<◌, ◌≤◌, ◌^◌, true, false, not, nat_lt, List, [], ◌∷◌, ◌++◌, length, refl, ap, sym, ◌∙◌, suc, zero, ⊎_elim, arith}
+use Rattle.std.proofs.Common.{◌≡◌, ℕ, ◌+◌, ◌<◌, ◌≤◌, ◌^◌, true, false, not, nat_lt, List, [], ◌∷◌, ◌++◌, length, refl, ap, sym, ◌∙◌, suc, zero, ⊎_elim, arith, Result, Ok, Err}
 use Rattle.std.specs.List.{list_any}
 use Rattle.std.proofs.lemmas.Bool.{and_parts, ltb-true, eqb-true, not-true, ltb-false, or_parts, cases_lt, le-leb}
 use Rattle.std.proofs.Math.ListN.{get_or-append, length-append}
 use Rattle.std.proofs.Math.Seq.{get_or-append_seam}
-use Rattle.bmx_numerals.specs.declared.fields.Field.{Field}
-use Rattle.bmx_numerals.specs.declared.fields.Field.TheVariants.{Form, Range, Good}
+use Rattle.bmx_numerals.specs.declared.words.Misfit.{Misfit}
+use Rattle.bmx_numerals.specs.declared.words.Misfit.TheVariants.{Form, Range}
 use Rattle.bmx_script.specs.declared.knowledge.Known.{Known}
 use Rattle.bmx_script.specs.declared.lines.Line.{Line}
 use Rattle.bmx_script.specs.declared.lines.LineKind.{LineKind}
 use Rattle.bmx_script.specs.declared.lines.LineKind.TheVariants as line
 use Rattle.bmx_script.specs.declared.scripts.Reader.{Reader}
-use Rattle.bmx_script.specs.Grammar.{may_follow, section_of, is_built, in_range, same_word, nothing_known, known_after, known_after_all, IsGood, AreInOrder, AreNumbered, first_number, AreScript, script_text, HasRoom, is_long, is_comment, is_skipped, IsVerdict}
+use Rattle.bmx_script.specs.Grammar.{has_no_form, is_out_of_range, may_follow, section_of, is_built, in_range, same_word, nothing_known, known_after, known_after_all, IsGood, AreInOrder, AreNumbered, first_number, AreScript, script_text, is_long, is_comment, is_skipped}
+use Rattle.bmx_script.specs.Inside.Reader.{HasRoom}
 use Rattle.bmx_script.specs.Spelling.{word_of, spelling}
-use Rattle.bmx_script.specs.Distinct.{AreDistinct}
-use Rattle.bmx_script.specs.Reader.{verdict_of, end_of, noted, print_length, IsSound}
+use Rattle.bmx_script.specs.Inside.Distinct.{AreDistinct}
+use Rattle.bmx_script.specs.Inside.Reader.{verdict_of, IsVerdict, end_of, noted, print_length, IsSound}
 use Rattle.bmx_script.proofs.Exact.{Tells}
 use Rattle.bmx_script.proofs.RoundTrip.{script_length}
 
 -- the verdict on a line that was read
-pub verdict_from : (k : Known) (number end : ℕ) (text : List ℕ) (f : Field LineKind) → is_long number end ≡ false → is_skipped number text ≡ false → Tells k text f → IsVerdict k number end text (verdict_of f)
-verdict_from k number end text Form near here tells = (near, here, tells)
-verdict_from k number end text Range near here tells = (near, here, tells.0, tells.1)
-verdict_from k number end text (Good what) near here tells = (near, here, tells)
+pub verdict_from : (k : Known) (number end : ℕ) (text : List ℕ) (f : Result LineKind Misfit) → is_long number end ≡ false → is_skipped number text ≡ false → Tells k text f → IsVerdict k number end text (verdict_of f)
+verdict_from k number end text (Err Form) near here tells = has_no_form near here tells
+verdict_from k number end text (Err Range) near here tells = is_out_of_range near here tells.0 tells.1
+verdict_from k number end text (Ok what) near here tells = (near, here, tells)
 
 none_at : (w : List ℕ) (ws : List (List ℕ)) (i : ℕ) → list_any (same_word w) ws ≡ false → i < length ws → same_word w (word_of ws i) ≡ false
 none_at w [] i h below = absurd (omega arith)
@@ -90,7 +91,7 @@ room_after k line.Settle r range = record { few_nodes = r.few_nodes; few_bunches
 abbrev pub advanced : Reader → List ℕ → Reader
 advanced r text = record { known = r.known; lines = r.lines; number = r.number + 1; start = r.start + (length text + 1) }
 
-near_bounds : (number end : ℕ) → is_long number end ≡ false → (number ≤ 20000) × (end ≤ 2 ^ 20)
+pub near_bounds : (number end : ℕ) → is_long number end ≡ false → (number ≤ 20000) × (end ≤ 2 ^ 20)
 near_bounds number end h =
     let parts : (nat_lt 20000 number ≡ false) × (nat_lt (2 ^ 20) end ≡ false) = or_parts (nat_lt 20000 number) (nat_lt (2 ^ 20) end) h in
     (ltb-false 20000 number parts.0, ltb-false (2 ^ 20) end parts.1)

@@ -14,8 +14,8 @@ use Rattle.bmx_script.specs.declared.lines.Bad.{Bad}
 use Rattle.bmx_script.specs.declared.lines.BadCause.{BadCause}
 use Rattle.bmx_script.specs.declared.lines.BadCause.TheVariants as cause
 use Rattle.bmx_script.specs.declared.knowledge.Known.{Known}
-use Rattle.bmx_script.specs.declared.verdicts.Verdict.{Verdict}
-use Rattle.bmx_script.specs.declared.verdicts.Verdict.TheVariants as verdict
+use Rattle.bmx_numerals.specs.Numerals.{is_digit}
+use Rattle.bmx_script.specs.Bytes.{line_feed, hash, underscore, letter_a, letter_z}
 use Rattle.bmx_script.specs.Spelling.{word_of, spelling, printed}
 
 -- a byte from one to another
@@ -24,11 +24,11 @@ is_within low high c = nat_le low c && nat_le c high
 
 -- a lower-case letter, by its byte
 abbrev pub is_letter : ℕ → Bool
-is_letter c = is_within 97 122 c
+is_letter c = is_within letter_a letter_z c
 
 -- a lower-case letter, a digit or `_`
 abbrev pub is_word_byte : ℕ → Bool
-is_word_byte c = is_letter c || (is_within 48 57 c || (c == 95))
+is_word_byte c = is_letter c || (is_digit c || (c == underscore))
 
 abbrev pub begins_with_letter : List ℕ → Bool
 begins_with_letter [] = false
@@ -45,11 +45,6 @@ same_word = bytes_eq
 -- before the first line
 abbrev pub nothing_known : Known
 nothing_known = record { section = 0; nodes = 0; bunches = []; limit = None }
-
--- there are at most 8 nodes and 16 bunches
-pub record HasRoom (k : Known) : Type 0 where
-  pub few_nodes : k.nodes ≤ 8
-  pub few_bunches : length k.bunches ≤ 16
 
 -- in which section of a script a line stands, from 1
 abbrev pub section_of : LineKind → ℕ
@@ -200,49 +195,45 @@ pub record IsGood (k : Known) (what : LineKind) (text : List ℕ) : Type 0 where
 abbrev pub is_long : ℕ → ℕ → Bool
 is_long number end = nat_lt 20000 number || nat_lt (2 ^ 20) end
 
--- an empty text or a comment: 35 is `#`
+-- an empty text or a comment
 abbrev pub is_comment : List ℕ → Bool
 is_comment [] = true
-is_comment (c ∷ cs) = c == 35
+is_comment (c ∷ cs) = c == hash
 
 -- a line that is skipped, which the first is never
 abbrev pub is_skipped : ℕ → List ℕ → Bool
 is_skipped number text = nat_lt 1 number && is_comment text
 
--- what a line comes to, by its number, the number of bytes to its line feed, and its text
-abbrev pub IsVerdict : Known → ℕ → ℕ → List ℕ → Verdict → Type 0
-IsVerdict k number end text verdict.Skipped = (is_long number end ≡ false) × (is_skipped number text ≡ true)
-IsVerdict k number end text (verdict.Is what) = (is_long number end ≡ false) × (is_skipped number text ≡ false) × IsGood k what text
-IsVerdict k number end text (verdict.Wrong cause.Long) = is_long number end ≡ true
-IsVerdict k number end text (verdict.Wrong cause.Form) =
-    (is_long number end ≡ false) × (is_skipped number text ≡ false) × ¬ HasForm k text
-IsVerdict k number end text (verdict.Wrong cause.Range) =
-    (is_long number end ≡ false) × (is_skipped number text ≡ false) × HasForm k text × ((what : LineKind) → ¬ IsGood k what text)
-IsVerdict k number end text (verdict.Wrong cause.End) = ⊥
+-- why a line is bad, by its number, the number of bytes to its line feed, and its text
+pub data IsBad (k : Known) (number end : ℕ) (text : List ℕ) : BadCause → Type 0 where
+  is_far : is_long number end ≡ true → IsBad k number end text cause.Long
+  has_no_form : is_long number end ≡ false → is_skipped number text ≡ false → ¬ HasForm k text → IsBad k number end text cause.Form
+  is_out_of_range : is_long number end ≡ false → is_skipped number text ≡ false → HasForm k text → ((what : LineKind) → ¬ IsGood k what text) → IsBad k number end text cause.Range
 
--- the lines of a text: each ends with a line feed (the byte 10), the last may end with the text
+-- the lines of a text: each ends with a line feed, the last may end with the text
 abbrev pub lines_of : List ℕ → List (List ℕ)
 lines_of [] = []
-lines_of (c ∷ cs) = if c == 10 then [] ∷ lines_of cs else onto_first c (lines_of cs)
+lines_of (c ∷ cs) = if c == line_feed then [] ∷ lines_of cs else onto_first c (lines_of cs)
 
--- one of three, by what a line comes to
-abbrev pub ByVerdict : Verdict → Type 0 → (LineKind → Type 0) → (BadCause → Type 0) → Type 0
-ByVerdict verdict.Skipped Skip Line Stop = Skip
-ByVerdict (verdict.Is what) Skip Line Stop = Line what
-ByVerdict (verdict.Wrong cause) Skip Line Stop = Stop cause
-
--- what reading comes to, from the known, the lines so far, the number of the next line and the bytes
--- before it: the first bad line and its cause, or all lines. A script that ends before its first bunch
--- ends too early
-abbrev pub Reads : Known → List Line → ℕ → ℕ → List (List ℕ) → Result (List Line) Bad → Type 0
-Reads k lines number start [] answer =
-    answer ≡ (if nat_lt k.section 3 then Err (record { line = number; cause = cause.End }) else Ok lines)
-Reads k lines number start (text ∷ texts) answer =
-    let end = start + (length text + 1) in
-    (v : Verdict) × IsVerdict k number end text v × ByVerdict v
-    (Reads k lines (number + 1) end texts answer)
-    (λ what. Reads (known_after k what) (lines ++ record { number = number; what = what } ∷ []) (number + 1) end texts answer)
-    (λ why. answer ≡ Err (record { line = number; cause = why }))
+-- what reading comes to, from what is known, the lines so far, the number of the next line and the bytes
+-- before it: all lines, or the first bad line and its cause
+pub data Reads : Known → List Line → ℕ → ℕ → List (List ℕ) → Result (List Line) Bad → Type 0 where
+  -- the last line was read
+  ends : {k : Known} {lines : List Line} {number start : ℕ} → 3 ≤ k.section → Reads k lines number start [] (Ok lines)
+  -- a script that ends before its first bunch ends too early
+  ends_early : {k : Known} {lines : List Line} {number start : ℕ} → k.section < 3 → Reads k lines number start [] (Err (record { line = number; cause = cause.End }))
+  -- an empty line or a comment
+  skips : {k : Known} {lines : List Line} {number start : ℕ} {text : List ℕ} {texts : List (List ℕ)} {answer : Result (List Line) Bad} →
+      is_long number (start + (length text + 1)) ≡ false → is_skipped number text ≡ true →
+      Reads k lines (number + 1) (start + (length text + 1)) texts answer → Reads k lines number start (text ∷ texts) answer
+  -- a good line
+  takes : {k : Known} {lines : List Line} {number start : ℕ} {text : List ℕ} {texts : List (List ℕ)} {answer : Result (List Line) Bad} (what : LineKind) →
+      is_long number (start + (length text + 1)) ≡ false → is_skipped number text ≡ false → IsGood k what text →
+      Reads (known_after k what) (lines ++ record { number = number; what = what } ∷ []) (number + 1) (start + (length text + 1)) texts answer →
+      Reads k lines number start (text ∷ texts) answer
+  -- a bad line
+  stops : {k : Known} {lines : List Line} {number start : ℕ} {text : List ℕ} {texts : List (List ℕ)} (why : BadCause) →
+      IsBad k number (start + (length text + 1)) text why → Reads k lines number start (text ∷ texts) (Err (record { line = number; cause = why }))
 
 -- the bytes are read as these lines, or have this first bad line
 abbrev pub IsReading : List ℕ → Result (List Line) Bad → Type 0

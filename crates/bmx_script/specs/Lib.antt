@@ -1,7 +1,7 @@
-pub mod Distinct
+pub mod Bytes
 pub mod Grammar
+pub mod Inside
 pub mod Laws
-pub mod Parsing
 pub mod Printing
 pub mod Reader
 pub mod Spelling

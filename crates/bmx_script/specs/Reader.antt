@@ -1,64 +1,10 @@
--- The state of the reader between two lines, and what reading on from it comes to.
-use Rattle.std.specs.Prelude.{◌≡◌, ℕ, ◌+◌, ◌-◌, ◌^◌, ◌<◌, ◌≤◌, List, [], ◌∷◌, ◌++◌, length, Result, Ok, Err}
-use Rattle.bmx_numerals.specs.declared.fields.Field.{Field}
-use Rattle.bmx_numerals.specs.declared.fields.Field.TheVariants.{Form, Range, Good}
-use Rattle.bmx_script.specs.declared.lines.LineKind.{LineKind}
-use Rattle.bmx_script.specs.declared.lines.BadCause.TheVariants as cause
-use Rattle.bmx_script.specs.declared.verdicts.Verdict.{Verdict}
-use Rattle.bmx_script.specs.declared.verdicts.Verdict.TheVariants as verdict
-use Rattle.bmx_script.specs.declared.knowledge.Known.{Known}
-use Rattle.bmx_script.specs.declared.lines.Line.{Line}
+-- What reading a script answers.
+use Rattle.std.specs.Prelude.{ℕ, List, Result, Ok, Err}
 use Rattle.bmx_script.specs.declared.lines.Bad.{Bad}
-use Rattle.bmx_script.specs.declared.scripts.Reader.{Reader}
 use Rattle.bmx_script.specs.declared.scripts.Script.{Script}
 use Rattle.bmx_script.specs.declared.scripts.ScriptError.{ScriptError}
 use Rattle.bmx_script.specs.declared.scripts.ScriptError.TheVariants as errors
-use Rattle.bmx_script.specs.Spelling.{spelling}
-use Rattle.bmx_script.specs.Grammar.{Reads, IsReading, AreInOrder, AreNumbered, first_number, HasRoom, nothing_known, known_after, known_after_all}
-use Rattle.bmx_script.specs.Distinct.{AreDistinct}
-
--- what reading the texts from here comes to
-abbrev pub ReadsOn : Reader → List (List ℕ) → Result (List Line) Bad → Type 0
-ReadsOn r texts answer = Reads r.known r.lines r.number r.start texts answer
-
--- how many bytes there are up to the line feed of a line that begins here
-abbrev pub end_of : Reader → List ℕ → ℕ
-end_of r text = r.start + (length text + 1)
-
--- with a line more
-abbrev pub noted : Reader → LineKind → Reader
-noted r what = record {
-  known = known_after r.known what;
-  lines = r.lines ++ record { number = r.number; what = what } ∷ [];
-  number = r.number;
-  start = r.start;
-}
-
--- what a line comes to that is neither too far behind nor skipped
-abbrev pub verdict_of : Field LineKind → Verdict
-verdict_of Form = verdict.Wrong cause.Form
-verdict_of Range = verdict.Wrong cause.Range
-verdict_of (Good what) = verdict.Is what
-
--- how many bytes lines print from a line number on to another, by what is known before each
-abbrev pub print_length : Known → ℕ → List Line → ℕ → ℕ
-print_length k number [] next = next - number
-print_length k number (l ∷ ls) next =
-    l.number - number + (length (spelling k.bunches l.what) + 1) + print_length (known_after k l.what) (l.number + 1) ls next
-
--- the lines so far are in order, what is known is what they say, and they print to no more bytes than
--- were read
-pub record IsSound (r : Reader) : Type 0 where
-  pub order : AreInOrder nothing_known r.lines
-  pub known : r.known ≡ known_after_all nothing_known r.lines
-  pub distinct : AreDistinct r.known.bunches
-  pub room : HasRoom r.known
-  pub some : length r.lines < r.number
-  pub few : r.number ≤ 20001
-  pub short : r.start ≤ 2 ^ 20
-  pub first : first_number r.number r.lines ≡ 1
-  pub numbers : AreNumbered 0 r.number r.lines
-  pub printed : print_length nothing_known 1 r.lines r.number ≤ r.start
+use Rattle.bmx_script.specs.Grammar.{IsReading}
 
 -- a fact for a bad line; want of memory says nothing
 abbrev pub ForBad : (Bad → Type 0) → ScriptError → Type 0

@@ -11,19 +11,20 @@ use Rattle.bmx_script.specs.declared.lines.Line.{Line}
 use Rattle.bmx_script.specs.declared.lines.LineKind.{LineKind}
 use Rattle.bmx_script.specs.declared.lines.LineKind.TheVariants as line
 use Rattle.bmx_numerals.specs.Numerals.{numeral, signed_numeral}
+use Rattle.bmx_script.specs.Bytes.{space, line_feed, letter_r, at_sign}
 
 -- the word of a bunch, by its number among the bunches of the script
 abbrev pub word_of : List (List ℕ) → ℕ → List ℕ
 word_of bunches b = slice_index_or bunches b []
 
--- a register: `r` (the byte 114) and its number
+-- a register: `r` and its number
 abbrev pub register_word : ℕ → List ℕ
-register_word r = 114 ∷ numeral r
+register_word r = letter_r ∷ numeral r
 
--- an operand; an anchor is `@` (the byte 64) and the word of its bunch
+-- an operand; an anchor is `@` and the word of its bunch
 abbrev pub operand_word : List (List ℕ) → Operand → List ℕ
 operand_word bunches (operand.Register r) = register_word r
-operand_word bunches (operand.Anchor b) = 64 ∷ word_of bunches b
+operand_word bunches (operand.Anchor b) = at_sign ∷ word_of bunches b
 operand_word bunches (operand.Int k) = signed_numeral k
 operand_word bunches operand.Null = codes "null"
 
@@ -87,14 +88,14 @@ line_words bunches (line.Collect node bunch) = numeral node ∷ codes "collect" 
 line_words bunches (line.Sweep node) = numeral node ∷ codes "sweep" ∷ []
 line_words bunches line.Settle = codes "settle" ∷ []
 
--- words, each behind a space (the byte 32)
+-- words, each behind a space
 abbrev pub spaced : List (List ℕ) → List ℕ
 spaced [] = []
-spaced (w ∷ ws) = 32 ∷ (w ++ spaced ws)
+spaced (w ∷ ws) = space ∷ (w ++ spaced ws)
 
--- the bytes of a line, without its line feed: 32 is the space
+-- the bytes of a line, without its line feed
 abbrev pub spelling : List (List ℕ) → LineKind → List ℕ
-spelling bunches what = join_with_byte 32 (line_words bunches what)
+spelling bunches what = join_with_byte space (line_words bunches what)
 
 a_value_by_its_anchor : spelling (codes "main" ∷ []) (line.Do 0 (command.Set (operand.Register 5) 31 (operand.Anchor 0))) ≡ codes "0 set r5 31 @main"
 a_value_by_its_anchor = refl
@@ -102,12 +103,12 @@ a_value_by_its_anchor = refl
 a_table_of_a_late_phase : spelling [] (line.Table 1 0 2 (record { times = 1; phase = 8 })) ≡ codes "table 1 0 2 after 8"
 a_table_of_a_late_phase = refl
 
--- lines from a line number on, each at its own number and with a line feed (the byte 10) behind it;
+-- lines from a line number on, each at its own number and with a line feed behind it;
 -- what was skipped between them is empty lines
 abbrev pub printed : List (List ℕ) → ℕ → List Line → List ℕ
 printed bunches number [] = []
 printed bunches number (l ∷ ls) =
-    replicate (l.number - number) 10 ++ (spelling bunches l.what ++ 10 ∷ printed bunches (l.number + 1) ls)
+    replicate (l.number - number) line_feed ++ (spelling bunches l.what ++ line_feed ∷ printed bunches (l.number + 1) ls)
 
 a_line_at_three : printed [] 2 (record { number = 3; what = line.Nodes 1 } ∷ []) ≡ 10 ∷ codes "nodes 1" ++ 10 ∷ []
 a_line_at_three = refl

@@ -1,18 +1,28 @@
 ghost use Rattle.std.specs.Prelude.{◌≡◌, ◌++◌, OnOk, OnErr};
 ghost use Rattle.std.specs.List.{list_any, position_from};
-ghost use Rattle.bmx_script.specs.Grammar.{same_word, nothing_known, known_after, may_follow, section_of};
-ghost use Rattle.bmx_script.specs.Parsing.{first_limit};
+ghost use Rattle.bmx_script.specs.Grammar.{same_word, nothing_known, known_after, may_follow, section_of as section_of_lem};
+ghost use Rattle.bmx_script.specs.Inside.Parsing.{number_of, first_limit};
 
 use crate::lines::{BunchWords, LineKind};
-use bmx_numerals::Field;
+use bmx_numerals::Misfit;
 use bmx_types::{Items, NoMemory};
 use std::alloc::Global;
+
+/// The sections of a script, in their order.
+#[derive(Clone, Copy, Debug, PartialEq, Eq)]
+pub(crate) enum Section {
+    Version = 1,
+    Nodes = 2,
+    Bunches = 3,
+    Plan = 4,
+    Body = 5,
+    End = 6,
+}
 
 /// What is known before a line of a script.
 #[derive(Debug, Drop)]
 pub struct Known {
-    /// Of which kind the last line was: 0 none, 1 the version, 2 the nodes, 3 a bunch, 4 a plan line,
-    /// 5 a body line, 6 the end.
+    /// The number of the last line's section, 0 before the first line.
     pub section: u8,
     /// How many nodes there are, 0 while that isn't known.
     pub nodes: u8,
@@ -36,16 +46,17 @@ impl Known {
     }
 
     /// Whether a line of that section may stand here.
-    pub(crate) fn may_follow(&self, section: u8) -> bool
-        ensures { result ≡ may_follow self.now.section section }
+    pub(crate) fn may_follow(&self, section: Section) -> bool
+        ensures { result ≡ may_follow self.now.section (number_of section) }
     {
-        let last = if self.section < 3 {
-            self.section + 1
+        let (before, here) = (self.section, section as u8);
+        let last = if before < Section::Bunches as u8 {
+            before + 1
         } else {
-            6
+            Section::End as u8
         };
-        let again = self.section == 4 || self.section == 5;
-        (self.section < section && section <= last) || (self.section == section && again)
+        let again = before == Section::Plan as u8 || before == Section::Body as u8;
+        (before < here && here <= last) || (before == here && again)
     }
 
     /// The number of the bunch of that word.
@@ -65,12 +76,12 @@ impl Known {
     }
 
     /// Whether a line may say how many segments there are, since none has said it.
-    pub(crate) fn first_limit(&self) -> Field<()>
+    pub(crate) fn first_limit(&self) -> Result<(), Misfit>
         ensures { result ≡ first_limit self.now.limit }
     {
         match self.limit {
-            None => Field::Good(()),
-            Some(_) => Field::Range,
+            None => Ok(()),
+            Some(_) => Err(Misfit::Range),
         }
     }
 
@@ -85,29 +96,29 @@ impl Known {
             LineKind::Segments { limit } => self.limit = Some(*limit),
             _ => {}
         }
-        self.section = section_number(what);
+        self.section = section_of(what) as u8;
         Ok(())
     }
 }
 
-/// In which section of a script a line stands, from 1.
-fn section_number(what: &LineKind) -> u8
-    ensures { result ≡ section_of what.now }
+/// In which section of a script a line stands.
+fn section_of(what: &LineKind) -> Section
+    ensures { number_of result ≡ section_of_lem what.now }
 {
     match what {
-        LineKind::Version => 1,
-        LineKind::Nodes { .. } => 2,
-        LineKind::Bunch { .. } => 3,
+        LineKind::Version => Section::Version,
+        LineKind::Nodes { .. } => Section::Nodes,
+        LineKind::Bunch { .. } => Section::Bunches,
         LineKind::Segments { .. }
         | LineKind::Table { .. }
         | LineKind::TablesLose { .. }
-        | LineKind::Save { .. } => 4,
+        | LineKind::Save { .. } => Section::Plan,
         LineKind::Phase
         | LineKind::Quiet
         | LineKind::Do { .. }
         | LineKind::Collect { .. }
-        | LineKind::Sweep { .. } => 5,
-        LineKind::Settle => 6,
+        | LineKind::Sweep { .. } => Section::Body,
+        LineKind::Settle => Section::End,
     }
 }
 

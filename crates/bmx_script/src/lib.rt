@@ -13,9 +13,8 @@ mod tests;
 mod verdicts;
 
 pub use knowledge::Known;
-pub use laws::reading_is_determined;
+pub use laws::{prefix_is_enough, reading_is_determined};
 pub use lines::{Bad, BadCause, BunchWords, Fate, Line, LineKind, Lines};
-pub use printing::{Shown, print_line};
+pub use printing::{Shown, ShownLine, print_line, shown_line};
 pub use scripts::{Script, ScriptError, read_script};
 pub use spelling::print_script;
-pub use verdicts::Verdict;

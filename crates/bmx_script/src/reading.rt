@@ -1,64 +1,80 @@
-ghost use Rattle.std.specs.Prelude.{◌≡◌, ◌==◌, ◌≤◌, length, map, codes, true, IfOk};
+ghost use Rattle.std.specs.Prelude.{◌≡◌, ◌==◌, ◌≤◌, ◌<◌, length, map, true, IfOk, IfSome, IfNone};
 ghost use Rattle.std.specs.List.{list_all, slice_split};
-ghost use Rattle.bmx_numerals.specs.Fields.{field_below};
-ghost use Rattle.bmx_script.specs.Grammar.{is_bunch_word as is_bunch_word_lem, same_word, is_word_byte as is_word_byte_lem, begins_with_letter as begins_with_letter_lem, HasRoom};
-ghost use Rattle.bmx_script.specs.Parsing.{register_field, bunch_field, source_field, value_field, begins_as_source as begins_as_source_lem, place_field, of_one, of_two, of_three, line_field, placed_line, head_line as head_line_lem, setting_line as setting_line_lem, version_field, nodes_field, segments_field, declared_bunch, read_line as read_line_lem};
+ghost use Rattle.bmx_numerals.specs.Words.{read_below};
+ghost use Rattle.bmx_script.specs.Grammar.{is_bunch_word as is_bunch_word_lem, is_word_byte as is_word_byte_lem, begins_with_letter as begins_with_letter_lem};
+ghost use Rattle.bmx_script.specs.Inside.Reader.{HasRoom};
+ghost use Rattle.bmx_script.specs.Inside.Parsing.{read_register, read_bunch, read_source, read_value, begins_as_source as begins_as_source_lem, read_place, of_one, of_two, of_three, line_of, placed_line, head_line as head_line_lem, setting_line as setting_line_lem, read_version, read_nodes, read_segments, declared_bunch, read_line as read_line_lem};
 
-use crate::knowledge::{Known, is_word};
+use crate::knowledge::{Known, Section, is_word};
 use crate::lines::LineKind;
-use bmx_numerals::{Field, integer, number_below, number_within};
+use arrayvec::ArrayVec;
+use bmx_numerals::{Misfit, both, integer, number_below, number_within};
 use bmx_types::{BunchNo, Command, NoMemory, NodeNo, Operand, Text};
-use std::alloc::{AllocError, Global};
+use std::alloc::Global;
 use std::str;
 
-/// The same reading of another value: what is made of the good one.
-macro_rules! made_of {
-    ($field:expr, $value:pat => $made:expr) => {
-        match $field {
-            Field::Form => Field::Form,
-            Field::Range => Field::Range,
-            Field::Good($value) => Field::Good($made),
-        }
-    };
-}
+/// How many words a line has at most.
+const MOST_WORDS: usize = 5;
+
+/// The words of a line.
+type Words<'a> = ArrayVec<&'a [u8], MOST_WORDS>;
 
 /// What a line says by its words, on what is known before it. Linear in the line's length.
+#[inline(always)]
 pub(crate) fn read_line(
     alloc: Global,
     known: &Known,
     text: &[u8],
-) -> Result<Field<LineKind>, NoMemory>
+) -> Result<Result<LineKind, Misfit>, NoMemory>
     requires { HasRoom known.now }
     ensures { IfOk result (λ line. line ≡ read_line_lem known.now text.now) }
 {
-    let words = words_of(alloc, text)?;
-    line(alloc, known, words.as_slice())
-}
-
-/// What a line says by its words.
-fn line(alloc: Global, known: &Known, words: &[&[u8]]) -> Result<Field<LineKind>, NoMemory>
-    requires { HasRoom known.now }
-    ensures { IfOk result (λ line. line ≡ line_field known.now (map (λ w. w.now) words.now)) }
-{
-    match words {
-        [key, word] => head_line(alloc, known, key, word),
-        [node, verb, a] => Ok(node_line(known, node, command_of_one(known, verb, a))),
-        [node, verb, a, b] => Ok(node_line(known, node, command_of_two(known, verb, a, b))),
-        [node, verb, a, b, c] => {
-            let command = command_of_three(known, verb, (a, b, c));
-            Ok(node_line(known, node, command))
-        }
-        [] => Ok(Field::Form),
-        [_] => Ok(Field::Form),
-        [_, _, _, _, _, _, ..] => Ok(Field::Form),
+    match words_of(text) {
+        Some(words) => line(alloc, known, words.as_slice()),
+        None => Ok(Err(Misfit::Form)),
     }
 }
 
-/// The words of a line: what lies between its spaces.
-fn words_of(alloc: Global, text: &[u8]) -> Result<Vec<&[u8]>, AllocError>
-    ensures { IfOk result (λ words. map (λ w. w.now) words.items ≡ slice_split (λ c. c == 32) text.now) }
+/// What a line says by its words.
+#[inline(always)]
+fn line(alloc: Global, known: &Known, words: &[&[u8]]) -> Result<Result<LineKind, Misfit>, NoMemory>
+    requires { HasRoom known.now }
+    ensures { IfOk result (λ line. line ≡ line_of known.now (map (λ w. w.now) words.now)) }
 {
-    text.split(|b| *b == b' ').collect(alloc)
+    let (node, command) = match words {
+        [node, verb, a] => (node, command_of_one(known, verb, a)),
+        [node, verb, a, b] => (node, command_of_two(known, verb, a, b)),
+        [node, verb, a, b, c] => (node, command_of_three(known, verb, (a, b, c))),
+        [key, word] => return head_line(alloc, known, key, word),
+        [] => return Ok(Err(Misfit::Form)),
+        [_] => return Ok(Err(Misfit::Form)),
+        [_, _, _, _, _, _, ..] => return Ok(Err(Misfit::Form)),
+    };
+    Ok(node_line(known, node, command))
+}
+
+/// The words of a line, which lie between its spaces; None where they are more than a line has.
+#[inline(always)]
+fn words_of(text: &[u8]) -> Option<Words<'_>>
+    ensures some { IfSome result (λ words. map (λ w. w.now) words.items ≡ slice_split (λ c. c == 32) text.now) }
+    ensures none { IfNone result (5 < length (slice_split (λ c. c == 32) text.now)) }
+{
+    let mut words = ArrayVec::new();
+    let mut from = 0;
+    for (at, byte) in text.iter().enumerate() {
+        if *byte == b' ' {
+            if words.is_full() {
+                return None;
+            }
+            words.push(&text[from..at]);
+            from = at + 1;
+        }
+    }
+    if words.is_full() {
+        return None;
+    }
+    words.push(&text[from..]);
+    Some(words)
 }
 
 /// A line of two words: a bunch, or a key and a number.
@@ -67,65 +83,72 @@ fn head_line(
     known: &Known,
     key: &[u8],
     word: &[u8],
-) -> Result<Field<LineKind>, NoMemory>
+) -> Result<Result<LineKind, Misfit>, NoMemory>
     ensures { IfOk result (λ line. line ≡ head_line_lem known.now key.now word.now) }
 {
-    if is_word(key, "bunch") && known.may_follow(3) && is_bunch_word(word) {
+    if is_word(key, "bunch") && known.may_follow(Section::Bunches) && is_bunch_word(word) {
         return bunch_line(alloc, known, word);
     }
     Ok(setting_line(known, key, word))
 }
 
 /// `bmx 1`, `nodes N` or `segments L`, each in its place.
-fn setting_line(known: &Known, key: &[u8], word: &[u8]) -> Field<LineKind>
+fn setting_line(known: &Known, key: &[u8], word: &[u8]) -> Result<LineKind, Misfit>
     ensures { result ≡ setting_line_lem known.now key.now word.now }
 {
-    if is_word(key, "bmx") && known.may_follow(1) {
+    if is_word(key, "bmx") && known.may_follow(Section::Version) {
         version_line(word)
-    } else if is_word(key, "nodes") && known.may_follow(2) {
+    } else if is_word(key, "nodes") && known.may_follow(Section::Nodes) {
         nodes_line(word)
-    } else if is_word(key, "segments") && known.may_follow(4) {
+    } else if is_word(key, "segments") && known.may_follow(Section::Plan) {
         segments_line(known, word)
     } else {
-        Field::Form
+        Err(Misfit::Form)
     }
 }
 
 /// The version.
-fn version_line(word: &[u8]) -> Field<LineKind>
-    ensures { result ≡ version_field word.now }
+fn version_line(word: &[u8]) -> Result<LineKind, Misfit>
+    ensures { result ≡ read_version word.now }
 {
     if is_word(word, "1") {
-        Field::Good(LineKind::Version)
+        Ok(LineKind::Version)
     } else {
-        Field::Form
+        Err(Misfit::Form)
     }
 }
 
 /// How many nodes there are.
-fn nodes_line(word: &[u8]) -> Field<LineKind>
-    ensures { result ≡ nodes_field word.now }
+fn nodes_line(word: &[u8]) -> Result<LineKind, Misfit>
+    ensures { result ≡ read_nodes word.now }
 {
-    made_of!(number_within(word, 1, 1), count => LineKind::Nodes { count: count as u8 })
+    let count = number_within(word, 1, 1)? as u8;
+    Ok(LineKind::Nodes { count })
 }
 
 /// How many segments a node may make.
-fn segments_line(known: &Known, word: &[u8]) -> Field<LineKind>
-    ensures { result ≡ segments_field known.now word.now }
+fn segments_line(known: &Known, word: &[u8]) -> Result<LineKind, Misfit>
+    ensures { result ≡ read_segments known.now word.now }
 {
-    let limit = number_within(word, 1, 65_535).and(known.first_limit());
-    made_of!(limit, (limit, ()) => LineKind::Segments { limit: limit as u32 })
+    let (limit, ()) = both(number_within(word, 1, 65_535), known.first_limit())?;
+    Ok(LineKind::Segments {
+        limit: limit as u32,
+    })
 }
 
 /// A bunch with a word of its own.
-fn bunch_line(alloc: Global, known: &Known, word: &[u8]) -> Result<Field<LineKind>, NoMemory>
+fn bunch_line(
+    alloc: Global,
+    known: &Known,
+    word: &[u8],
+) -> Result<Result<LineKind, Misfit>, NoMemory>
     requires { is_bunch_word_lem word.now ≡ true }
     ensures { IfOk result (λ line. line ≡ declared_bunch known.now word.now) }
 {
     if known.has(word) || known.bunches.len() >= 16 {
-        return Ok(Field::Range);
+        return Ok(Err(Misfit::Range));
     }
-    Ok(Field::Good(LineKind::Bunch {
+    Ok(Ok(LineKind::Bunch {
         word: text_of(alloc, word)?,
         file: None,
     }))
@@ -143,113 +166,138 @@ fn text_of(alloc: Global, word: &[u8]) -> Result<Text, NoMemory>
 }
 
 /// A line of a node: its number, and a command.
-fn node_line(known: &Known, node: &[u8], command: Field<Command>) -> Field<LineKind>
+#[inline(always)]
+fn node_line(
+    known: &Known,
+    node: &[u8],
+    command: Result<Command, Misfit>,
+) -> Result<LineKind, Misfit>
     requires { HasRoom known.now }
     ensures { result ≡ placed_line known.now node.now command }
 {
-    if !known.may_follow(5) {
-        return Field::Form;
+    if !known.may_follow(Section::Body) {
+        return Err(Misfit::Form);
     }
-    made_of!(node_number(known, node).and(command), (node, command) => LineKind::Do { node, command })
+    let (node, command) = both(node_number(known, node), command)?;
+    Ok(LineKind::Do { node, command })
 }
 
 /// A node's number.
-fn node_number(known: &Known, word: &[u8]) -> Field<NodeNo>
+#[inline(always)]
+fn node_number(known: &Known, word: &[u8]) -> Result<NodeNo, Misfit>
     requires { HasRoom known.now }
-    ensures { result ≡ field_below known.now.nodes word.now }
+    ensures { result ≡ read_below known.now.nodes word.now }
 {
-    match small_number(word, known.nodes as u16) {
-        Field::Form => Field::Form,
-        Field::Range => Field::Range,
-        Field::Good(number) => match NodeNo::new(number) {
-            Some(node) => Field::Good(node),
-            None => Field::Range,
-        },
-    }
+    let number = small_number(word, u16::from(known.nodes))?;
+    NodeNo::new(number).ok_or(Misfit::Range)
 }
 
 /// `drop REG`, `read SRC`, `write SRC` and `done SRC`.
-fn command_of_one(known: &Known, verb: &[u8], a: &[u8]) -> Field<Command>
+#[inline(always)]
+fn command_of_one(known: &Known, verb: &[u8], a: &[u8]) -> Result<Command, Misfit>
     requires { HasRoom known.now }
     ensures { result ≡ of_one known.now verb.now a.now }
 {
     if is_word(verb, "drop") {
-        made_of!(register(a), register => Command::Drop { register })
+        let register = register(a)?;
+        Ok(Command::Drop { register })
     } else if is_word(verb, "read") {
-        made_of!(source(known, a), on => Command::Read { on })
+        let on = source(known, a)?;
+        Ok(Command::Read { on })
     } else if is_word(verb, "write") {
-        made_of!(source(known, a), on => Command::Write { on })
+        let on = source(known, a)?;
+        Ok(Command::Write { on })
     } else if is_word(verb, "done") {
-        made_of!(source(known, a), on => Command::Done { on })
+        let on = source(known, a)?;
+        Ok(Command::Done { on })
     } else {
-        Field::Form
+        Err(Misfit::Form)
     }
 }
 
 /// `copy REG VAL`, `show SRC I` and `same VAL VAL`.
-fn command_of_two(known: &Known, verb: &[u8], a: &[u8], b: &[u8]) -> Field<Command>
+#[inline(always)]
+fn command_of_two(known: &Known, verb: &[u8], a: &[u8], b: &[u8]) -> Result<Command, Misfit>
     requires { HasRoom known.now }
     ensures { result ≡ of_two known.now verb.now a.now b.now }
 {
     if is_word(verb, "copy") {
-        let fields = register(a).and(value(known, b));
-        made_of!(fields, (register, value) => Command::Copy { register, value })
+        let (register, value) = both(register(a), value(known, b))?;
+        Ok(Command::Copy { register, value })
     } else if is_word(verb, "show") {
-        made_of!(place(known, a, b), (on, index) => Command::Show { on, index })
+        let (on, index) = place(known, a, b)?;
+        Ok(Command::Show { on, index })
     } else if is_word(verb, "same") {
-        let fields = value(known, a).and(value(known, b));
-        made_of!(fields, (left, right) => Command::Same { left, right })
+        let (left, right) = both(value(known, a), value(known, b))?;
+        Ok(Command::Same { left, right })
     } else {
-        Field::Form
+        Err(Misfit::Form)
     }
 }
 
 /// `new REG B S`, `set SRC I VAL`, `add SRC I K` and `get REG SRC I`.
-fn command_of_three(known: &Known, verb: &[u8], words: (&[u8], &[u8], &[u8])) -> Field<Command>
+#[inline(always)]
+fn command_of_three(
+    known: &Known,
+    verb: &[u8],
+    words: (&[u8], &[u8], &[u8]),
+) -> Result<Command, Misfit>
     requires { HasRoom known.now }
     ensures { result ≡ of_three known.now verb.now words.entry.0.now words.entry.1.now words.entry.2.now }
 {
     let (a, b, c) = words;
     if is_word(verb, "new") {
-        let fields = register(a).and(bunch(known, b)).and(small_number(c, 33));
-        made_of!(fields, ((register, bunch), size) => Command::New { register, bunch, size })
+        let names = both(register(a), bunch(known, b));
+        let ((register, bunch), size) = both(names, small_number(c, 33))?;
+        Ok(Command::New {
+            register,
+            bunch,
+            size,
+        })
     } else if is_word(verb, "set") {
-        let fields = place(known, a, b).and(value(known, c));
-        made_of!(fields, ((on, index), value) => Command::Set { on, index, value })
+        let ((on, index), value) = both(place(known, a, b), value(known, c))?;
+        Ok(Command::Set { on, index, value })
     } else if is_word(verb, "add") {
-        let fields = place(known, a, b).and(integer(c));
-        made_of!(fields, ((on, index), by) => Command::Add { on, index, by })
+        let ((on, index), by) = both(place(known, a, b), integer(c))?;
+        Ok(Command::Add { on, index, by })
     } else if is_word(verb, "get") {
-        let fields = register(a).and(place(known, b, c));
-        made_of!(fields, (register, (on, index)) => Command::Get { register, on, index })
+        let (register, (on, index)) = both(register(a), place(known, b, c))?;
+        Ok(Command::Get {
+            register,
+            on,
+            index,
+        })
     } else {
-        Field::Form
+        Err(Misfit::Form)
     }
 }
 
 /// A field of an object: a source and an index.
-fn place(known: &Known, on: &[u8], index: &[u8]) -> Field<(Operand, u8)>
+#[inline(always)]
+fn place(known: &Known, on: &[u8], index: &[u8]) -> Result<(Operand, u8), Misfit>
     requires { HasRoom known.now }
-    ensures { result ≡ place_field known.now on.now index.now }
+    ensures { result ≡ read_place known.now on.now index.now }
 {
-    source(known, on).and(small_number(index, 256))
+    both(source(known, on), small_number(index, 256))
 }
 
 /// A value: `null`, a source or an integer.
-fn value(known: &Known, word: &[u8]) -> Field<Operand>
+#[inline(always)]
+fn value(known: &Known, word: &[u8]) -> Result<Operand, Misfit>
     requires { HasRoom known.now }
-    ensures { result ≡ value_field known.now word.now }
+    ensures { result ≡ read_value known.now word.now }
 {
     if is_word(word, "null") {
-        Field::Good(Operand::Null)
+        Ok(Operand::Null)
     } else if begins_as_source(word) {
         source(known, word)
     } else {
-        made_of!(integer(word), integer => Operand::Int(integer))
+        Ok(Operand::Int(integer(word)?))
     }
 }
 
 /// Whether a word begins as a source does.
+#[inline(always)]
 fn begins_as_source(word: &[u8]) -> bool
     ensures { result ≡ begins_as_source_lem word.now }
 {
@@ -260,49 +308,52 @@ fn begins_as_source(word: &[u8]) -> bool
 }
 
 /// A source: a register, or `@` and a bunch's word, for its anchor.
-fn source(known: &Known, word: &[u8]) -> Field<Operand>
+#[inline(always)]
+fn source(known: &Known, word: &[u8]) -> Result<Operand, Misfit>
     requires { HasRoom known.now }
-    ensures { result ≡ source_field known.now word.now }
+    ensures { result ≡ read_source known.now word.now }
 {
     match word {
-        [b'@', name @ ..] => made_of!(bunch(known, name), bunch => Operand::Anchor(bunch)),
-        _ => made_of!(register(word), register => Operand::Register(register)),
+        [b'@', name @ ..] => Ok(Operand::Anchor(bunch(known, name)?)),
+        _ => Ok(Operand::Register(register(word)?)),
     }
 }
 
 /// A register's number.
-fn register(word: &[u8]) -> Field<u8>
-    ensures { result ≡ register_field word.now }
+#[inline(always)]
+fn register(word: &[u8]) -> Result<u8, Misfit>
+    ensures { result ≡ read_register word.now }
 {
     match word {
         [b'r', digits @ ..] => small_number(digits, 16),
-        _ => Field::Form,
+        _ => Err(Misfit::Form),
     }
 }
 
 /// A bunch, by its word.
-fn bunch(known: &Known, word: &[u8]) -> Field<BunchNo>
+fn bunch(known: &Known, word: &[u8]) -> Result<BunchNo, Misfit>
     requires { HasRoom known.now }
-    ensures { result ≡ bunch_field known.now word.now }
+    ensures { result ≡ read_bunch known.now word.now }
 {
     if !is_bunch_word(word) {
-        return Field::Form;
+        return Err(Misfit::Form);
     }
     match known.position(word) {
-        None => Field::Range,
+        None => Err(Misfit::Range),
         Some(place) => match BunchNo::new(place as u8) {
-            Some(bunch) => Field::Good(bunch),
-            None => Field::Range,
+            Some(bunch) => Ok(bunch),
+            None => Err(Misfit::Range),
         },
     }
 }
 
 /// A number below a limit of at most 256.
-fn small_number(word: &[u8], limit: u16) -> Field<u8>
+#[inline(always)]
+fn small_number(word: &[u8], limit: u16) -> Result<u8, Misfit>
     requires { limit ≤ 256 }
-    ensures { result ≡ field_below limit word.now }
+    ensures { result ≡ read_below limit word.now }
 {
-    made_of!(number_below(word, u64::from(limit)), number => number as u8)
+    Ok(number_below(word, u64::from(limit))? as u8)
 }
 
 /// Whether a word may be that of a bunch.

@@ -1,14 +1,16 @@
 ghost use Rattle.std.specs.Prelude.{◌≡◌, ◌==◌, ◌≢◌, ◌+◌, ◌^◌, ◌<◌, ◌≤◌, [], ◌∷◌, length, IfOk, IfErr, IfSome, OnOk, Ok, Err};
 ghost use Rattle.std.specs.List.{position_from};
-ghost use Rattle.bmx_script.specs.Grammar.{AreScript, nodes_of, bunches_of, limit_of, lines_of, IsVerdict, is_comment as is_comment_lem, is_long as is_long_lem, is_skipped as is_skipped_lem};
-ghost use Rattle.bmx_script.specs.Reader.{ReadsOn, IsSound, IsAnswer, ForBad, end_of, noted, verdict_of as verdict_of_lem};
+ghost use Rattle.bmx_script.specs.Grammar.{AreScript, nodes_of, bunches_of, limit_of, lines_of, is_comment as is_comment_lem, is_long as is_long_lem, is_skipped as is_skipped_lem};
+ghost use Rattle.bmx_script.specs.Reader.{IsAnswer, ForBad};
+ghost use Rattle.bmx_script.specs.Inside.Reader.{IsVerdict, ReadsOn, IsSound, end_of, noted, verdict_of as verdict_of_lem};
 
-use crate::knowledge::Known;
+use crate::knowledge::{Known, Section};
 use crate::lines::{Bad, BadCause, BunchWords, Line, LineKind, Lines};
 use crate::reading::read_line;
 use crate::verdicts::Verdict;
-use bmx_numerals::Field;
+use bmx_numerals::Misfit;
 use bmx_types::{Items, NoMemory};
+use memchr::memchr;
 use std::alloc::Global;
 use std::marker::Model;
 
@@ -114,6 +116,7 @@ pub fn read_script(alloc: Global, bytes: &[u8]) -> Result<Script, ScriptError>
 }
 
 /// The first line of a text, and what is behind its line feed.
+#[inline(always)]
 fn first_line(bytes: &[u8]) -> (&[u8], &[u8])
     requires { 0 < length bytes.now }
     ensures lines { lines_of bytes.now ≡ result.0.now ∷ lines_of result.1.now }
@@ -126,15 +129,17 @@ fn first_line(bytes: &[u8]) -> (&[u8], &[u8])
 }
 
 /// Where the first line feed stands.
+#[inline(always)]
 fn line_feed_in(bytes: &[u8]) -> Option<usize>
     ensures found { result ≡ position_from (λ c. c == 10) 0 bytes.now }
     ensures within { IfSome result (λ at. at < length bytes.now) }
 {
-    bytes.iter().position(|b| *b == b'\n')
+    memchr(b'\n', bytes)
 }
 
 impl Reader {
     /// Goes on over a line.
+    #[inline(always)]
     fn take(&mut self, alloc: Global, text: &[u8]) -> Result<(), ScriptError>
         requires { IsSound self.old }
         ensures on { OnOk result ((texts : _) (answer : _) → ReadsOn self.new texts answer → ReadsOn self.old (text.now ∷ texts) answer) }
@@ -155,6 +160,7 @@ impl Reader {
     }
 
     /// Keeps a line of the script.
+    #[inline(always)]
     fn note(&mut self, alloc: Global, what: LineKind) -> Result<(), NoMemory>
         ensures { OnOk result (self.new ≡ noted self.old what) }
     {
@@ -164,6 +170,7 @@ impl Reader {
     }
 
     /// What a line comes to here.
+    #[inline(always)]
     fn judge(&self, alloc: Global, text: &[u8]) -> Result<Verdict, NoMemory>
         requires { IsSound self.now }
         ensures { IfOk result (λ v. IsVerdict self.now.known self.now.number (end_of self.now text.now) text.now v) }
@@ -179,6 +186,7 @@ impl Reader {
     }
 
     /// Whether a line here is too far behind in the script.
+    #[inline(always)]
     fn is_long(&self, text: &[u8]) -> bool
         requires { self.now.start ≤ 2 ^ 20 }
         ensures { result ≡ is_long_lem self.now.number (end_of self.now text.now) }
@@ -187,6 +195,7 @@ impl Reader {
     }
 
     /// Whether a line here is empty or a comment.
+    #[inline(always)]
     fn is_skipped(&self, text: &[u8]) -> bool
         ensures { result ≡ is_skipped_lem self.now.number text.now }
     {
@@ -200,7 +209,7 @@ impl Reader {
         ensures bad { IfErr result (ForBad (λ why. ReadsOn self [] (Err why))) }
         ensures memory { result ≢ Err ScriptError.NoMemory }
     {
-        if self.known.section < 3 {
+        if self.known.section < Section::Bunches as u8 {
             return Err(ScriptError::Bad(Bad {
                 line: self.number,
                 cause: BadCause::End,
@@ -214,6 +223,7 @@ impl Reader {
 }
 
 /// Whether a line is empty or a comment.
+#[inline(always)]
 fn is_comment(text: &[u8]) -> bool
     ensures { result ≡ is_comment_lem text.now }
 {
@@ -221,12 +231,13 @@ fn is_comment(text: &[u8]) -> bool
 }
 
 /// What a line comes to that is neither too far behind nor skipped.
-fn verdict_of(line: Field<LineKind>) -> Verdict
+#[inline(always)]
+fn verdict_of(line: Result<LineKind, Misfit>) -> Verdict
     ensures { result ≡ verdict_of_lem line }
 {
     match line {
-        Field::Form => Verdict::Wrong(BadCause::Form),
-        Field::Range => Verdict::Wrong(BadCause::Range),
-        Field::Good(what) => Verdict::Is(what),
+        Err(Misfit::Form) => Verdict::Wrong(BadCause::Form),
+        Err(Misfit::Range) => Verdict::Wrong(BadCause::Range),
+        Ok(what) => Verdict::Is(what),
     }
 }

@@ -1,4 +1,6 @@
-use crate::{Bad, BadCause, LineKind, ScriptError, Shown, print_line, print_script, read_script};
+use crate::{
+    Bad, BadCause, LineKind, ScriptError, Shown, print_line, print_script, read_script, shown_line,
+};
 use bmx_types::{Name, NodeNo, Refusal, Text, Val};
 use std::test::Fail;
 
@@ -178,6 +180,7 @@ fn printed_lines(rt: HostRuntime) -> Result<(), Fail> {
     ] {
         let line = print_line(rt.alloc(), node, 12, &answer)?;
         assert_eq!(rt; line.as_str(), text);
+        assert_eq!(rt; shown_line(node, 12, &answer).as_str(), text);
     }
     Ok(())
 }

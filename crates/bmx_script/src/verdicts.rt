@@ -2,7 +2,7 @@ use crate::lines::{BadCause, LineKind};
 
 /// What a line of a script comes to.
 #[derive(Debug, Drop)]
-pub enum Verdict {
+pub(crate) enum Verdict {
     /// It is empty or a comment.
     Skipped,
     /// It is a good line.

@@ -1,8 +1,8 @@
-use Rattle.std.proofs.Common.{◌≡◌, [], ◌∷◌, List, ℕ, sym, ◌∙◌, ap, subst, arith, length, ◌≤◌}
+use Rattle.std.proofs.Common.{◌≡◌, [], ◌∷◌, List, ℕ, sym, ◌∙◌, subst, arith, ◌≤◌}
 use Rattle.bmx_script.specs.declared.lines.Line.{Line}
 use Rattle.bmx_graph.specs.State.{State, opening_state}
 use Rattle.bmx_cli.specs.Runs.{anchor_birth, opening_of}
-use Rattle.bmx_cli.specs.Progress.{IsAt}
+use Rattle.bmx_cli.specs.Inside.Progress.{IsAt}
 use Rattle.bmx_cli.proofs.OneNode.{one_bunch_of}
 use Rattle.bmx_cli.proofs.Steps.{started, one_anchor}
 use Rattle.bmx_cli.proofs.runs.run_script.Goals as goal

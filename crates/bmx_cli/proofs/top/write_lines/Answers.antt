@@ -1,27 +1,40 @@
-use Rattle.std.proofs.Common.{◌≡◌, ◌+◌, ◌-◌, ◌≤◌, List, ℕ, Option, length, take, drop, subst, ap, arith, rules}
-use Rattle.std.proofs.Math.Nat.{add-sub_cancel_left}
+use Rattle.std.proofs.Common.{◌≡◌, ◌+◌, suc, List, ℕ, Option, ◌++◌, take, drop, subst, sym, ap, ◌∙◌, arith, rules}
 use Rattle.std.specs.Io.KnownBytes.{Appends}
+use Rattle.std.proofs.KnownBytes.{Appends-trans}
 use Rattle.bmx_outside.specs.Streams.{AppendsPart}
-use Rattle.bmx_outside.proofs.Streams.{Appends-take_add}
-use Rattle.bmx_cli.proofs.Writing.{part_of}
+use Rattle.bmx_cli.specs.declared.runs.Step.{Step}
+use Rattle.bmx_cli.specs.Inside.Writing.{printed_by}
+use Rattle.bmx_cli.proofs.Writing.{printed-split, printed-more, part_of}
 use Rattle.bmx_cli.proofs.top.write_lines.Goals as goal
 
-pub loop-at-preserved : goal.loop-at-preserved
-loop-at-preserved g c =
-    let room : c.loop-at.at + c.line_length.result ≤ length c.args.text.now = omega (arith, c.line_length.ensures.range.1) in
-    let piece : Appends (g.K.Sink.out c.loop-at.sink) (g.K.Sink.out c.write_all.new.sink) (take c.line_length.result (drop c.loop-at.at c.args.text.now)) =
-    subst (λ (n : ℕ). Appends (g.K.Sink.out c.loop-at.sink) (g.K.Sink.out c.write_all.new.sink) (take n (drop c.loop-at.at c.args.text.now))) (add-sub_cancel_left c.loop-at.at c.line_length.result) c.in_ok-write_all.ensures.ok in
+pub loop-step-preserved : goal.loop-step-preserved
+loop-step-preserved g c =
+    let steps : List Step = c.args.steps.now in
+    let i : ℕ = c.loop-step.step-index in
+    let step : Step = c.step-item.result in
+    let out : _ → Option (List ℕ) = g.K.Sink.out in
+    let piece : Appends (out c.loop-step.sink) (out c.write_line.new.sink) step.printed =
+    subst (λ (t : List ℕ). Appends (out c.loop-step.sink) (out c.write_line.new.sink) t) c.as_bytes.ensures c.in_ok-write_line.ensures.ok in
+    let more : printed_by (take (i + 1) steps) ≡ printed_by (take i steps) ++ step.printed =
+    printed-more steps i step c.loop-step-test.true ∙ ap (λ (s : Step). printed_by (take i steps) ++ s.printed) (sym c.step-item.is) in
     record {
-      in_range = room;
-      written = Appends-take_add _ _ _ c.args.text.now c.loop-at.at c.line_length.result c.loop-at.invariant.written piece;
-      counted = omega (arith, c.in_ok-write_all.ensures.faults);
+      written = subst (λ (t : List ℕ). Appends (out c.args.sink.now) (out c.write_line.new.sink) t) (sym more)
+          (Appends-trans (out c.args.sink.now) (out c.loop-step.sink) (out c.write_line.new.sink) _ _ c.loop-step.invariant.written piece);
+      counted = omega (arith, c.in_ok-write_line.ensures.faults, c.loop-step.invariant.counted);
     }
 
-pub returns-in_err-write_all-clause-err : goal.returns-in_err-write_all-clause-err
-returns-in_err-write_all-clause-err g c =
-    let room : c.loop-at.at + c.line_length.result ≤ length c.args.text.now = omega (arith, c.line_length.ensures.range.1) in
-    let piece : AppendsPart (g.K.Sink.out c.loop-at.sink) (g.K.Sink.out c.write_all.new.sink) (take c.line_length.result (drop c.loop-at.at c.args.text.now)) =
-    subst (λ (n : ℕ). AppendsPart (g.K.Sink.out c.loop-at.sink) (g.K.Sink.out c.write_all.new.sink) (take n (drop c.loop-at.at c.args.text.now))) (add-sub_cancel_left c.loop-at.at c.line_length.result) c.in_err-write_all.ensures.err in
-    let all : AppendsPart (g.K.Sink.out c.args.sink.now) (g.K.Sink.out c.write_all.new.sink) c.args.text.now =
-    part_of (g.K.Sink.out c.args.sink.now) (g.K.Sink.out c.loop-at.sink) (g.K.Sink.out c.write_all.new.sink) c.args.text.now c.loop-at.at c.line_length.result room c.loop-at.invariant.written piece in
+pub returns-in_err-write_line-clause-err : goal.returns-in_err-write_line-clause-err
+returns-in_err-write_line-clause-err g c =
+    let steps : List Step = c.args.steps.now in
+    let i : ℕ = c.loop-step.step-index in
+    let step : Step = c.step-item.result in
+    let out : _ → Option (List ℕ) = g.K.Sink.out in
+    let piece : AppendsPart (out c.loop-step.sink) (out c.write_line.new.sink) step.printed =
+    subst (λ (t : List ℕ). AppendsPart (out c.loop-step.sink) (out c.write_line.new.sink) t) c.as_bytes.ensures c.in_err-write_line.ensures.err in
+    let split : printed_by steps ≡ printed_by (take i steps) ++ (step.printed ++ printed_by (drop (suc i) steps)) =
+    printed-split steps i step c.loop-step-test.true
+    ∙ ap (λ (s : Step). printed_by (take i steps) ++ (s.printed ++ printed_by (drop (suc i) steps))) (sym c.step-item.is) in
+    let all : AppendsPart (out c.args.sink.now) (out c.write_line.new.sink) (printed_by steps) =
+    subst (λ (t : List ℕ). AppendsPart (out c.args.sink.now) (out c.write_line.new.sink) t) (sym split)
+    (part_of (out c.args.sink.now) (out c.loop-step.sink) (out c.write_line.new.sink) (printed_by (take i steps)) step.printed (printed_by (drop (suc i) steps)) c.loop-step.invariant.written piece) in
     search rules

@@ -7,4 +7,4 @@ pub returns : goal.returns
 returns c =
     c.push_str.ensures.bytes
     ∙ ap (λ t. if is_ok c.push_str.result then string_bytes c.args.text.now ++ t else string_bytes c.args.text.now)
-    (c.deref.ensures ∙ c.in_ok-digits.ensures.ok ∙ ap signed_decimal (to_z-of_z c.ranges.integer) ∙ sym (signed_numeral_decimal c.args.integer c.ranges.integer.sfits))
+    (c.format.ensures.text ∙ ap signed_decimal (to_z-of_z c.ranges.integer) ∙ sym (signed_numeral_decimal c.args.integer c.ranges.integer.sfits))

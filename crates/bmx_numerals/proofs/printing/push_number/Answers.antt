@@ -6,4 +6,4 @@ pub returns : goal.returns
 returns c =
     c.push_str.ensures.bytes
     ∙ ap (λ t. if is_ok c.push_str.result then string_bytes c.args.text.now ++ t else string_bytes c.args.text.now)
-    (c.deref.ensures ∙ c.in_ok-digits.ensures.ok ∙ sym (numeral_decimal c.args.number (omega arith)))
+    (c.format.ensures.text ∙ sym (numeral_decimal c.args.number (omega arith)))

@@ -1,6 +1,6 @@
 use Rattle.std.proofs.Common.{length}
 use Rattle.bmx_script.specs.Grammar.{IsReading, lines_of}
-use Rattle.bmx_script.specs.Reader.{ReadsOn, IsSound}
+use Rattle.bmx_script.specs.Inside.Reader.{ReadsOn, IsSound}
 use Rattle.bmx_script.proofs.scripts.read_script.Given as goal
 
 abbrev pub invariant-loop-rest : goal.invariant-loop-rest

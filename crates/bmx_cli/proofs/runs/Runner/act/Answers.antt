@@ -1,9 +1,7 @@
-use Rattle.std.proofs.Common.{◌≡◌, ◌-◌, ℕ, List, [], ◌∷◌, ◌++◌, length, slice_set, refl, sym, ap, ◌∙◌, arith}
+use Rattle.std.proofs.Common.{◌≡◌, ◌-◌, ℕ, List, [], ◌∷◌, ◌++◌, length, slice_set, refl, ap, ◌∙◌, arith}
 use Rattle.std.proofs.lemmas.List.{length-append}
 use Rattle.bmx_graph.specs.declared.answers.Answer.TheVariants as answer
 use Rattle.bmx_cli.specs.declared.runs.Step.{Step}
-use Rattle.bmx_cli.specs.Progress.{Acts, Answers}
-use Rattle.bmx_cli.specs.Texts.{answer_line}
 use Rattle.bmx_cli.proofs.runs.Runner.act.Goals as goal
 
 set_end : (steps : List Step) (s t : Step) → slice_set (steps ++ s ∷ []) (length steps) t ≡ steps ++ t ∷ []

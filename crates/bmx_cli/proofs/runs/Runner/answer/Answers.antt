@@ -1,6 +1,6 @@
-use Rattle.std.proofs.Common.{◌≡◌, refl, sym, ◌∙◌}
+use Rattle.std.proofs.Common.{refl, sym, ◌∙◌}
 use Rattle.bmx_graph.proofs.States.{OnErr-from}
-use Rattle.bmx_cli.specs.Progress.{SameNode}
+use Rattle.bmx_cli.specs.Inside.Progress.{SameNode}
 use Rattle.bmx_cli.proofs.Telling.{shown_keeps}
 use Rattle.bmx_cli.proofs.runs.Runner.answer.Goals as goal
 

@@ -1,9 +1,7 @@
-use Rattle.std.proofs.Common.{◌≡◌, ℕ, ◌+◌, ◌<◌, ◌≤◌, List, [], ◌∷◌, ◌++◌, length, take, drop, get_or, subst, sym, ap, ◌∙◌, arith}
+use Rattle.std.proofs.Common.{◌≡◌, ◌+◌, ◌<◌, ◌≤◌, List, [], ◌∷◌, ◌++◌, length, take, drop, subst, sym, ap, ◌∙◌, arith}
 use Rattle.std.proofs.lemmas.List.{take_more, take-append-drop, length-take-le}
 use Rattle.bmx_script.specs.declared.lines.Line.{Line}
-use Rattle.bmx_script.specs.declared.lines.LineKind.{LineKind}
-use Rattle.bmx_cli.specs.declared.runs.Runner.{Runner}
-use Rattle.bmx_cli.specs.Progress.{IsAt, FitsLine}
+use Rattle.bmx_cli.specs.Inside.Progress.{IsAt, FitsLine}
 use Rattle.bmx_cli.proofs.Steps.{ready_at, goes_on, stopped, stopped_node}
 use Rattle.bmx_cli.proofs.OneNode.{fits_at}
 use Rattle.bmx_cli.proofs.runs.Runner.run.Goals as goal

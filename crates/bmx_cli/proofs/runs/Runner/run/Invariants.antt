@@ -1,5 +1,5 @@
 use Rattle.std.proofs.Common.{take}
-use Rattle.bmx_cli.specs.Progress.{IsAt}
+use Rattle.bmx_cli.specs.Inside.Progress.{IsAt}
 use Rattle.bmx_cli.proofs.runs.Runner.run.Given as goal
 
 abbrev pub invariant-loop-line : goal.invariant-loop-line

@@ -1,11 +1,14 @@
 use Rattle.std.proofs.Common.{◌≡◌, sym, ap, ◌∙◌, subst, false}
 use Rattle.bmx_script.specs.declared.verdicts.Verdict.{Verdict}
-use Rattle.bmx_script.specs.Grammar.{is_long, is_skipped, IsVerdict}
-use Rattle.bmx_script.specs.Parsing.{read_line}
-use Rattle.bmx_script.specs.Reader.{end_of, verdict_of}
+use Rattle.bmx_script.specs.Grammar.{is_far, is_long, is_skipped}
+use Rattle.bmx_script.specs.Inside.Parsing.{read_line}
+use Rattle.bmx_script.specs.Inside.Reader.{IsVerdict, end_of, verdict_of}
 use Rattle.bmx_script.proofs.Exact.{exact}
 use Rattle.bmx_script.proofs.Sound.{verdict_from}
 use Rattle.bmx_script.proofs.scripts.Reader.judge.Goals as goal
+
+pub returns-then-is_long : goal.returns-then-is_long
+returns-then-is_long c = is_far (sym c.is_long.ensures ∙ c.if-is_long.true)
 
 pub returns : goal.returns
 returns c =
