@@ -14,7 +14,6 @@ pub use words::{Misfit, both};
 mod tests {
     use crate::{
         Misfit, both, integer, number, number_below, number_within, push_integer, push_number,
-        write_integer, write_number,
     };
     use std::test::Fail;
 
@@ -81,17 +80,6 @@ mod tests {
             both(number_below(b"9", 8), integer(b"0")),
             Err(Misfit::Range)
         );
-    }
-
-    #[test]
-    fn numbers_in_place(rt: HostRuntime) {
-        let mut bytes = [b'.'; 24];
-        let start = write_number(18446744073709551615, &mut bytes, 23);
-        assert_eq!(rt; start, 3);
-        assert_eq!(rt; bytes.as_slice(), b"...18446744073709551615.".as_slice());
-        let start = write_integer(-7, &mut bytes, 22);
-        assert_eq!(rt; start, 20);
-        assert_eq!(rt; bytes.as_slice(), b"...18446744073709551-75.".as_slice());
     }
 
     #[test]

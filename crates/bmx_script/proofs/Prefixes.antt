@@ -1,6 +1,6 @@
 -- Reading stops at a line that ends too far behind. So what the first bytes of a text come to, all of them come to.
-use Rattle.std.proofs.Common.{◌≡◌, ℕ, ◌+◌, ◌^◌, ◌<◌, ◌≤◌, ◌↔◌, ◌==◌, Bool, true, false, not, ◌&&◌, suc, zero, List, [], ◌∷◌, ◌++◌, length, take, drop, Result, Err, refl, ap, sym, ◌∙◌, subst, append-nil, append_assoc, ⊎_elim, arith}
-use Rattle.std.proofs.lemmas.Bool.{and_from, or_right, lt-ltb, ne_eqb, eqb-true, not_from_false, not-true, and_parts, cases_lt, cases_Bool}
+use Rattle.std.proofs.Common.{◌≡◌, ℕ, ◌+◌, ◌^◌, ◌<◌, ◌≤◌, ◌↔◌, ◌==◌, Bool, true, false, not, suc, zero, List, [], ◌∷◌, ◌++◌, length, take, drop, Result, Err, refl, ap, sym, ◌∙◌, subst, append-nil, append_assoc, ⊎_elim, arith}
+use Rattle.std.proofs.lemmas.Bool.{and_from, or_right, lt-ltb, eqb-true, not_from_false, not-true, and_parts, cases_lt, cases_Bool}
 use Rattle.std.proofs.lemmas.List.{take_all, length-take-le, take-append-drop, length-append}
 use Rattle.std.specs.List.{onto_first}
 use Rattle.bmx_script.specs.declared.knowledge.Known.{Known}

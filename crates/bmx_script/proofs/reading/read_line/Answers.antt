@@ -1,6 +1,5 @@
-use Rattle.std.proofs.Common.{◌≡◌, ◌==◌, ap, sym}
+use Rattle.std.proofs.Common.{◌==◌, sym}
 use Rattle.std.specs.List.{slice_split}
-use Rattle.bmx_script.specs.Inside.Parsing.{line_of}
 use Rattle.bmx_script.proofs.OtherCounts.{too_long}
 use Rattle.bmx_script.proofs.reading.read_line.Goals as goal
 

@@ -1,4 +1,3 @@
-use Rattle.std.proofs.Common.{arith}
 use Rattle.bmx_script.specs.Grammar.{ends, ends_early}
 use Rattle.bmx_script.proofs.Sound.{sound_script}
 use Rattle.bmx_script.proofs.scripts.Reader.finish.Goals as goal
