@@ -1,0 +1,18 @@
+use crate::{ImageCause, ImageError, decode, encode};
+use std::alloc::Global;
+use std::test::Fail;
+
+/// An anchor with a list of three: 1, 2 and 3.
+const LIST: [u8; 88] =
+    *b"\x42\x4d\x58\x49\x00\x01\x00\x00\x00\x04\x20\x02\x00\x00\x00\x01\x00\x00\x00\x00\x00\x00\x00\x00\x00\x00\x00\x00\x00\x00\x00\x00\x00\x00\x00\x00\x00\x00\x00\x00\x00\x00\x00\x00\x00\x00\x00\x02\x01\x00\x00\x00\x00\x00\x00\x00\x01\x02\x00\x00\x00\x02\x02\x01\x00\x00\x00\x00\x00\x00\x00\x02\x02\x00\x00\x00\x03\x02\x01\x00\x00\x00\x00\x00\x00\x00\x03\x00";
+
+#[test]
+fn a_list_and_back(rt: HostRuntime) -> Result<(), Fail> {
+    let image = decode(rt.alloc(), &LIST)
+        .ok()
+        .ok_or("the list is an image")?;
+    assert_eq!(rt; image.objects.len(), 4);
+    let bytes = encode(rt.alloc(), &image)?;
+    assert_eq!(rt; bytes.as_slice(), LIST.as_slice());
+    Ok(())
+}
