@@ -1,7 +1,9 @@
+mod FieldBytes
+mod Gathered
+mod Mentioning
 mod Numbers
-mod OneFront
-mod Fields
 mod Objects
+mod OneFront
 mod OneReading
 mod Sizes
 mod Steps

@@ -10,7 +10,7 @@ use Rattle.bmx_image.specs.Spelling.{field_bytes, object_bytes}
 use Rattle.bmx_image.specs.Images.{EachFits, FitsBehind, ObjectFits, StandsBehind, is_size, top_of, top_of_fields}
 use Rattle.bmx_image.specs.Faults.{size_fault, field_fault, IsObjectFault}
 use Rattle.bmx_image.proofs.OneFront.{AreSpelled, one_front}
-use Rattle.bmx_image.proofs.Fields.{head, tail, WrongField, fields_are_spelled}
+use Rattle.bmx_image.proofs.FieldBytes.{head, tail, WrongField, fields_are_spelled}
 
 -- two lists of fields of one object that spell the front of the same bytes
 one_list : (count top n : ℕ) (xs ys : List ImageField) (r s : List ℕ) → count < 2 ^ 32 → EachFits (FitsBehind count top) [] xs → EachFits (FitsBehind count top) [] ys

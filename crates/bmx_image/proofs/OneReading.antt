@@ -14,7 +14,7 @@ use Rattle.bmx_image.specs.Images.{EachFits, StandsBehind, IsImage, is_count, to
 use Rattle.bmx_image.specs.Faults.{head_fault, first_fault, version_fault, count_fault, HasObjectFault, IsObjectFault, Trails, IsFault, told_of, at, short}
 use Rattle.bmx_image.specs.Laws.{ReadingIsDetermined, ImageIsReadAgain, ImageHasOneSpelling}
 use Rattle.bmx_image.proofs.OneFront.{Ends, one_front}
-use Rattle.bmx_image.proofs.Fields.{one_number}
+use Rattle.bmx_image.proofs.FieldBytes.{one_number}
 use Rattle.bmx_image.proofs.Objects.{WrongObject, object_fault_one, objects_are_spelled}
 
 and_true : (a b : Bool) → (a && b) ≡ true → (a ≡ true) × (b ≡ true)

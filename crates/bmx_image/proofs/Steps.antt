@@ -16,16 +16,16 @@ use Rattle.bmx_image.specs.Faults.{field_fault, size_fault, HasFieldFault, IsObj
 use Rattle.bmx_image.specs.Reading.{IsImageOf, IsObject, IsRead}
 use Rattle.bmx_image.proofs.Objects.{size_right}
 
-fit_more : {A : Type 0} (Fits : List A → A → Type 0) (before xs : List A) (x : A) → EachFits Fits before xs → Fits (before ++ xs) x → EachFits Fits before (xs ++ x ∷ [])
+pub fit_more : {A : Type 0} (Fits : List A → A → Type 0) (before xs : List A) (x : A) → EachFits Fits before xs → Fits (before ++ xs) x → EachFits Fits before (xs ++ x ∷ [])
 fit_more {A = A} Fits before [] x fits fit = (subst (λ (b : List A). Fits b x) (append-nil before) fit, tt)
 fit_more {A = A} Fits before (y ∷ ys) x fits fit =
     (fits.0, fit_more Fits (before ++ y ∷ []) ys x fits.1 (subst (λ (b : List A). Fits b x) (sym (append_assoc before (y ∷ []) ys)) fit))
 
-top_of_fields_more : (fs : List ImageField) (f : ImageField) → top_of_fields (fs ++ f ∷ []) ≡ max (top_of_fields fs) (target f)
+pub top_of_fields_more : (fs : List ImageField) (f : ImageField) → top_of_fields (fs ++ f ∷ []) ≡ max (top_of_fields fs) (target f)
 top_of_fields_more [] f = omega arith
 top_of_fields_more (g ∷ fs) f = let e = top_of_fields_more fs f in omega arith
 
-top_of_more : (os : List ImageObject) (o : ImageObject) → top_of (os ++ o ∷ []) ≡ max (top_of os) (top_of_fields o.fields)
+pub top_of_more : (os : List ImageObject) (o : ImageObject) → top_of (os ++ o ∷ []) ≡ max (top_of os) (top_of_fields o.fields)
 top_of_more [] o = omega arith
 top_of_more (p ∷ os) o = let e = top_of_more os o in omega arith
 

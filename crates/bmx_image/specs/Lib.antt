@@ -4,3 +4,6 @@ pub mod Faults
 pub mod Laws
 pub mod Reading
 pub mod Facts
+pub mod Cases
+pub mod Gathering
+pub mod Mentions
