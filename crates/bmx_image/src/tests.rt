@@ -1,5 +1,9 @@
-use crate::{BadImage, ImageCause, ImageError, decode, encode};
-use bmx_types::NoMemory;
+ghost use Rattle.std.specs.Prelude.{◌≡◌, length};
+
+use crate::{
+    BadImage, Fields, GatherError, ImageCause, ImageError, ImageField, decode, encode, gather,
+};
+use bmx_types::{BunchNo, Name, NoMemory, NodeNo, Val};
 use std::alloc::Global;
 use std::test::Fail;
 
@@ -179,5 +183,85 @@ fn counts_and_what_follows(rt: HostRuntime) -> Result<(), Fail> {
     let mut longer = Vec::from_slice(alloc, &LIST)?;
     longer.push(0)?;
     assert_eq!(rt; told(alloc, &longer)?.as_str(), "R88");
+    Ok(())
+}
+
+/// A graph of two objects: an anchor of bunch 0, and another object.
+#[derive(Clone, Copy)]
+struct Two {
+    anchor: Name,
+    first: [Val; 32],
+    other: [Val; 32],
+    /// The bunch of the other object.
+    there: BunchNo,
+    ghost sizes: { (length first ≡ 32) × (length other ≡ 32) },
+}
+
+/// The anchor refers to the other object by field 3, and to itself by field 4.
+fn graph_of(anchor: Name, other: Name, there: BunchNo) -> Two {
+    let mut first = [Val::Null; 32];
+    first[3] = Val::Ref(other);
+    first[4] = Val::Ref(anchor);
+    Two {
+        anchor,
+        first,
+        other: [Val::Int(5); 32],
+        there,
+    }
+}
+
+impl Fields for Two {
+    ghost use Rattle.std.specs.Prelude.{Some, ◌==◌, if◌then◌else◌};
+
+    ghost bunches = { λ t x. Some (if x == t.anchor then 0 else t.there) };
+
+    ghost fields = { λ t x. if x == t.anchor then t.first else t.other };
+
+    fn bunch(&self, name: Name) -> Option<BunchNo> {
+        if name.word() == self.anchor.word() {
+            BunchNo::new(0)
+        } else {
+            Some(self.there)
+        }
+    }
+
+    fn size(&self, name: Name) -> u8 {
+        if name.word() == self.anchor.word() {
+            self.first.len() as u8
+        } else {
+            self.other.len() as u8
+        }
+    }
+
+    fn field(&self, name: Name, i: u8) -> Val {
+        if name.word() == self.anchor.word() {
+            self.first[i as usize]
+        } else {
+            self.other[i as usize]
+        }
+    }
+}
+
+#[test]
+fn two_objects_and_a_crossing(rt: HostRuntime) -> Result<(), Fail> {
+    let node = NodeNo::new(0).ok_or("node 0")?;
+    let anchor = Name::new(node, 1).ok_or("the anchor")?;
+    let other = Name::new(node, 7).ok_or("the other object")?;
+    let home = BunchNo::new(0).ok_or("bunch 0")?;
+    let image = gather(rt.alloc(), &graph_of(anchor, other, home), anchor)
+        .ok()
+        .ok_or("an image")?;
+    assert_eq!(rt; image.objects.len(), 2);
+    let fields = &image.objects.as_slice()[0].fields;
+    assert_eq!(rt; fields.as_slice()[3], ImageField::Ref(1));
+    assert_eq!(rt; fields.as_slice()[4], ImageField::Ref(0));
+    let elsewhere = BunchNo::new(1).ok_or("bunch 1")?;
+    let crossing = graph_of(anchor, other, elsewhere);
+    assert!(rt;
+        matches!(
+            gather(rt.alloc(), &crossing, anchor),
+            Err(GatherError::Crosses)
+        )
+    );
     Ok(())
 }
