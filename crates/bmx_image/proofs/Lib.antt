@@ -1,0 +1,9 @@
+mod FieldBytes
+mod Gathered
+mod Mentioning
+mod Numbers
+mod Objects
+mod OneFront
+mod OneReading
+mod Sizes
+mod Steps
