@@ -14,12 +14,13 @@ use Rattle.bmx_segment.specs.Blocks.{Block}
 use Rattle.bmx_segment.specs.Stores.{header_at}
 use Rattle.bmx_segment.specs.declared.headers.Header.{Header}
 use Rattle.bmx_graph.specs.State.{put}
+use Rattle.bmx_segment.specs.Updates.{Puts}
 use Rattle.bmx_replica.specs.declared.directory.Slot.{Slot}
 use Rattle.bmx_replica.specs.declared.words.Word.{Word}
 use Rattle.bmx_replica.specs.Chains.{name_at, AllLive}
 use Rattle.bmx_replica.specs.Slots.{slot_of}
 use Rattle.bmx_replica.specs.Replicas.{KeepsNames, ReachesTarget}
-use Rattle.bmx_replica.specs.Replicas.{Holding, Entry, entry_of, entry_in, copy_of, field_of, value_in, word_in, values_of, HasTarget, IsField, Puts, KeepsReach, info_in}
+use Rattle.bmx_replica.specs.Replicas.{Holding, Entry, entry_of, entry_in, copy_of, field_of, value_in, word_in, values_of, HasTarget, IsField, KeepsReach, info_in}
 use Rattle.bmx_local.specs.declared.locals.Local.{Local}
 use Rattle.bmx_local.specs.declared.solos.Solo.{Solo}
 use Rattle.bmx_local.specs.Locals.{word_of, Holds}
@@ -140,16 +141,16 @@ put_some : (b : Bool) (e : Entry) (o : Option Entry) → IsSome o → IsSome (co
 put_some true e o h = refl
 put_some false e o h = h
 
-entry_kept : (old new : Holding) (name q : ℕ) (e : Entry) → Puts old new name (Some e) → IsSome (entry_of old q) → IsSome (entry_of new q)
+entry_kept : (old new : Holding) (name q : ℕ) (e : Entry) → Puts (entry_of old) (entry_of new) name (Some e) → IsSome (entry_of old q) → IsSome (entry_of new q)
 entry_kept old new name q e puts there = subst IsSome (sym (puts q)) (put_some (name == q) e (entry_of old q) there)
 
-target_kept : (old new : Holding) (name : ℕ) (e : Entry) (v : Val) → Puts old new name (Some e) → HasTarget old v → HasTarget new v
+target_kept : (old new : Holding) (name : ℕ) (e : Entry) (v : Val) → Puts (entry_of old) (entry_of new) name (Some e) → HasTarget old v → HasTarget new v
 target_kept old new name e val.Null puts has = tt
 target_kept old new name e (val.Int k) puts has = tt
 target_kept old new name e (val.Ref q) puts has = entry_kept old new name q e puts has
 
 -- the copies behind it
-pub object_put : (old new : Holding) (name : ℕ) (e : Entry) (fields : List Val) → Puts old new name (Some e) → e.copy ≡ Some fields
+pub object_put : (old new : Holding) (name : ℕ) (e : Entry) (fields : List Val) → Puts (entry_of old) (entry_of new) name (Some e) → e.copy ≡ Some fields
     → (q : ℕ) → copy_of new q ≡ put (copy_of old) name (Some fields) q
 object_put old new name e fields puts is q =
     ap (option_and_then (λ (x : Entry). x.copy)) (puts q) ∙ cond_ap (option_and_then (λ (x : Entry). x.copy)) (name == q) (Some e) (entry_of old q)
@@ -157,7 +158,7 @@ object_put old new name e fields puts is q =
 
 -- a node keeps what it keeps where one entry is put
 pub put_solo : (l : Local) (had : ℕ) (new : Holding) (name made : ℕ) (e : Entry) (fields : List Val)
-    → Keeps l had → Puts l.replica new name (Some e) → e.copy ≡ Some fields
+    → Keeps l had → Puts (entry_of l.replica) (entry_of new) name (Some e) → e.copy ≡ Some fields
     → ((j : ℕ) (v : Val) → slice_get fields j ≡ Some v → HasTarget l.replica v)
     → had ≤ made → ((count : ℕ) → made < count → name ≡ name_word 0 count → ⊥)
     → KeepsReach l.replica new → KeepsNames l.replica new

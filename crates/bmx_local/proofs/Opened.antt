@@ -6,6 +6,7 @@ use Rattle.std.specs.Option.{option_map}
 use Rattle.bmx_types.specs.Words.{name_word}
 use Rattle.bmx_segment.specs.Blocks.{Block}
 use Rattle.bmx_segment.specs.Stores.{header_at}
+use Rattle.bmx_segment.specs.Updates.{Puts}
 use Rattle.bmx_replica.specs.Chains.{AllLive}
 use Rattle.bmx_types.specs.declared.values.Val.{Val}
 use Rattle.bmx_types.specs.declared.values.Val.TheVariants as val
@@ -14,7 +15,7 @@ use Rattle.bmx_segment.specs.Headers.{kind_number}
 use Rattle.bmx_graph.specs.State.{born_as}
 use Rattle.bmx_graph.proofs.States.{get_or-same}
 use Rattle.bmx_replica.specs.declared.words.Word.{Word}
-use Rattle.bmx_replica.specs.Replicas.{Holding, Entry, entry_of, copy_of, blank_entry, HasTarget, IsField, Puts}
+use Rattle.bmx_replica.specs.Replicas.{Holding, Entry, entry_of, copy_of, blank_entry, HasTarget, IsField}
 use Rattle.bmx_local.specs.Locals.{word_of, null_word, Holds}
 use Rattle.bmx_local.specs.Solos.{value_at, Keeps}
 use Rattle.bmx_local.proofs.Shown.{cond_ap}
@@ -29,19 +30,19 @@ no_entry : (r : Holding) (q : ℕ) → r.slots ≡ [] → entry_of r q ≡ None
 no_entry r q none = ap (λ slots. entry_of (record r { slots = slots }) q) none
 
 -- the entries are that of the anchor alone
-one_entry : (old new : Holding) (name bunch at : ℕ) → old.slots ≡ [] → name ≡ 1 → Puts old new name (Some (blank_entry bunch 32 at))
+one_entry : (old new : Holding) (name bunch at : ℕ) → old.slots ≡ [] → name ≡ 1 → Puts (entry_of old) (entry_of new) name (Some (blank_entry bunch 32 at))
     → (q : ℕ) → entry_of new q ≡ cond (1 == q) (Some (blank_entry bunch 32 at)) None
 one_entry old new name bunch at none is puts q =
     puts q ∙ ap (λ k. cond (k == q) (Some (blank_entry bunch 32 at)) (entry_of old q)) is ∙ ap (λ o. cond (1 == q) (Some (blank_entry bunch 32 at)) o) (no_entry old q none)
 
-one_copy : (old new : Holding) (name bunch at : ℕ) → old.slots ≡ [] → name ≡ 1 → Puts old new name (Some (blank_entry bunch 32 at))
+one_copy : (old new : Holding) (name bunch at : ℕ) → old.slots ≡ [] → name ≡ 1 → Puts (entry_of old) (entry_of new) name (Some (blank_entry bunch 32 at))
     → (q : ℕ) → copy_of new q ≡ cond (1 == q) (Some blank) None
 one_copy old new name bunch at none is puts q =
     ap (option_and_then (λ (e : Entry). e.copy)) (one_entry old new name bunch at none is puts q)
     ∙ cond_ap (option_and_then (λ (e : Entry). e.copy)) (1 == q) (Some (blank_entry bunch 32 at)) None
 
 -- the objects are those that the store opens with
-pub born : (old new : Holding) (name bunch at : ℕ) → old.slots ≡ [] → name ≡ 1 → Puts old new name (Some (blank_entry bunch 32 at))
+pub born : (old new : Holding) (name bunch at : ℕ) → old.slots ≡ [] → name ≡ 1 → Puts (entry_of old) (entry_of new) name (Some (blank_entry bunch 32 at))
     → (q : ℕ) → copy_of new q ≡ born_as (record { name = 1; bunch = 0; fields = blank } ∷ []) q
 born old new name bunch at none is puts q =
     one_copy old new name bunch at none is puts q
@@ -54,7 +55,7 @@ pub null_register : (h : Holding) (words : List Word) (r : ℕ) → words ≡ re
 null_register h words r is = ap (value_at h) (null_word_of words r is)
 
 -- and the node keeps what it is to keep
-pub opened : (old new : Holding) (words : List Word) (name bunch at : ℕ) → old.slots ≡ [] → name ≡ 1 → Puts old new name (Some (blank_entry bunch 32 at))
+pub opened : (old new : Holding) (words : List Word) (name bunch at : ℕ) → old.slots ≡ [] → name ≡ 1 → Puts (entry_of old) (entry_of new) name (Some (blank_entry bunch 32 at))
     → words ≡ replicate 16 null_word → length new.heap.current ≡ 16 → AllLive new.heap.blocks → Keeps (record { replica = new; registers = words }) 1
 opened old new words name bunch at none is puts null bunches live =
     let each : (P : Word → Type 0) → P null_word → (r : ℕ) → P (word_of words r) = λ P h r. subst P (sym (null_word_of words r null)) h in

@@ -1,5 +1,5 @@
 -- What a change of one object's words makes of a replica.
-use Rattle.std.proofs.Common.{zero, suc, get_or, replicate, ◌≡◌, ◌≢◌, ◌⊎◌, ℕ, ◌+◌, ◌<◌, ◌≤◌, Bool, true, false, cond, List, Option, Some, None, slice_set, refl, sym, ap, subst, ◌∙◌, inl, inr, arith}
+use Rattle.std.proofs.Common.{zero, suc, get_or, replicate, ◌≡◌, ◌≢◌, ◌⊎◌, ℕ, ◌+◌, ◌*◌, ◌^◌, ◌<◌, ◌≤◌, Bool, true, false, cond, List, Option, Some, None, slice_set, refl, sym, ap, subst, ◌∙◌, inl, inr, arith}
 use Rattle.std.specs.Prelude.{IsSome, ◌==◌, if◌then◌else◌, IsSomeAnd}
 use Rattle.std.specs.Option.{option_map}
 use Rattle.std.proofs.lemmas.Bool.{cases_eq, cases_lt, false≢true, eq-eqb, ne_eqb}
@@ -13,12 +13,16 @@ use Rattle.bmx_segment.specs.Heaps.{Heap, CanSet}
 use Rattle.bmx_segment.specs.Stores.{header_at, word_at, block_at, key_at, AreApart, Writes, Sets}
 use Rattle.bmx_segment.specs.declared.headers.Header.{Header}
 use Rattle.bmx_segment.specs.declared.headers.State.TheVariants.{Live, Forwarded}
-use Rattle.bmx_replica.specs.Slots.{slot_of, address_of, PutsSlot}
+use Rattle.bmx_replica.specs.Slots.{slot_of, address_of}
+use Rattle.bmx_replica.specs.Inside.Slots.{PutsSlot}
 use Rattle.bmx_replica.specs.Chains.{is_live, name_at}
-use Rattle.bmx_replica.specs.Layouts.{Lays, Moves, kinds_in, moves_in, with_kinds}
-use Rattle.bmx_replica.specs.Replicas.{field_of, Holding, Entry, entry_in, entry_at, entry_of, at_place, field_at, value_in, values_of, with_value, IsReplica, IsField, IsFound}
+use Rattle.bmx_replica.specs.Layouts.{kinds_in, moves_in, with_kinds}
+use Rattle.bmx_replica.specs.Replicas.{field_of, Holding, Entry, entry_in, entry_at, entry_of, at_place, field_at, value_in, values_of, with_value, IsReplica, IsField}
+use Rattle.bmx_replica.specs.Inside.Replicas.{IsFound}
 use Rattle.bmx_replica.specs.declared.directory.Slot.{Slot}
-use Rattle.bmx_replica.proofs.Laid.{with_kinds-own}
+use Rattle.bmx_replica.proofs.Laid.{Laid, Moved, with_kinds-own, sets_there, sets_other}
+use Rattle.bmx_segment.proofs.FieldKinds.{kind_of-with_kind}
+use Rattle.bmx_segment.proofs.Fields.{with_kind-lt}
 use Rattle.bmx_replica.proofs.Standing.{Stands, names_kept, value_in-same, values_of-same}
 use Rattle.bmx_replica.proofs.Chained.{alive, map_some}
 use Rattle.bmx_replica.proofs.Fielded.{field_within, values_of-set, entry_of-found, entry_at-found}
@@ -58,7 +62,13 @@ get_or-same (suc k) (suc i) a = get_or-same k i a
 
 -- ---- one field is written
 
-module _ (r : Holding) (new : List Block) (n : ℕ) (s : Slot) (h : Header) (i kind w : ℕ) (kept : IsReplica r.slots r.heap.blocks) (found : IsFound r.slots r.heap.blocks n s h) (copy : s.has_copy ≡ true) (lt : i < h.size) (field : IsField r.heap.blocks kind w) (one : Writes r.heap.blocks new s.address i kind w) (law : (ks j : ℕ) → kind_of (with_kind ks i kind) j ≡ (if j == i then kind else kind_of ks j)) where
+module _ (r : Holding) (new : List Block) (n : ℕ) (s : Slot) (h : Header) (i kind w : ℕ) (kept : IsReplica r.slots r.heap.blocks) (found : IsFound r.slots r.heap.blocks n s h) (apart : AreApart r.heap.blocks) (copy : s.has_copy ≡ true) (lt : i < h.size) (field : IsField r.heap.blocks kind w) (one : Writes r.heap.blocks new s.address i kind w) where
+  four : kind < 4
+  four = let known = field.known in omega arith
+
+  law : (ks j : ℕ) → kind_of (with_kind ks i kind) j ≡ (if j == i then kind else kind_of ks j)
+  law ks j = kind_of-with_kind ks i kind four j
+
   abbrev written : Header
   written = with_kinds h (with_kind (kinds_in h.state) i kind)
 
@@ -91,7 +101,7 @@ module _ (r : Holding) (new : List Block) (n : ℕ) (s : Slot) (h : Header) (i k
     headers = λ x off not. one.headers x off;
     gone = λ x off e. absurd (off (only_place x e));
     words = λ x j t off not e live small.
-        elim (disjoint r.heap.blocks x s.address t h found.apart e found.there off) [
+        elim (disjoint r.heap.blocks x s.address t h apart e found.there off) [
           | inl before ↦ one.words (x + 4 + j) (λ at. absurd (omega arith)) (λ at. absurd (omega arith))
           | inr after ↦ one.words (x + 4 + j) (λ at. absurd (omega arith)) (λ at. absurd (omega arith))
         ];
@@ -107,6 +117,7 @@ module _ (r : Holding) (new : List Block) (n : ℕ) (s : Slot) (h : Header) (i k
               subst (λ (k : ℕ). IsField r.heap.blocks k (word_at r.heap.blocks (s.address + 4 + j))) (sym (kind_other j off)) (kept.fields s.address j h found.there found.live small) in
               subst (λ (v : ℕ). IsField r.heap.blocks (kind_of (with_kind (kinds_in h.state) i kind) j) v) (sym (word_other j off)) first
         ];
+    small = with_kind-lt (kinds_in h.state) i kind h.size (kept.small s.address h found.there found.live) lt four;
     blank = λ none. absurd (false≢true (sym none ∙ copy));
   }
 
@@ -115,7 +126,7 @@ module _ (r : Holding) (new : List Block) (n : ℕ) (s : Slot) (h : Header) (i k
 
   -- no other field's word changes
   pub others_stay : (q j a : ℕ) → (q ≡ n → j ≡ i → ⊥) → address_of r.slots q ≡ Some a → IsSome (field_of r q j) → word_at new (a + 4 + j) ≡ word_at r.heap.blocks (a + 4 + j)
-  others_stay q j a apart place has =
+  others_stay q j a differ place has =
       let live = alive r.heap.blocks a q ((kept.entries q a).0 place) in
       let slot = map_some (λ (t : Slot). t.address) (slot_of r.slots q) a place in
       let there : header_at r.heap.blocks slot.0.address ≡ Some live.0 = ap (header_at r.heap.blocks) slot.2 ∙ live.1 in
@@ -124,9 +135,9 @@ module _ (r : Holding) (new : List Block) (n : ℕ) (s : Slot) (h : Header) (i k
         | inl at ↦
             let is : live.0 ≡ h = same_Some live.0 h (sym live.1 ∙ ap (header_at r.heap.blocks) at ∙ found.there) in
             let same : q ≡ n = sym live.3 ∙ ap (λ (y : Header). y.name) is ∙ found.named in
-            ap (λ b. word_at new (b + 4 + j)) at ∙ word_other j (apart same) ∙ ap (λ b. word_at r.heap.blocks (b + 4 + j)) (sym at)
+            ap (λ b. word_at new (b + 4 + j)) at ∙ word_other j (differ same) ∙ ap (λ b. word_at r.heap.blocks (b + 4 + j)) (sym at)
         | inr off ↦
-            elim (disjoint r.heap.blocks a s.address live.0 h found.apart live.1 found.there off) [
+            elim (disjoint r.heap.blocks a s.address live.0 h apart live.1 found.there off) [
               | inl before ↦ one.words (a + 4 + j) (λ at. absurd (omega arith)) (λ at. absurd (omega arith))
               | inr after ↦ one.words (a + 4 + j) (λ at. absurd (omega arith)) (λ at. absurd (omega arith))
             ]
@@ -153,40 +164,39 @@ module _ (r : Holding) (new : List Block) (n : ℕ) (s : Slot) (h : Header) (i k
 
 -- ---- an object is laid whole
 
-module _ (slots slots' : List (ℕ × Slot)) (old new : List Block) (n : ℕ) (s : Slot) (h : Header) (f : ℕ → ℕ) (kept : IsReplica slots old) (puts : PutsSlot slots slots' n (Some s)) (live : is_live h.state ≡ true) (name : h.name ≡ n) (lays : Lays old new s.address h f)
+module _ (slots slots' : List (ℕ × Slot)) (old new : List Block) (n : ℕ) (s : Slot) (h : Header) (f : ℕ → ℕ) (kept : IsReplica slots old) (puts : PutsSlot slots slots' n (Some s)) (live : is_live h.state ≡ true) (name : h.name ≡ n) (lays : Laid old new s.address h f)
     (before : (t : Header) → header_at old s.address ≡ Some t → t.name ≡ n)
     (own : (i : ℕ) → i < h.size → IsField old (kind_of (kinds_in h.state) i) (f i))
-    (blank : s.has_copy ≡ false → (i : ℕ) → i < h.size → kind_of (kinds_in h.state) i ≡ 0) where
+    (small : kinds_in h.state < 2 ^ (2 * h.size)) (blank : s.has_copy ≡ false → kinds_in h.state ≡ 0) where
   laid_words : (x j : ℕ) (t : Header) → x ≢ s.address → header_at old x ≡ Some t → j < t.size → word_at new (x + 4 + j) ≡ word_at old (x + 4 + j)
-  laid_words x j t off e small =
-      elim (disjoint new x s.address t (with_kinds h lays.kinds) lays.apart (lays.headers x off ∙ e) lays.header off) [
+  laid_words x j t off e within =
+      elim (disjoint new x s.address t h lays.apart (lays.headers x off ∙ e) lays.header off) [
         | inl before ↦ lays.others (x + 4 + j) (inl (omega arith))
         | inr after ↦ lays.others (x + 4 + j) (inr (omega arith))
       ]
 
-  laid_own : (i : ℕ) → i < h.size → IsField old (kind_of lays.kinds i) (word_at new (s.address + 4 + i))
-  laid_own i small =
-      let first : IsField old (kind_of lays.kinds i) (f i) = subst (λ (k : ℕ). IsField old k (f i)) (sym (lays.kept i small)) (own i small) in
-      subst (λ (v : ℕ). IsField old (kind_of lays.kinds i) v) (sym (lays.words i small)) first
+  laid_own : (i : ℕ) → i < h.size → IsField old (kind_of (kinds_in h.state) i) (word_at new (s.address + 4 + i))
+  laid_own i within = subst (λ (v : ℕ). IsField old (kind_of (kinds_in h.state) i) v) (sym (lays.words i within)) (own i within)
 
-  pub Stands-laid : ((x : ℕ) → x ≢ s.address → address_of slots n ≡ Some x → ⊥) → Stands slots' slots old new n s (with_kinds h lays.kinds)
+  pub Stands-laid : ((x : ℕ) → x ≢ s.address → address_of slots n ≡ Some x → ⊥) → Stands slots' slots old new n s h
   Stands-laid free = record {
     was = kept;
     puts = puts;
     there = lays.header;
-    live = refl;
+    live = live;
     name = name;
     before = before;
     headers = λ x off not. lays.headers x off;
     gone = λ x off e. absurd (free x off e);
-    words = λ x j t off not e alive small. laid_words x j t off e small;
+    words = λ x j t off not e alive within. laid_words x j t off e within;
     own = laid_own;
-    blank = λ none i small. lays.kept i small ∙ blank none i small;
+    small = small;
+    blank = blank;
   }
 
   -- the words after the header at another address changed
   pub forwarded_words : (last : List Block) (a : ℕ) (g x : Header) → a ≢ s.address → header_at old a ≡ Some g → Sets new last a x → (b j : ℕ) (t : Header) → b ≢ a → header_at new b ≡ Some t → j < t.size → word_at last (b + 4 + j) ≡ word_at new (b + 4 + j)
-  forwarded_words last a g x off there sets b j t away e small =
+  forwarded_words last a g x off there sets b j t away e within =
       elim (disjoint new b a t g lays.apart e (lays.headers a off ∙ there) away) [
         | inl first ↦ sets.words (b + 4 + j) (inl (omega arith))
         | inr later ↦ sets.words (b + 4 + j) (inr (omega arith))
@@ -194,23 +204,24 @@ module _ (slots slots' : List (ℕ × Slot)) (old new : List Block) (n : ℕ) (s
 
   -- and the header that its name had is forwarded to it
   pub Stands-moved : (last : List Block) (a : ℕ) (g : Header) → address_of slots n ≡ Some a → a ≢ s.address → header_at old a ≡ Some g → g.name ≡ n → Sets new last a (record g { state = Forwarded s.address })
-      → Stands slots' slots old last n s (with_kinds h lays.kinds)
+      → Stands slots' slots old last n s h
   Stands-moved last a g place off there named sets =
       let only : (x : ℕ) → address_of slots n ≡ Some x → x ≡ a = λ x e. same_Some x a (sym e ∙ place) in
-      let after : (x : ℕ) → x ≢ a → header_at last x ≡ header_at new x = λ x away. sets.headers x ∙ ap (λ b. if b then Some (record g { state = Forwarded s.address }) else header_at new x) (ne_eqb x a away) in
+      let after : (x : ℕ) → x ≢ a → header_at last x ≡ header_at new x = λ x away. sets_other new last a (record g { state = Forwarded s.address }) x sets away in
       let clear = forwarded_words last a g (record g { state = Forwarded s.address }) off there sets in
       record {
         was = kept;
         puts = puts;
         there = after s.address (λ e. off (sym e)) ∙ lays.header;
-        live = refl;
+        live = live;
         name = name;
         before = before;
         headers = λ x away not. after x (λ e. not (place ∙ ap Some (sym e))) ∙ lays.headers x away;
-        gone = λ x away e. (record g { state = Forwarded s.address }, (ap (header_at last) (only x e) ∙ sets.headers a ∙ ap (λ b. if b then Some (record g { state = Forwarded s.address }) else header_at new a) (eq-eqb a a refl)), refl, named);
-        words = λ x j t away not e alive small. clear x j t (λ at. not (place ∙ ap Some (sym at))) (lays.headers x away ∙ e) small ∙ laid_words x j t away e small;
-        own = λ i small. subst (λ (v : ℕ). IsField old (kind_of lays.kinds i) v) (sym (clear s.address i (with_kinds h lays.kinds) (λ e. off (sym e)) lays.header small)) (laid_own i small);
-        blank = λ none i small. lays.kept i small ∙ blank none i small;
+        gone = λ x away e. (record g { state = Forwarded s.address }, (ap (header_at last) (only x e) ∙ sets_there new last a (record g { state = Forwarded s.address }) sets), refl, named);
+        words = λ x j t away not e alive within. clear x j t (λ at. not (place ∙ ap Some (sym at))) (lays.headers x away ∙ e) within ∙ laid_words x j t away e within;
+        own = λ i within. subst (λ (v : ℕ). IsField old (kind_of (kinds_in h.state) i) v) (sym (clear s.address i h (λ e. off (sym e)) lays.header within)) (laid_own i within);
+        small = small;
+        blank = blank;
       }
 
 -- ---- an object moves to another place
@@ -223,7 +234,7 @@ CanSet-same h a name size t can e =
     let can' : CanStand b (index_of a) name size = subst P is can.stands in can'.same t there)
 
 module _ (slots slots' : List (ℕ × Slot)) (old new : List Block) (n : ℕ) (s : Slot) (h : Header) (to : Place) (kept : IsReplica slots old) (found : IsFound slots old n s h) (puts : PutsSlot slots slots' n (Some (record s { address = to.address }))) (off : s.address ≢ to.address)
-    (before : (t : Header) → header_at old to.address ≡ Some t → t.name ≡ n) (moves : Moves old new s.address to h) where
+    (before : (t : Header) → header_at old to.address ≡ Some t → t.name ≡ n) (moves : Moved old new s.address to h) where
   abbrev slot_there : Slot
   slot_there = record s { address = to.address }
 
@@ -236,31 +247,33 @@ module _ (slots slots' : List (ℕ × Slot)) (old new : List Block) (n : ℕ) (s
   moved_own : (i : ℕ) → i < h.size → IsField old (kind_of (kinds_in h.state) i) (word_at old (s.address + 4 + i))
   moved_own i small = kept.fields s.address i h found.there found.live small
 
-  moved_blank : s.has_copy ≡ false → (i : ℕ) → i < h.size → kind_of (kinds_in h.state) i ≡ 0
-  moved_blank none i small = kept.blank n i s h found.slot none found.there small
+  moved_small : kinds_in h.state < 2 ^ (2 * h.size)
+  moved_small = kept.small s.address h found.there found.live
 
-  pub Stands-re_placed : Stands slots' slots old new n (record s { address = to.address }) (with_kinds (record h { state = Live to.moves (kinds_in h.state) }) moves.lays.kinds)
+  moved_blank : s.has_copy ≡ false → kinds_in h.state ≡ 0
+  moved_blank none = kept.blank n s h found.slot none found.there
+
+  pub Stands-re_placed : Stands slots' slots old new n (record s { address = to.address }) (record h { state = Live to.moves (kinds_in h.state) })
   Stands-re_placed =
-      Stands-moved slots slots' old moves.mid n slot_there laid_there (λ i. word_at old (s.address + 4 + i)) kept puts refl found.named moves.lays before moved_own moved_blank new s.address h was_place off found.there found.named moves.forwards
+      Stands-moved slots slots' old moves.mid n slot_there laid_there (λ i. word_at old (s.address + 4 + i)) kept puts refl found.named moves.lays before moved_own moved_small moved_blank new s.address h was_place off found.there found.named moves.forwards
 
   re_placed_names : (x m : ℕ) → name_at old x ≡ Some m → name_at new x ≡ Some m
-  re_placed_names = names_kept slots slots' old new n slot_there (with_kinds laid_there moves.lays.kinds) Stands-re_placed
+  re_placed_names = names_kept slots slots' old new n slot_there laid_there Stands-re_placed
 
-  same_value : (i : ℕ) → i < h.size → field_at new to.address (with_kinds laid_there moves.lays.kinds) i ≡ field_at old s.address h i
+  same_value : (i : ℕ) → i < h.size → field_at new to.address laid_there i ≡ field_at old s.address h i
   same_value i small =
       let word : word_at new (to.address + 4 + i) ≡ word_at old (s.address + 4 + i) =
-      forwarded_words slots slots' old moves.mid n slot_there laid_there (λ i. word_at old (s.address + 4 + i)) kept puts refl found.named moves.lays before moved_own moved_blank new s.address h (record h { state = Forwarded to.address }) off found.there moves.forwards to.address i (with_kinds laid_there moves.lays.kinds) (λ e. off (sym e)) moves.lays.header small
+      forwarded_words slots slots' old moves.mid n slot_there laid_there (λ i. word_at old (s.address + 4 + i)) kept puts refl found.named moves.lays before moved_own moved_small moved_blank new s.address h (record h { state = Forwarded to.address }) off found.there moves.forwards to.address i laid_there (λ e. off (sym e)) moves.lays.header small
       ∙ moves.lays.words i small in
-      ap (value_in new (kind_of moves.lays.kinds i)) word
-      ∙ ap (λ k. value_in new k (word_at old (s.address + 4 + i))) (moves.lays.kept i small)
+      ap (value_in new (kind_of (kinds_in h.state) i)) word
       ∙ value_in-same old new (kind_of (kinds_in h.state) i) (word_at old (s.address + 4 + i)) (moved_own i small) re_placed_names
 
   with_all : List Val → Entry
   with_all fields = record { bunch = h.bunch; size = h.size; place = to; copy = if s.has_copy then Some fields else None }
 
   -- the entry is at the new place
-  pub entry-re_placed : Some (entry_in new (record s { address = to.address }) (with_kinds (record h { state = Live to.moves (kinds_in h.state) }) moves.lays.kinds)) ≡ option_map (at_place to) (entry_at slots old n)
+  pub entry-re_placed : Some (entry_in new (record s { address = to.address }) (record h { state = Live to.moves (kinds_in h.state) })) ≡ option_map (at_place to) (entry_at slots old n)
   unfolding with_all
   entry-re_placed =
-      ap (λ l. Some (with_all l)) (values_of-same (field_at new to.address (with_kinds laid_there moves.lays.kinds)) (field_at old s.address h) h.size same_value)
+      ap (λ l. Some (with_all l)) (values_of-same (field_at new to.address laid_there) (field_at old s.address h) h.size same_value)
       ∙ sym (ap (option_map (at_place to)) (entry_at-found slots old n s h found))

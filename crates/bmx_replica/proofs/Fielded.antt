@@ -9,7 +9,8 @@ use Rattle.bmx_segment.specs.Blocks.{Block}
 use Rattle.bmx_segment.specs.Stores.{header_at}
 use Rattle.bmx_segment.specs.declared.headers.Header.{Header}
 use Rattle.bmx_replica.specs.Slots.{slot_of}
-use Rattle.bmx_replica.specs.Replicas.{Holding, Entry, entry_in, entry_at, entry_of, copy_of, field_of, field_at, values_of, IsFound}
+use Rattle.bmx_replica.specs.Replicas.{Holding, Entry, entry_in, entry_at, entry_of, copy_of, field_of, field_at, values_of}
+use Rattle.bmx_replica.specs.Inside.Replicas.{IsFound}
 use Rattle.bmx_replica.specs.declared.directory.Slot.{Slot}
 
 pub length-values_of : (f : ℕ → Val) (n : ℕ) → length (values_of f n) ≡ n
@@ -65,7 +66,7 @@ module _ (r : Holding) (name : ℕ) (s : Slot) (h : Header) (found : IsFound r.s
       ap (option_and_then (λ (y : Slot). option_map (entry_in r.heap.blocks y) (header_at r.heap.blocks y.address))) found.slot
       ∙ ap (option_map (entry_in r.heap.blocks s)) found.there
 
-  copy_of-found : copy_of r name ≡ (if s.has_copy then Some (values_of (field_at r.heap.blocks s.address h) h.size) else None)
+  pub copy_of-found : copy_of r name ≡ (if s.has_copy then Some (values_of (field_at r.heap.blocks s.address h) h.size) else None)
   copy_of-found = ap (option_and_then (λ (e : Entry). e.copy)) entry_of-found
 
   -- a field that there is

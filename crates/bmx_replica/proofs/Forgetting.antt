@@ -1,5 +1,5 @@
 -- A name that is forgotten: its header is dead.
-use Rattle.std.proofs.Common.{◌≡◌, ◌≢◌, ◌⊎◌, ℕ, ◌+◌, ◌<◌, true, false, List, Some, None, refl, sym, ap, subst, ◌∙◌, inl, inr, arith}
+use Rattle.std.proofs.Common.{◌≡◌, ◌≢◌, ◌⊎◌, ℕ, ◌+◌, ◌*◌, ◌^◌, ◌<◌, true, false, List, Some, None, refl, sym, ap, subst, ◌∙◌, inl, inr, arith}
 use Rattle.std.proofs.Math.Logic.{∥∥₁_map}
 use Rattle.std.specs.Prelude.{◌==◌, if◌then◌else◌}
 use Rattle.std.specs.Option.{option_map, option_and_then}
@@ -7,16 +7,19 @@ use Rattle.std.proofs.lemmas.Bool.{cases_eq, false≢true, eq-eqb, ne_eqb}
 use Rattle.std.proofs.lemmas.Option.{none-some, same_Some}
 use Rattle.bmx_segment.specs.Headers.{kind_of}
 use Rattle.bmx_segment.specs.Blocks.{Block}
-use Rattle.bmx_segment.specs.Stores.{header_at, word_at, Sets}
+use Rattle.bmx_segment.specs.Stores.{header_at, word_at, AreApart, Sets}
 use Rattle.bmx_segment.specs.declared.headers.Header.{Header}
 use Rattle.bmx_segment.specs.declared.headers.State.TheVariants.{Forwarded, Dead}
-use Rattle.bmx_replica.specs.Slots.{slot_of, address_of, PutsSlot}
+use Rattle.bmx_replica.specs.Slots.{slot_of, address_of}
+use Rattle.bmx_replica.specs.Inside.Slots.{PutsSlot}
 use Rattle.bmx_replica.specs.Chains.{is_live, name_at, living, living_at, Leads, here, on, Ends, EndsLive, Means, Reaches}
 use Rattle.bmx_replica.specs.Layouts.{kinds_in}
-use Rattle.bmx_replica.specs.Replicas.{IsReplica, IsField, IsFound, entry_at}
+use Rattle.bmx_replica.specs.Replicas.{IsReplica, IsField, entry_at}
+use Rattle.bmx_replica.specs.Inside.Replicas.{IsFound}
 use Rattle.bmx_replica.specs.declared.directory.Slot.{Slot}
 use Rattle.bmx_replica.proofs.Chained.{name_at-from, alive, not_live, Means-from, name_at-means}
 use Rattle.bmx_replica.proofs.Changing.{disjoint}
+use Rattle.bmx_replica.proofs.Laid.{sets_there, sets_other}
 use Rattle.bmx_replica.proofs.Standing.{IsField-same, address_same, address_other, entry_from, entry_none, slot_cases, with_fields-same}
 
 -- where each header that changes ends a chain, all chains end
@@ -29,7 +32,7 @@ Leads-ends old new b y x kept (on c h e f rest) =
       | inr l ↦ l
     ]
 
-module _ (slots slots' : List (ℕ × Slot)) (old new : List Block) (n : ℕ) (s : Slot) (h : Header) (kept : IsReplica slots old) (found : IsFound slots old n s h) (puts : PutsSlot slots slots' n None) (sets : Sets old new s.address (record h { state = Dead })) where
+module _ (slots slots' : List (ℕ × Slot)) (old new : List Block) (n : ℕ) (s : Slot) (h : Header) (kept : IsReplica slots old) (found : IsFound slots old n s h) (apart : AreApart old) (puts : PutsSlot slots slots' n None) (sets : Sets old new s.address (record h { state = Dead })) where
   a : ℕ
   a = s.address
 
@@ -37,10 +40,10 @@ module _ (slots slots' : List (ℕ × Slot)) (old new : List Block) (n : ℕ) (s
   dead = record h { state = Dead }
 
   dead_there : header_at new s.address ≡ Some (record h { state = Dead })
-  dead_there = sets.headers s.address ∙ ap (λ b. if b then Some dead else header_at old s.address) (eq-eqb s.address s.address refl)
+  dead_there = sets_there old new s.address dead sets
 
   others : (x : ℕ) → x ≢ s.address → header_at new x ≡ header_at old x
-  others x off = sets.headers x ∙ ap (λ b. if b then Some dead else header_at old x) (ne_eqb x s.address off)
+  others x off = sets_other old new s.address dead x sets off
 
   place : address_of slots n ≡ Some s.address
   place = ap (option_map (λ (t : Slot). t.address)) found.slot
@@ -54,7 +57,7 @@ module _ (slots slots' : List (ℕ × Slot)) (old new : List Block) (n : ℕ) (s
   living_kept : (x : ℕ) → x ≢ s.address → living_at new x ≡ living_at old x
   living_kept x off = ap (option_and_then living) (others x off)
 
-  forgotten_names : (x m : ℕ) → name_at old x ≡ Some m → name_at new x ≡ Some m
+  pub forgotten_names : (x m : ℕ) → name_at old x ≡ Some m → name_at new x ≡ Some m
   forgotten_names x m e =
       elim (cases_eq x s.address) [
         | inl at ↦ ap (name_at new) at ∙ name_at-from new s.address dead dead_there ∙ sym (name_at-from old s.address h found.there) ∙ ap (name_at old) (sym at) ∙ e
@@ -122,7 +125,7 @@ module _ (slots slots' : List (ℕ × Slot)) (old new : List Block) (n : ℕ) (s
 
   words_kept : (x i : ℕ) (t : Header) → x ≢ s.address → header_at old x ≡ Some t → i < t.size → word_at new (x + 4 + i) ≡ word_at old (x + 4 + i)
   words_kept x i t off e small =
-      elim (disjoint old x s.address t h found.apart e found.there off) [
+      elim (disjoint old x s.address t h apart e found.there off) [
         | inl first ↦ sets.words (x + 4 + i) (inl (omega arith))
         | inr later ↦ sets.words (x + 4 + i) (inr (omega arith))
       ]
@@ -134,14 +137,17 @@ module _ (slots slots' : List (ℕ × Slot)) (old new : List Block) (n : ℕ) (s
       subst (λ (w : ℕ). IsField new (kind_of (kinds_in t.state) i) w) (sym (words_kept x i t off had small))
       (IsField-same old new (kind_of (kinds_in t.state) i) (word_at old (x + 4 + i)) forgotten_names (kept.fields x i t had live small))
 
-  new_blank : (m i : ℕ) (t : Slot) (y : Header) → slot_of slots' m ≡ Some t → t.has_copy ≡ false → header_at new t.address ≡ Some y → i < y.size → kind_of (kinds_in y.state) i ≡ 0
-  new_blank m i t y e none is small =
+  new_small : (x : ℕ) (t : Header) → header_at new x ≡ Some t → is_live t.state ≡ true → kinds_in t.state < 2 ^ (2 * t.size)
+  new_small x t e live = kept.small x t (sym (others x (not_there x t e live)) ∙ e) live
+
+  new_blank : (m : ℕ) (t : Slot) (y : Header) → slot_of slots' m ≡ Some t → t.has_copy ≡ false → header_at new t.address ≡ Some y → kinds_in y.state ≡ 0
+  new_blank m t y e none is =
       elim (cases_eq n m) [
         | inl same ↦ absurd (none-some t (sym (address_same slots slots' n m None puts same) ∙ e))
         | inr other ↦
             let had : slot_of slots m ≡ Some t = sym (address_other slots slots' n m None puts other) ∙ e in
             let was : living_at old t.address ≡ Some m = (kept.entries m t.address).0 (ap (option_map (λ (y : Slot). y.address)) had) in
-            kept.blank m i t y had none (sym (others t.address (elsewhere m t.address other was)) ∙ is) small
+            kept.blank m t y had none (sym (others t.address (elsewhere m t.address other was)) ∙ is)
       ]
 
   pub IsReplica-forgotten : IsReplica slots' new
@@ -150,6 +156,7 @@ module _ (slots slots' : List (ℕ × Slot)) (old new : List Block) (n : ℕ) (s
     forwards = new_forwards;
     ends = new_ends;
     fields = new_fields;
+    small = new_small;
     blank = new_blank;
   }
 

@@ -1,26 +1,33 @@
--- An object that is laid out word by word.
+-- An object that is laid at an address.
 use Rattle.std.proofs.Common.{◌≡◌, ◌≢◌, ◌⊎◌, ℕ, ◌+◌, ◌<◌, ◌≤◌, true, List, Some, refl, sym, ap, ◌∙◌, inl, inr, arith}
 use Rattle.std.specs.Prelude.{◌==◌, if◌then◌else◌}
 use Rattle.std.specs.Option.{option_map}
 use Rattle.std.proofs.lemmas.Bool.{cases_eq, eq-eqb, ne_eqb, false≢true}
 use Rattle.std.proofs.lemmas.Option.{same_Some}
-use Rattle.bmx_segment.specs.Headers.{kind_of, with_kind, with_kind_at, IsLive}
+use Rattle.bmx_types.specs.declared.addresses.Place.{Place}
+use Rattle.bmx_segment.specs.Headers.{kind_of, IsLive}
 use Rattle.bmx_segment.specs.Blocks.{Block}
-use Rattle.bmx_segment.specs.Stores.{header_at, word_at, Writes, Sets, AreApart}
+use Rattle.bmx_segment.specs.Stores.{header_at, word_at, Sets, AreApart, Lays}
 use Rattle.bmx_segment.specs.declared.headers.Header.{Header}
 use Rattle.bmx_segment.specs.declared.headers.State.{State}
 use Rattle.bmx_segment.specs.declared.headers.State.TheVariants.{Live, Forwarded, Dead}
 use Rattle.bmx_replica.specs.Chains.{is_live}
-use Rattle.bmx_replica.specs.Layouts.{Lays, kinds_in, moves_in, with_kinds}
+use Rattle.bmx_replica.specs.Layouts.{Moves, kinds_in, moves_in, with_kinds}
 
--- the first n fields of a live object are written
-pub record Written (old new : List Block) (a : ℕ) (h : Header) (kinds : ℕ) (f : ℕ → ℕ) (n : ℕ) : Type 0 where
-  pub now : ℕ
-  pub header : header_at new a ≡ Some (with_kinds h now)
-  pub kept : (i : ℕ) → i < n → kind_of now i ≡ kind_of kinds i
-  pub words : (i : ℕ) → i < n → word_at new (a + 4 + i) ≡ f i
+-- an object stands at an address, with those words in its fields; no other header changes, and no word
+-- outside the object
+pub record Laid (old new : List Block) (a : ℕ) (h : Header) (f : ℕ → ℕ) : Type 0 where
+  pub header : header_at new a ≡ Some h
+  pub words : (i : ℕ) → i < h.size → word_at new (a + 4 + i) ≡ f i
   pub headers : (x : ℕ) → x ≢ a → header_at new x ≡ header_at old x
   pub others : (x : ℕ) → (x < a) ⊎ (a + 4 + h.size ≤ x) → word_at new x ≡ word_at old x
+  pub apart : AreApart new
+
+-- an object moves from an address to a place
+pub record Moved (old new : List Block) (a : ℕ) (to : Place) (h : Header) : Type 0 where
+  pub mid : List Block
+  pub lays : Laid old mid to.address (record h { state = Live to.moves (kinds_in h.state) }) (λ i. word_at old (a + 4 + i))
+  pub forwards : Sets mid new a (record h { state = Forwarded to.address })
 
 same_state : (s : State) → is_live s ≡ true → s ≡ Live (moves_in s) (kinds_in s)
 same_state (Live moves kinds) live = refl
@@ -36,41 +43,6 @@ IsLive-from Dead live = absurd (false≢true live)
 pub with_kinds-own : (h : Header) → is_live h.state ≡ true → h ≡ with_kinds h (kinds_in h.state)
 with_kinds-own h live = ap (λ (s : State). let x : Header = record h { state = s } in x) (same_state h.state live)
 
-pub Written-none : (old : List Block) (a : ℕ) (h : Header) (kinds : ℕ) (f : ℕ → ℕ) → header_at old a ≡ Some h → is_live h.state ≡ true → Written old old a h kinds f 0
-Written-none old a h kinds f e live = record {
-  now = kinds_in h.state;
-  header = e ∙ ap Some (with_kinds-own h live);
-  kept = λ i lt. absurd (omega arith);
-  words = λ i lt. absurd (omega arith);
-  headers = λ x off. refl;
-  others = λ x off. refl;
-}
-
-pub Written-more : (old mid new : List Block) (a : ℕ) (h : Header) (kinds : ℕ) (f : ℕ → ℕ) (n kind w : ℕ) → Written old mid a h kinds f n → n < h.size
-    → kind ≡ kind_of kinds n → w ≡ f n → Writes mid new a n kind w
-    → ((ks j : ℕ) → kind_of (with_kind ks n kind) j ≡ (if j == n then kind else kind_of ks j))
-    → Written old new a h kinds f (n + 1)
-Written-more old mid new a h kinds f n kind w so has is_kind is_word one law = record {
-  now = with_kind so.now n kind;
-  header = one.header ∙ ap (option_map (λ (x : Header). record x { state = with_kind_at x.state n kind })) so.header;
-  kept = λ i lt.
-      elim (cases_eq i n) [
-        | inl at ↦ law so.now i ∙ ap (λ b. if b then kind else kind_of so.now i) (eq-eqb i n at) ∙ is_kind ∙ ap (kind_of kinds) (sym at)
-        | inr off ↦ law so.now i ∙ ap (λ b. if b then kind else kind_of so.now i) (ne_eqb i n off) ∙ so.kept i (omega arith)
-      ];
-  words = λ i lt.
-      elim (cases_eq i n) [
-        | inl at ↦ ap (λ k. word_at new (a + 4 + k)) at ∙ one.word ∙ is_word ∙ ap f (sym at)
-        | inr off ↦ one.words (a + 4 + i) (λ e. absurd (omega arith)) (λ e. off (omega arith)) ∙ so.words i (omega arith)
-      ];
-  headers = λ x off. one.headers x off ∙ so.headers x off;
-  others = λ x away.
-      elim away [
-        | inl before ↦ one.words x (λ e. absurd (omega arith)) (λ e. absurd (omega arith)) ∙ so.others x (inl before)
-        | inr after ↦ one.words x (λ e. absurd (omega arith)) (λ e. absurd (omega arith)) ∙ so.others x (inr after)
-      ];
-}
-
 -- where all headers keep their sizes, they stay apart
 pub AreApart-kept : (old new : List Block) → AreApart old → ((a : ℕ) (x : Header) → header_at new a ≡ Some x → (y : Header) × (header_at old a ≡ Some y) × (y.size ≡ x.size)) → AreApart new
 AreApart-kept old new apart had = λ a b x y ex ey lt.
@@ -80,50 +52,53 @@ AreApart-kept old new apart had = λ a b x y ex ey lt.
     let size = p.2 in
     omega arith
 
-pub Lays-written : (old new : List Block) (a : ℕ) (h : Header) (kinds : ℕ) (f : ℕ → ℕ) → header_at old a ≡ Some h → AreApart old → Written old new a h kinds f h.size → Lays old new a (with_kinds h kinds) f
-Lays-written old new a h kinds f e apart all = record {
-  kinds = all.now;
-  header = all.header;
-  kept = all.kept;
-  words = all.words;
-  headers = all.headers;
-  others = all.others;
-  apart = AreApart-kept old new apart (λ b x ex.
-      elim (cases_eq b a) [
-        | inl at ↦
-            let is : x ≡ with_kinds h all.now = same_Some x (with_kinds h all.now) (sym ex ∙ ap (header_at new) at ∙ all.header) in
-            (h, ap (header_at old) at ∙ e, sym (ap (λ (y : Header). y.size) is))
-        | inr off ↦ (x, sym (all.headers b off) ∙ ex, refl)
-      ]);
-}
+-- the header that was set
+pub sets_there : (old new : List Block) (a : ℕ) (h : Header) → Sets old new a h → header_at new a ≡ Some h
+sets_there old new a h sets = sets.headers a ∙ ap (λ b. if b then Some h else header_at old a) (eq-eqb a a refl)
 
--- an object laid where its header was just set
-pub Lays-set : (old mid new : List Block) (a : ℕ) (h : Header) (f : ℕ → ℕ) → is_live h.state ≡ true → Sets old mid a h → Lays mid new a (with_kinds h (kinds_in h.state)) f → Lays old new a h f
-Lays-set old mid new a h f live sets lays = record {
-  kinds = lays.kinds;
-  header = lays.header;
-  kept = lays.kept;
-  words = lays.words;
-  headers = λ x off. lays.headers x off ∙ sets.headers x ∙ ap (λ b. if b then Some h else header_at old x) (ne_eqb x a off);
-  others = λ x away.
-      elim away [
-        | inl before ↦ lays.others x (inl before) ∙ sets.words x (inl before)
-        | inr after ↦ lays.others x (inr after) ∙ sets.words x (inr (omega arith))
-      ];
-  apart = lays.apart;
+pub sets_other : (old new : List Block) (a : ℕ) (h : Header) (x : ℕ) → Sets old new a h → x ≢ a → header_at new x ≡ header_at old x
+sets_other old new a h x sets off = sets.headers x ∙ ap (λ b. if b then Some h else header_at old x) (ne_eqb a x (λ e. off (sym e)))
+
+-- what is laid after nothing but mapping changed
+pub Laid-from : (old mid new : List Block) (a : ℕ) (h : Header) (f g : ℕ → ℕ) → ((x : ℕ) → header_at mid x ≡ header_at old x) → ((x : ℕ) → word_at mid x ≡ word_at old x) → AreApart new
+    → ((i : ℕ) → i < h.size → f i ≡ g i) → Lays mid new a h f → Laid old new a h g
+Laid-from old mid new a h f g headers words apart same lays = record {
+  header = lays.headers a ∙ ap (λ b. if b then Some h else header_at mid a) (eq-eqb a a refl);
+  words = λ i small. lays.fields i small ∙ same i small;
+  headers = λ x off. lays.headers x ∙ ap (λ b. if b then Some h else header_at mid x) (ne_eqb a x (λ e. off (sym e))) ∙ headers x;
+  others = λ x away. lays.words x away ∙ words x;
+  apart = apart;
 }
 
 -- the words may be told another way
 pub Lays-words : (old new : List Block) (a : ℕ) (h : Header) (f g : ℕ → ℕ) → ((i : ℕ) → i < h.size → f i ≡ g i) → Lays old new a h f → Lays old new a h g
 Lays-words old new a h f g same lays = record {
-  kinds = lays.kinds;
-  header = lays.header;
-  kept = lays.kept;
-  words = λ i lt. lays.words i lt ∙ same i lt;
+  mapped = lays.mapped;
   headers = lays.headers;
-  others = lays.others;
-  apart = lays.apart;
+  fields = λ i small. lays.fields i small ∙ same i small;
+  words = lays.words;
 }
+
+-- an object that moves after nothing but mapping changed
+pub Moved-from : (old mid new : List Block) (a : ℕ) (to : Place) (h : Header) → ((x : ℕ) → header_at mid x ≡ header_at old x) → ((x : ℕ) → word_at mid x ≡ word_at old x) → AreApart new
+    → header_at old a ≡ Some h → a ≢ to.address → Moves mid new a to h → Moved old new a to h
+Moved-from old mid new a to h headers words apart there off moves =
+    let x : Header = record h { state = Live to.moves (kinds_in h.state) } in
+    let g : Header = record h { state = Forwarded to.address } in
+    let lay = moves.lays in
+    let here : header_at moves.mid a ≡ Some h = lay.headers a ∙ ap (λ b. if b then Some x else header_at mid a) (ne_eqb to.address a (λ e. off (sym e))) ∙ headers a ∙ there in
+    let between : AreApart moves.mid = AreApart-kept new moves.mid apart (λ b y e.
+    elim (cases_eq b a) [
+      | inl at ↦
+          let is : h ≡ y = same_Some h y (sym here ∙ ap (header_at moves.mid) (sym at) ∙ e) in
+          (g, ap (header_at new) at ∙ sets_there moves.mid new a g moves.forwards, ap (λ (z : Header). z.size) is)
+      | inr away ↦ (y, sets_other moves.mid new a g b moves.forwards away ∙ e, refl)
+    ]) in
+    record {
+      mid = moves.mid;
+      lays = Laid-from old mid moves.mid to.address x (λ i. word_at mid (a + 4 + i)) (λ i. word_at old (a + 4 + i)) headers words between (λ i small. words (a + 4 + i)) lay;
+      forwards = moves.forwards;
+    }
 
 -- no kind
 pub kind_of-none : (i : ℕ) → kind_of 0 i ≡ 0

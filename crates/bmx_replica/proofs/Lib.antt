@@ -9,3 +9,4 @@ pub mod Making
 pub mod Lying
 pub mod Repointing
 pub mod Living
+pub mod Done

@@ -3,7 +3,7 @@ use Rattle.std.specs.Prelude.{ℤ}
 use Rattle.std.proofs.Common.{◌≡◌, ℕ, ◌+◌, ◌<◌, ◌==◌, Bool, true, false, cond, List, Option, Some, None, IsSome, slice_get, unwrap_or, option_and_then, refl, sym, ap, ◌∙◌, subst, ⊎_elim}
 use Rattle.std.specs.Option.{option_map}
 use Rattle.std.specs.Int.{w64, cast_signed}
-use Rattle.std.proofs.lemmas.Bool.{cases_eq, eqb-true}
+use Rattle.std.proofs.lemmas.Bool.{cases_eq, eqb-true, eq-eqb, ne_eqb}
 use Rattle.std.proofs.lemmas.Option.{none-some, same_Some}
 use Rattle.bmx_types.specs.Words.{IsAddress}
 use Rattle.bmx_types.specs.declared.values.Val.{Val}
@@ -17,21 +17,29 @@ use Rattle.bmx_segment.specs.declared.headers.State.TheVariants.{Live, Forwarded
 use Rattle.bmx_replica.specs.declared.directory.Slot.{Slot}
 use Rattle.bmx_replica.specs.Slots.{slot_of, address_of}
 use Rattle.bmx_replica.specs.Chains.{is_live, here, Ends, EndsLive, Reaches, AllLive}
-use Rattle.bmx_replica.specs.Layouts.{Lays, with_kinds, kinds_in}
-use Rattle.bmx_replica.specs.Replicas.{Holding, Entry, IsReplica, IsField, entry_in, entry_of, field_of, field_at, value_in, values_of}
+use Rattle.bmx_replica.specs.Layouts.{kinds_in}
+use Rattle.bmx_segment.specs.Stores.{Lays}
+use Rattle.bmx_replica.specs.Replicas.{Holding, Entry, IsReplica, IsField, entry_in, entry_of, field_of, field_at, value_in, values_of, MakesObject}
+use Rattle.bmx_replica.proofs.Making.{HandsOut-same}
 use Rattle.bmx_replica.proofs.Chained.{map_some, alive, is_end-live}
 use Rattle.bmx_replica.proofs.Fielded.{field_within, slice_get-values_of}
 
 -- ---- what changes them
 
-pub all_live-laid : (old new : List Block) (a : ℕ) (h : Header) (f : ℕ → ℕ) → Lays old new a h f → AllLive old → AllLive new
-all_live-laid old new a h f lays all x t e =
+pub all_live-laid : (old new : List Block) (a : ℕ) (h : Header) (f : ℕ → ℕ) → is_live h.state ≡ true → Lays old new a h f → AllLive old → AllLive new
+all_live-laid old new a h f live lays all x t e =
     ⊎_elim
-    (λ (at : x ≡ a).
-    let same : with_kinds h lays.kinds ≡ t = same_Some (with_kinds h lays.kinds) t (sym lays.header ∙ ap (header_at new) (sym at) ∙ e) in
-    ap (λ (y : Header). is_live y.state) (sym same))
-    (λ (off : x ≡ a → ⊥). all x t (sym (lays.headers x off) ∙ e))
-    (cases_eq x a)
+    (λ (at : a ≡ x).
+    let same : h ≡ t = same_Some h t (sym (lays.headers x ∙ ap (λ b. cond b (Some h) (header_at old x)) (eq-eqb a x at)) ∙ e) in
+    ap (λ (y : Header). is_live y.state) (sym same) ∙ live)
+    (λ (off : a ≡ x → ⊥). all x t (sym (lays.headers x ∙ ap (λ b. cond b (Some h) (header_at old x)) (ne_eqb a x off)) ∙ e))
+    (cases_eq a x)
+
+-- a new object is live
+pub all_live-made : (old new : Holding) (name bunch size : ℕ) → MakesObject old new name bunch size → AllLive old.heap.blocks → AllLive new.heap.blocks
+all_live-made old new name bunch size made all =
+    let same = HandsOut-same old.heap made.mid bunch size made.at made.placed in
+    all_live-laid made.mid.blocks new.heap.blocks made.at (record { bunch = bunch; size = size; name = name; state = Live 0 0 }) (λ _. 0) refl made.laid (λ x t e. all x t (sym (same.0 x) ∙ e))
 
 live_kinds : (s : State) (i n : ℕ) → is_live s ≡ true → is_live (with_kind_at s i n) ≡ true
 live_kinds (Live m k) i n h = refl

@@ -1,6 +1,7 @@
 -- Where a header can be set, by what stands at addresses.
 use Rattle.std.proofs.Common.{◌≡◌, ◌≢◌, ℕ, ◌+◌, ◌-◌, ◌^◌, ◌<◌, ◌≤◌, Bool, true, false, List, Option, Some, None, IsSome, IsSomeAnd, refl, sym, ap, subst, ◌∙◌, inl, inr, arith}
-use Rattle.std.specs.Prelude.{unwrap_or, if◌then◌else◌}
+use Rattle.std.specs.Prelude.{unwrap_or, if◌then◌else◌, is_some}
+use Rattle.bmx_segment.proofs.Keeping.{Maps-there}
 use Rattle.std.specs.Option.{option_and_then}
 use Rattle.std.proofs.lemmas.Bool.{false≢true}
 use Rattle.std.proofs.lemmas.Bool.Decides.{nat_tests}
@@ -10,7 +11,8 @@ use Rattle.bmx_segment.specs.Blocks.{Block, CanStand, header_in, blank_block}
 use Rattle.bmx_segment.specs.Stores.{is_between, segment_key, block_at, header_at, key_at, Maps}
 use Rattle.bmx_segment.specs.Heaps.{Heap, CanSet, handed_of, handed_in, own_at}
 use Rattle.bmx_segment.specs.declared.segments.Own.{Own}
-use Rattle.bmx_replica.specs.Layouts.{CanLie, Readies}
+use Rattle.bmx_replica.specs.Layouts.{CanLie, MapsFor}
+use Rattle.bmx_replica.specs.Inside.Layouts.{Readies}
 
 some_block : (o : Option Block) → IsSome o → (b : Block) × (o ≡ Some b)
 some_block None is = absurd (false≢true is)
@@ -82,15 +84,20 @@ CanLie-unmapped h a name size none inside handed =
       handed = handed;
     }
 
+-- a segment that is mapped already
+MapsFor-there : (h : Heap) (a : ℕ) (b : Block) → block_at h.blocks (key_at a) ≡ Some b → MapsFor h h a
+MapsFor-there h a b is = record {
+  mapped = Maps-there h.blocks (home_of a) (segment_of a) b is;
+  spare = rw is (omega arith);
+  rest = refl;
+}
+
 -- where the segment is mapped
 pub Readies-there : (h : Heap) (a name size : ℕ) → IsSome (block_at h.blocks (key_at a)) → Readies h h a name size
 Readies-there h a name size there =
     let b = some_block (block_at h.blocks (key_at a)) there in
     record {
-      headers = λ x. refl;
-      words = λ x. refl;
-      rest = refl;
-      spare = omega arith;
+      maps = MapsFor-there h a b.0 b.1;
       lies = CanLie-set h a name size b.0 b.1;
       can = CanSet-lie h a name size b.0 b.1;
       stays = λ no. refl;
@@ -112,17 +119,14 @@ between_one key = grind (arith, nat_tests)
 
 -- and where it is mapped now
 pub Readies-mapped : (old new : Heap) (a name size : ℕ) → block_at old.blocks (key_at a) ≡ None → index_of a + 4 + size ≤ 1024 → (home_of a ≡ old.me → index_of a + 4 + size ≤ handed_of old (segment_of a))
-    → Maps old.blocks new.blocks (home_of a) (segment_of a) 1 → new ≡ record old { blocks = new.blocks; spare = new.spare } → old.spare ≤ new.spare + 1 → Readies old new a name size
-Readies-mapped old new a name size none inside handed maps rest spare =
+    → MapsFor old new a → Readies old new a name size
+Readies-mapped old new a name size none inside handed maps =
     let lie : CanLie old a name size = CanLie-unmapped old a name size none inside handed in
-    let now : CanLie new a name size = CanLie-kept old new a name size maps.headers (ap (λ (h : Heap). h.me) rest) (ap (λ (h : Heap). h.own) rest) lie in
-    let there = maps.blocks (key_at a) ∙ ap (λ c. if c then Some (unwrap_or (block_at old.blocks (key_at a)) (blank_block (home_of a) (key_at a - segment_key (home_of a) 0))) else block_at old.blocks (key_at a)) (between_one (key_at a)) in
+    let now : CanLie new a name size = CanLie-kept old new a name size maps.mapped.headers (ap (λ (h : Heap). h.me) maps.rest) (ap (λ (h : Heap). h.own) maps.rest) lie in
+    let there = maps.mapped.blocks (key_at a) ∙ ap (λ c. if c then Some (unwrap_or (block_at old.blocks (key_at a)) (blank_block (home_of a) (key_at a - segment_key (home_of a) 0))) else block_at old.blocks (key_at a)) (between_one (key_at a)) in
     let can : CanSet new a name size = CanSet-lie new a name size _ there now in
     record {
-      headers = maps.headers;
-      words = maps.words;
-      rest = rest;
-      spare = spare;
+      maps = maps;
       lies = λ set. lie;
       can = λ l. can;
       stays = λ no. absurd (no can);
@@ -136,8 +140,6 @@ pub none_from : (o : Option Block) → (IsSome o → ⊥) → o ≡ None
 none_from None off = refl
 none_from (Some b) off = absurd (off refl)
 
--- a heap that changes its blocks after its blocks and its room changed
-pub rest-after : (old mid new : Heap) → mid ≡ record old { blocks = mid.blocks; spare = mid.spare } → new ≡ record mid { blocks = new.blocks } → new ≡ record old { blocks = new.blocks; spare = new.spare }
-rest-after old mid new first then_ =
-    let spare : new.spare ≡ mid.spare = ap (λ (h : Heap). h.spare) then_ in
-    then_ ∙ ap (λ (h : Heap). let y : Heap = record h { blocks = new.blocks } in y) first ∙ ap (λ (n : ℕ). let y : Heap = record old { blocks = new.blocks; spare = n } in y) (sym spare)
+-- mapping takes at most one from the stock
+pub spare_after : (old mid : Heap) (a : ℕ) → MapsFor old mid a → old.spare ≤ mid.spare + 1
+spare_after old mid a maps = spare_from (is_some (block_at old.blocks (key_at a))) old.spare mid.spare maps.spare

@@ -1,5 +1,5 @@
 -- An object that is new under its name.
-use Rattle.std.proofs.Common.{zero, suc, ◌≡◌, ℕ, ◌+◌, ◌<◌, Bool, List, ◌∷◌, Option, Some, None, replicate, refl, sym, ap, ◌∙◌, inl, inr, arith}
+use Rattle.std.proofs.Common.{zero, suc, ◌≡◌, ℕ, ◌+◌, ◌*◌, ◌<◌, Bool, List, ◌∷◌, Option, Some, None, replicate, refl, sym, ap, ◌∙◌, inl, inr, arith}
 use Rattle.std.specs.Prelude.{IsSomeAnd}
 use Rattle.std.specs.Option.{option_map}
 use Rattle.std.proofs.lemmas.Bool.{cases_lt}
@@ -14,11 +14,13 @@ use Rattle.bmx_segment.specs.Heaps.{Heap, PlacesIn, room_of, current_of}
 use Rattle.bmx_segment.specs.Stores.{header_at, word_at}
 use Rattle.bmx_segment.specs.declared.headers.Header.{Header}
 use Rattle.bmx_segment.specs.declared.headers.State.TheVariants.{Live}
-use Rattle.bmx_replica.specs.Slots.{slot_of, address_of, PutsSlot}
-use Rattle.bmx_replica.specs.Layouts.{Lays, Moves, kinds_in, with_kinds, blank_header}
+use Rattle.bmx_replica.specs.Slots.{slot_of, address_of}
+use Rattle.bmx_replica.specs.Inside.Slots.{PutsSlot}
+use Rattle.bmx_replica.specs.Layouts.{blank_header}
 use Rattle.bmx_replica.specs.Replicas.{IsReplica, entry_in, entry_at, field_at, values_of, value_in, HandsOut}
 use Rattle.bmx_replica.specs.declared.directory.Slot.{Slot}
-use Rattle.bmx_replica.proofs.Laid.{kind_of-none, Lays-words}
+use Rattle.bmx_replica.proofs.Laid.{Laid, kind_of-none}
+use Rattle.std.proofs.lemmas.Nat.{pow_pos}
 use Rattle.bmx_replica.proofs.Chained.{alive}
 use Rattle.bmx_replica.proofs.Standing.{Stands, slot_cases, entry_from}
 use Rattle.bmx_replica.proofs.Changing.{Stands-laid, IsField-null}
@@ -63,36 +65,26 @@ HandsOut-me old mid bunch size at hands =
     placed None none = absurd none
     placed (Some n) p = ap (λ (h : Heap). h.me) p.handed
 
--- what is laid after nothing changed
-pub Lays-after : (old mid new : List Block) (a : ℕ) (h : Header) (f : ℕ → ℕ) → ((x : ℕ) → header_at mid x ≡ header_at old x) → ((x : ℕ) → word_at mid x ≡ word_at old x) → Lays mid new a h f → Lays old new a h f
-Lays-after old mid new a h f headers words lays = record {
-  kinds = lays.kinds;
-  header = lays.header;
-  kept = lays.kept;
-  words = lays.words;
-  headers = λ x off. lays.headers x off ∙ headers x;
-  others = λ x away. lays.others x away ∙ words x;
-  apart = lays.apart;
-}
-
--- an object that moves after nothing changed
-pub Moves-after : (old mid new : List Block) (a : ℕ) (to : Place) (h : Header) → ((x : ℕ) → header_at mid x ≡ header_at old x) → ((x : ℕ) → word_at mid x ≡ word_at old x) → Moves mid new a to h → Moves old new a to h
-Moves-after old mid new a to h headers words moves = record {
-  mid = moves.mid;
-  lays = Lays-words old moves.mid to.address (record h { state = Live to.moves (kinds_in h.state) }) (λ i. word_at mid (a + 4 + i)) (λ i. word_at old (a + 4 + i)) (λ i small. words (a + 4 + i))
-      (Lays-after old mid moves.mid to.address (record h { state = Live to.moves (kinds_in h.state) }) (λ i. word_at mid (a + 4 + i)) headers words moves.lays);
-  forwards = moves.forwards;
-}
+pub HandsOut-spare : (old mid : Heap) (bunch size at : ℕ) → HandsOut old mid bunch size at → mid.spare ≡ old.spare
+HandsOut-spare old mid bunch size at hands =
+    elim (cases_lt (room_of old bunch) (4 + size)) [
+      | inl lacks ↦ ap (λ (h : Heap). h.spare) (hands.fresh lacks).rest
+      | inr roomy ↦ placed (current_of old bunch) (hands.roomy roomy)
+    ]
+  where
+    placed : (o : Option ℕ) → IsSomeAnd o (λ n. PlacesIn old mid n size at) → mid.spare ≡ old.spare
+    placed None none = absurd none
+    placed (Some n) p = ap (λ (h : Heap). h.spare) p.handed
 
 values_of-null : (f : ℕ → Val) (n : ℕ) → ((i : ℕ) → i < n → f i ≡ val.Null) → values_of f n ≡ replicate n val.Null
 values_of-null f zero null = refl
 values_of-null f (suc n) null = λ k. null 0 (omega arith) k ∷ values_of-null (λ i. f (i + 1)) n (λ i small. null (i + 1) (omega arith)) k
 
-module _ (slots slots' : List (ℕ × Slot)) (old new : List Block) (i : Info) (copy : Bool) (kept : IsReplica slots old) (absent : slot_of slots i.name ≡ None) (puts : PutsSlot slots slots' i.name (Some (record { address = i.place.address; has_copy = copy }))) (lays : Lays old new i.place.address (blank_header i) (λ _. 0)) (before : (t : Header) → header_at old i.place.address ≡ Some t → t.name ≡ i.name) where
-  pub Stands-added : Stands slots' slots old new i.name (record { address = i.place.address; has_copy = copy }) (with_kinds (blank_header i) lays.kinds)
+module _ (slots slots' : List (ℕ × Slot)) (old new : List Block) (i : Info) (copy : Bool) (kept : IsReplica slots old) (absent : slot_of slots i.name ≡ None) (puts : PutsSlot slots slots' i.name (Some (record { address = i.place.address; has_copy = copy }))) (lays : Laid old new i.place.address (blank_header i) (λ _. 0)) (before : (t : Header) → header_at old i.place.address ≡ Some t → t.name ≡ i.name) where
+  pub Stands-added : Stands slots' slots old new i.name (record { address = i.place.address; has_copy = copy }) (blank_header i)
   Stands-added =
       Stands-laid slots slots' old new i.name (record { address = i.place.address; has_copy = copy }) (blank_header i) (λ _. 0) kept puts refl refl lays before
-      (λ k small. IsField-null old (kind_of 0 k) 0 (kind_of-none k) refl) (λ none k small. kind_of-none k) (λ x off e. absent_place slots i.name x absent e)
+      (λ k small. IsField-null old (kind_of 0 k) 0 (kind_of-none k) refl) (pow_pos (2 * i.size)) (λ none. refl) (λ x off e. absent_place slots i.name x absent e)
 
-  pub null_fields : values_of (field_at new i.place.address (with_kinds (blank_header i) lays.kinds)) i.size ≡ replicate i.size val.Null
-  null_fields = values_of-null _ i.size (λ k small. ap (λ n. value_in new n (word_at new (i.place.address + 4 + k))) (lays.kept k small ∙ kind_of-none k))
+  pub null_fields : values_of (field_at new i.place.address (blank_header i)) i.size ≡ replicate i.size val.Null
+  null_fields = values_of-null _ i.size (λ k small. ap (λ n. value_in new n (word_at new (i.place.address + 4 + k))) (kind_of-none k))

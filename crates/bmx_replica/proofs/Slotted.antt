@@ -4,7 +4,8 @@ use Rattle.std.proofs.lemmas.Bool.{cases_eq, eqb-true, eq-eqb, ne_eqb, and_from,
 use Rattle.std.specs.Map.{lookup}
 use Rattle.std.specs.Prelude.{not}
 use Rattle.bmx_types.specs.Words.{maker, count_of, home_of, segment_of, index_of}
-use Rattle.bmx_replica.specs.Slots.{slot_of, PutsSlot}
+use Rattle.bmx_replica.specs.Slots.{slot_of}
+use Rattle.bmx_replica.specs.Inside.Slots.{PutsSlot}
 use Rattle.bmx_replica.specs.declared.directory.Slot.{Slot}
 
 -- two names are the same, as the keys of a map are compared

@@ -1,8 +1,8 @@
 -- A live object that stands where none of another name did, with the header that its name had forwarded
 -- to it.
-use Rattle.std.proofs.Common.{◌≡◌, ◌≢◌, ◌⊎◌, ℕ, ◌+◌, ◌<◌, true, false, List, ◌∷◌, Option, Some, None, IsSome, is_some, zero, suc, arith, refl, sym, ap, subst, ◌∙◌, inl, inr}
+use Rattle.std.proofs.Common.{◌≡◌, ◌≢◌, ◌⊎◌, ℕ, ◌+◌, ◌*◌, ◌^◌, ◌<◌, true, false, List, ◌∷◌, Option, Some, None, IsSome, is_some, zero, suc, arith, refl, sym, ap, subst, ◌∙◌, inl, inr}
 use Rattle.std.proofs.Math.Logic.{∥∥₁_map}
-use Rattle.std.specs.Prelude.{◌==◌, if◌then◌else◌, unwrap_or}
+use Rattle.std.specs.Prelude.{◌==◌, if◌then◌else◌, unwrap_or, IsSomeAnd, MatchOption}
 use Rattle.std.specs.Int.{w64, cast_signed}
 use Rattle.std.specs.Option.{option_map, option_and_then}
 use Rattle.std.proofs.lemmas.Bool.{cases_eq, false≢true, eq-eqb, ne_eqb}
@@ -15,10 +15,12 @@ use Rattle.bmx_segment.specs.Stores.{header_at, word_at}
 use Rattle.bmx_segment.specs.declared.headers.Header.{Header}
 use Rattle.bmx_segment.specs.declared.headers.State.{State}
 use Rattle.bmx_segment.specs.declared.headers.State.TheVariants.{Live, Forwarded, Dead}
-use Rattle.bmx_replica.specs.Slots.{slot_of, address_of, PutsSlot}
+use Rattle.bmx_replica.specs.Slots.{slot_of, address_of}
+use Rattle.bmx_replica.specs.Inside.Slots.{PutsSlot}
 use Rattle.bmx_replica.specs.Chains.{is_live, name_at, living, living_at, Ends, EndsLive, Means, Reaches}
 use Rattle.bmx_replica.specs.Layouts.{kinds_in, moves_in}
-use Rattle.bmx_replica.specs.Replicas.{IsReplica, IsField, Entry, entry_in, entry_at, field_at, value_in, values_of}
+use Rattle.bmx_replica.specs.Replicas.{Holding, Keeps, IsObject, IfObject, IsReplica, IsField, Entry, entry_in, entry_at, field_at, value_in, values_of}
+use Rattle.bmx_replica.specs.Inside.Replicas.{IsFound}
 use Rattle.bmx_replica.specs.declared.directory.Slot.{Slot}
 use Rattle.bmx_replica.proofs.Chained.{map_some, named, name_at-from, alive, living_at-from, not_live, Lives, Lives-here, Lives-on, Leads-kept, Leads-name, Leads-there, Means-from, name_at-means}
 
@@ -34,7 +36,8 @@ pub record Stands (slots' : List (ℕ × Slot)) (slots : List (ℕ × Slot)) (ol
   pub gone : (x : ℕ) → x ≢ s.address → address_of slots n ≡ Some x → (t : Header) × (header_at new x ≡ Some t) × (t.state ≡ Forwarded s.address) × (t.name ≡ n)
   pub words : (x i : ℕ) (t : Header) → x ≢ s.address → (address_of slots n ≡ Some x → ⊥) → header_at old x ≡ Some t → is_live t.state ≡ true → i < t.size → word_at new (x + 4 + i) ≡ word_at old (x + 4 + i)
   pub own : (i : ℕ) → i < h.size → IsField old (kind_of (kinds_in h.state) i) (word_at new (s.address + 4 + i))
-  pub blank : s.has_copy ≡ false → (i : ℕ) → i < h.size → kind_of (kinds_in h.state) i ≡ 0
+  pub small : kinds_in h.state < 2 ^ (2 * h.size)
+  pub blank : s.has_copy ≡ false → kinds_in h.state ≡ 0
 
 is_it : (o : Option ℕ) (x : ℕ) → (o ≡ Some x) ⊎ (o ≡ Some x → ⊥)
 is_it None x = inr (none-some x)
@@ -272,20 +275,34 @@ module _ (slots slots' : List (ℕ × Slot)) (old new : List Block) (n : ℕ) (s
         λ held. other (same_Some n m (sym (was_there a held) ∙ was)),
       )
 
-  new_blank : (m i : ℕ) (t : Slot) (x : Header) → slot_of slots' m ≡ Some t → t.has_copy ≡ false → header_at new t.address ≡ Some x → i < x.size → kind_of (kinds_in x.state) i ≡ 0
-  new_blank m i t x e none is lt =
+  new_small : (a : ℕ) (x : Header) → header_at new a ≡ Some x → is_live x.state ≡ true → kinds_in x.state < 2 ^ (2 * x.size)
+  new_small a x e live =
+      elim (cases_eq a s.address) [
+        | inl at ↦
+            let is : h ≡ x = same_Some h x (sym so.there ∙ ap (header_at new) (sym at) ∙ e) in
+            let P : Header → Type 0 = λ y. kinds_in y.state < 2 ^ (2 * y.size) in
+            subst P is so.small
+        | inr off ↦
+            elim (is_it (address_of slots n) a) [
+              | inl held ↦
+                  let t = so.gone a off held in
+                  absurd (not_live x.state s.address (ap (λ (y : Header). y.state) (same_Some x t.0 (sym e ∙ t.1)) ∙ t.2) live)
+              | inr not ↦ so.was.small a x (sym (so.headers a off not) ∙ e) live
+            ]
+      ]
+
+  new_blank : (m : ℕ) (t : Slot) (x : Header) → slot_of slots' m ≡ Some t → t.has_copy ≡ false → header_at new t.address ≡ Some x → kinds_in x.state ≡ 0
+  new_blank m t x e none is =
       elim (cases_eq n m) [
         | inl same ↦
             let slot : s ≡ t = same_Some s t (sym (address_same slots slots' n m (Some s) so.puts same) ∙ e) in
             let head : h ≡ x = same_Some h x (sym so.there ∙ ap (λ (y : Slot). header_at new y.address) slot ∙ is) in
-            let P : Header → Type 0 = λ y. i < y.size → kind_of (kinds_in y.state) i ≡ 0 in
-            let held : P h = so.blank (ap (λ (y : Slot). y.has_copy) slot ∙ none) i in
-            subst P head held lt
+            sym (ap (λ (y : Header). kinds_in y.state) head) ∙ so.blank (ap (λ (y : Slot). y.has_copy) slot ∙ none)
         | inr other ↦
             let had : slot_of slots m ≡ Some t = sym (address_other slots slots' n m (Some s) so.puts other) ∙ e in
             let place : address_of slots m ≡ Some t.address = ap (option_map (λ (y : Slot). y.address)) had in
             let away = unmoved m t.address other place in
-            so.was.blank m i t x had none (sym (so.headers t.address away.0 away.1) ∙ is) lt
+            so.was.blank m t x had none (sym (so.headers t.address away.0 away.1) ∙ is)
       ]
 
   -- the replica is one
@@ -295,6 +312,7 @@ module _ (slots slots' : List (ℕ × Slot)) (old new : List Block) (n : ℕ) (s
     forwards = new_forwards;
     ends = new_ends;
     fields = new_fields;
+    small = new_small;
     blank = new_blank;
   }
 
@@ -347,3 +365,42 @@ module _ (slots slots' : List (ℕ × Slot)) (old new : List Block) (n : ℕ) (s
             ∙ sym (ap (λ b. if b then e else entry_at slots old q) (eq-eqb n q same))
         | inr other ↦ others_entry q other ∙ sym (ap (λ b. if b then e else entry_at slots old q) (ne_eqb n q other))
       ]
+
+-- what all that keeps
+pub Keeps-stands : (old new : Holding) (n : ℕ) (s : Slot) (h : Header) → Stands new.slots old.slots old.heap.blocks new.heap.blocks n s h → Keeps old new
+Keeps-stands old new n s h so = record {
+  names = λ x m e. names_kept old.slots new.slots old.heap.blocks new.heap.blocks n s h so x m e;
+  meaning = λ x m e. Means-stands old.slots new.slots old.heap.blocks new.heap.blocks n s h so x m e;
+  reach = λ x m e. Reaches-stands old.slots new.slots old.heap.blocks new.heap.blocks n s h so x m e;
+}
+
+-- what holds of the object that is found
+pub of_object : (r : Holding) (n : ℕ) (s : Slot) (h : Header) (P : ℕ → Header → Type 0) → IsFound r.slots r.heap.blocks n s h → P s.address h → IsObject r n P
+of_object r n s h P found holds =
+    let place : address_of r.slots n ≡ Some s.address = ap (option_map (λ (t : Slot). t.address)) found.slot in
+    let Q : Option Header → Type 0 = λ o. IsSomeAnd o (P s.address) in
+    let at : Q (header_at r.heap.blocks s.address) = subst Q (sym found.there) holds in
+    let R : Option ℕ → Type 0 = λ o. IsSomeAnd o (λ a. IsSomeAnd (header_at r.heap.blocks a) (P a)) in
+    subst R (sym place) at
+
+pub if_object : (r : Holding) (n : ℕ) (s : Slot) (h : Header) (none : Type 0) (P : ℕ → Header → Type 0) → IsFound r.slots r.heap.blocks n s h → P s.address h → IfObject r n none P
+if_object r n s h none P found holds =
+    let place : address_of r.slots n ≡ Some s.address = ap (option_map (λ (t : Slot). t.address)) found.slot in
+    let Q : Option Header → Type 0 = λ o. IsSomeAnd o (P s.address) in
+    let at : Q (header_at r.heap.blocks s.address) = subst Q (sym found.there) holds in
+    let R : Option ℕ → Type 0 = λ o. MatchOption o none (λ a. IsSomeAnd (header_at r.heap.blocks a) (P a)) in
+    subst R (sym place) at
+
+pub if_none : (r : Holding) (n : ℕ) (none : Type 0) (P : ℕ → Header → Type 0) → slot_of r.slots n ≡ None → none → IfObject r n none P
+if_none r n none P absent holds =
+    let R : Option ℕ → Type 0 = λ o. MatchOption o none (λ a. IsSomeAnd (header_at r.heap.blocks a) (P a)) in
+    subst R (sym (ap (option_map (λ (t : Slot). t.address)) absent)) holds
+
+-- the object of a slot
+pub found_at : (slots : List (ℕ × Slot)) (blocks : List Block) (n : ℕ) (s : Slot) → IsReplica slots blocks → slot_of slots n ≡ Some s → (h : Header) × IsFound slots blocks n s h
+found_at slots blocks n s kept slot =
+    let t = alive blocks s.address n ((kept.entries n s.address).0 (ap (option_map (λ (y : Slot). y.address)) slot)) in
+    (t.0, record { slot = slot; there = t.1; live = t.2; named = t.3 })
+
+pub IsFound-named : (slots : List (ℕ × Slot)) (blocks : List Block) (n : ℕ) (s : Slot) (h : Header) → IsFound slots blocks n s h → IsFound slots blocks h.name s h
+IsFound-named slots blocks n s h f = let P : ℕ → Type 0 = λ m. IsFound slots blocks m s h in subst P (sym f.named) f

@@ -6,3 +6,7 @@ use Rattle.bmx_replica.specs.declared.replica.Lent.{Lent}
 -- the names with their slots, of the replica that lent them
 abbrev pub slots_in : Lent → List (ℕ × Slot)
 slots_in l = l.directory.slots
+
+-- how many more names it could take without memory
+abbrev pub room_in : Lent → ℕ
+room_in l = l.directory.spare

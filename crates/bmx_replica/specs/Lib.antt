@@ -3,3 +3,4 @@ pub mod Chains
 pub mod Layouts
 pub mod Replicas
 pub mod Lending
+pub mod Inside

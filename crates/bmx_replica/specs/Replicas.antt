@@ -1,5 +1,6 @@
 -- A replica: what a node has under each name.
-use Rattle.std.specs.Prelude.{◌≡◌, ◌≢◌, ℕ, ◌+◌, ◌<◌, ◌≤◌, ◌==◌, ◌↔◌, true, false, if◌then◌else◌, List, [], ◌∷◌, Option, Some, None, IsSome, IsSomeAnd, unwrap_or, slice_get, slice_set, replicate, ◌^◌, nat_lt}
+use Rattle.std.specs.Prelude.{◌≡◌, ◌≢◌, ◌⊎◌, ℕ, ◌+◌, ◌*◌, ◌<◌, ◌≤◌, ◌==◌, ◌↔◌, true, false, if◌then◌else◌, List, [], ◌∷◌, Option, Some, None, IsSome, IsSomeAnd, MatchOption, is_some, unwrap_or, slice_get, slice_set, replicate, ◌^◌, nat_lt}
+use Rattle.std.specs.Bool.{MatchBool}
 use Rattle.std.proofs.Common.{zero, suc}
 use Rattle.std.specs.Option.{option_map, option_and_then}
 use Rattle.std.specs.Int.{w64, cast_signed, cast_unsigned}
@@ -8,16 +9,17 @@ use Rattle.bmx_types.specs.declared.values.Val.{Val}
 use Rattle.bmx_types.specs.declared.values.Val.TheVariants as val
 use Rattle.bmx_types.specs.declared.addresses.Place.{Place}
 use Rattle.bmx_types.specs.declared.addresses.Info.{Info}
-use Rattle.bmx_segment.specs.Headers.{kind_of}
+use Rattle.bmx_segment.specs.Updates.{Puts}
+use Rattle.bmx_segment.specs.Headers.{header_words, kind_of, kind_number}
 use Rattle.bmx_segment.specs.Blocks.{Block}
-use Rattle.bmx_segment.specs.Stores.{header_at, word_at, AreApart}
+use Rattle.bmx_segment.specs.Stores.{block_at, header_at, word_at, Sets, Writes, Lays}
 use Rattle.bmx_segment.specs.Heaps.{Heap, CanSet, PlacesIn, PlacesInNew, room_of, current_of}
 use Rattle.bmx_segment.specs.declared.headers.Header.{Header}
 use Rattle.bmx_segment.specs.declared.headers.Kind.TheVariants.{Null, Int, Ref}
-use Rattle.bmx_segment.specs.declared.headers.State.TheVariants.{Forwarded}
+use Rattle.bmx_segment.specs.declared.headers.State.TheVariants.{Live, Forwarded, Dead}
 use Rattle.bmx_replica.specs.Slots.{slot_of, address_of}
 use Rattle.bmx_replica.specs.Chains.{Ends, Means, Reaches, name_at, living_at, is_live}
-use Rattle.bmx_replica.specs.Layouts.{kinds_in, moves_in, CanLie}
+use Rattle.bmx_replica.specs.Layouts.{kinds_in, moves_in, with_kinds, blank_header, CanLie, Moves, MapsThen}
 use Rattle.bmx_replica.specs.declared.directory.Slot.{Slot}
 use Rattle.bmx_replica.specs.declared.words.Word.{Word}
 
@@ -48,7 +50,7 @@ values_of f (suc n) = f 0 ∷ values_of (λ i. f (i + 1)) n
 
 -- a field of the object of a header at an address
 abbrev pub field_at : List Block → ℕ → Header → ℕ → Val
-field_at blocks a h i = value_in blocks (kind_of (kinds_in h.state) i) (word_at blocks (a + 4 + i))
+field_at blocks a h i = value_in blocks (kind_of (kinds_in h.state) i) (word_at blocks (a + header_words + i))
 
 -- the entry of a name whose object lies where a header stands
 abbrev pub entry_in : List Block → Slot → Header → Entry
@@ -80,17 +82,14 @@ pub record IsField (blocks : List Block) (kind w : ℕ) : Type 0 where
 
 -- what a replica keeps. A name has an entry at an address exactly where its live header stands there. A
 -- forwarded header leads to one of its name, and from each header the chain of forwarded ones ends. Each
--- field word is one of its kind. Without a copy all kinds are null.
+-- field word is one of its kind, and there are kinds of the fields alone. Without a copy all are null.
 pub record IsReplica (slots : List (ℕ × Slot)) (blocks : List Block) : Type 0 where
   pub entries : (name a : ℕ) → (address_of slots name ≡ Some a) ↔ (living_at blocks a ≡ Some name)
   pub forwards : (a c : ℕ) (h : Header) → header_at blocks a ≡ Some h → h.state ≡ Forwarded c → name_at blocks c ≡ Some h.name
   pub ends : (a : ℕ) (h : Header) → header_at blocks a ≡ Some h → ∥ Ends blocks a ∥₁
-  pub fields : (a i : ℕ) (h : Header) → header_at blocks a ≡ Some h → is_live h.state ≡ true → i < h.size → IsField blocks (kind_of (kinds_in h.state) i) (word_at blocks (a + 4 + i))
-  pub blank : (name i : ℕ) (s : Slot) (h : Header) → slot_of slots name ≡ Some s → s.has_copy ≡ false → header_at blocks s.address ≡ Some h → i < h.size → kind_of (kinds_in h.state) i ≡ 0
-
--- the name has that entry from now on, or none, and each other has what it had
-abbrev pub Puts : Holding → Holding → ℕ → Option Entry → Type 0
-Puts old new name o = (q : ℕ) → entry_of new q ≡ (if name == q then o else entry_of old q)
+  pub fields : (a i : ℕ) (h : Header) → header_at blocks a ≡ Some h → is_live h.state ≡ true → i < h.size → IsField blocks (kind_of (kinds_in h.state) i) (word_at blocks (a + header_words + i))
+  pub small : (a : ℕ) (h : Header) → header_at blocks a ≡ Some h → is_live h.state ≡ true → kinds_in h.state < 2 ^ (2 * h.size)
+  pub blank : (name : ℕ) (s : Slot) (h : Header) → slot_of slots name ≡ Some s → s.has_copy ≡ false → header_at blocks s.address ≡ Some h → kinds_in h.state ≡ 0
 
 -- every word that meant a name still means it
 abbrev pub KeepsMeaning : Holding → Holding → Type 0
@@ -107,6 +106,20 @@ KeepsReach old new = (w name : ℕ) → Reaches old.heap.blocks w name → Reach
 -- every word that reached the header of another name still does
 abbrev pub KeepsReachOfOthers : Holding → Holding → ℕ → Type 0
 KeepsReachOfOthers old new name = (w other : ℕ) → other ≢ name → Reaches old.heap.blocks w other → Reaches new.heap.blocks w other
+
+-- what changes of objects keep: each header its name, each word its meaning, and what it reaches
+pub record Keeps (old new : Holding) : Type 0 where
+  pub names : KeepsNames old new
+  pub meaning : KeepsMeaning old new
+  pub reach : KeepsReach old new
+
+-- the object of a name, by its address and its header
+abbrev pub IsObject : Holding → ℕ → (ℕ → Header → Type 0) → Type 0
+IsObject r name P = IsSomeAnd (address_of r.slots name) (λ a. IsSomeAnd (header_at r.heap.blocks a) (P a))
+
+-- the same where the name has an entry, and another fact where it has none
+abbrev pub IfObject : Holding → ℕ → Type 0 → (ℕ → Header → Type 0) → Type 0
+IfObject r name none P = MatchOption (address_of r.slots name) none (λ a. IsSomeAnd (header_at r.heap.blocks a) (P a))
 
 -- the values of a name's copy
 abbrev pub copy_of : Holding → ℕ → Option (List Val)
@@ -142,15 +155,6 @@ ReachesTarget r val.Null w = Unit {0}
 ReachesTarget r (val.Int k) w = Unit {0}
 ReachesTarget r (val.Ref name) w = Reaches r.heap.blocks w.word name
 
--- a header of a name's object stands at its slot's address
-pub record IsFound (slots : List (ℕ × Slot)) (blocks : List Block) (name : ℕ) (s : Slot) (h : Header) : Type 0 where
-  pub slot : slot_of slots name ≡ Some s
-  pub there : header_at blocks s.address ≡ Some h
-  pub live : is_live h.state ≡ true
-  pub named : h.name ≡ name
-  pub few : h.size ≤ 32
-  pub apart : AreApart blocks
-
 -- the entry at another place
 abbrev pub at_place : Place → Entry → Entry
 at_place p e = record e { place = p }
@@ -161,16 +165,8 @@ blank_entry bunch size a = record { bunch = bunch; size = size; place = record {
 
 -- words for an object of the bunch are handed out at an address
 pub record HandsOut (old new : Heap) (bunch size at : ℕ) : Type 0 where
-  pub roomy : 4 + size ≤ room_of old bunch → IsSomeAnd (current_of old bunch) (λ n. PlacesIn old new n size at)
-  pub fresh : room_of old bunch < 4 + size → PlacesInNew old new bunch size at
-
--- an object of the bunch is made under the name, in words that are handed out
-pub record MakesObject (old new : Holding) (name bunch size : ℕ) : Type 0 where
-  pub at : ℕ
-  pub mid : Heap
-  pub placed : HandsOut old.heap mid bunch size at
-  pub heap : new.heap ≡ record mid { blocks = new.heap.blocks }
-  pub entry : Puts old new name (Some (blank_entry bunch size at))
+  pub roomy : header_words + size ≤ room_of old bunch → IsSomeAnd (current_of old bunch) (λ n. PlacesIn old new n size at)
+  pub fresh : room_of old bunch < header_words + size → PlacesInNew old new bunch size at
 
 -- an object can move to an address: the words there were handed out for one of its size, and no header
 -- stands in them
@@ -190,37 +186,91 @@ abbrev pub Accepts : Heap → Info → Option Entry → Type 0
 Accepts h i None = CanLie h i.place.address i.name i.size
 Accepts h i (Some e) = (e.bunch ≡ i.bunch) × (e.size ≡ i.size) × (e.place.moves < i.place.moves → (e.place.address ≢ i.place.address) × CanLie h i.place.address i.name i.size)
 
--- an Info is learned
-pub record Learns (old new : Holding) (i : Info) : Type 0 where
-  pub accepted : Accepts old.heap i (entry_of old i.name)
-  pub entry : Puts old new i.name (Some (learned i (entry_of old i.name)))
-  pub heap : new.heap ≡ record old.heap { blocks = new.heap.blocks; spare = new.heap.spare }
-  pub spare : old.spare ≤ new.spare + 1
-  pub meaning : KeepsMeaning old new
-  pub reach : KeepsReach old new
-
 -- nothing changed but room
 pub record Same (old new : Holding) : Type 0 where
   pub slots : new.slots ≡ old.slots
   pub heap : new.heap ≡ old.heap
   pub spare : old.spare ≤ new.spare
 
--- no word of another field of a copy changes
-abbrev pub OthersStay : Holding → Holding → ℕ → ℕ → Type 0
-OthersStay old new name i = (q j a : ℕ) → (q ≡ name → j ≡ i → ⊥) → address_of old.slots q ≡ Some a → IsSome (field_of old q j) → word_at new.heap.blocks (a + 4 + j) ≡ word_at old.heap.blocks (a + 4 + j)
-
 -- the word of a field is that of its value: of a reference the current address
 abbrev pub IsCurrent : Holding → ℕ → ℕ → Type 0
-IsCurrent r name i = (v : Val) (a : ℕ) → field_of r name i ≡ Some v → address_of r.slots name ≡ Some a → word_at r.heap.blocks (a + 4 + i) ≡ (word_in r v).word
+IsCurrent r name i = (v : Val) (a : ℕ) → field_of r name i ≡ Some v → address_of r.slots name ≡ Some a → word_at r.heap.blocks (a + header_words + i) ≡ (word_in r v).word
 
 -- each reference in a copy is to a name with an entry
 abbrev pub HasTargets : Holding → Type 0
 HasTargets r = (name i : ℕ) (v : Val) → field_of r name i ≡ Some v → HasTarget r v
 
--- field words become current, and all else stays
+-- ---- what each call does
+
+-- a value is written to a field of a name's copy: its object has the value's word there, and its kind
+pub record WritesField (old new : Holding) (name i : ℕ) (v : Val) : Type 0 where
+  pub entry : Puts (entry_of old) (entry_of new) name (option_map (with_value i v) (entry_of old name))
+  pub written : IsSomeAnd (address_of old.slots name) (λ a. Writes old.heap.blocks new.heap.blocks a i (kind_number (word_in old v).kind) (word_in old v).word)
+  pub rest : new ≡ record old { heap = record old.heap { blocks = new.heap.blocks } }
+  pub keeps : Keeps old new
+
+-- a name has no copy from now on: the kinds and the words of its object's fields are 0; without an entry
+-- nothing changes
+pub record ClearsCopy (old new : Holding) (name : ℕ) : Type 0 where
+  pub entry : Puts (entry_of old) (entry_of new) name (option_map without_copy (entry_of old name))
+  pub cleared : IfObject old name (new ≡ old) (λ a h. Lays old.heap.blocks new.heap.blocks a (with_kinds h 0) (λ _. 0))
+  pub heap : new.heap ≡ record old.heap { blocks = new.heap.blocks }
+  pub spare : new.spare ≡ old.spare
+  pub keeps : Keeps old new
+
+-- an object of the bunch is made under the name, in words that are handed out
+pub record MakesObject (old new : Holding) (name bunch size : ℕ) : Type 0 where
+  pub at : ℕ
+  pub mid : Heap
+  pub placed : HandsOut old.heap mid bunch size at
+  pub laid : Lays mid.blocks new.heap.blocks at (record { bunch = bunch; size = size; name = name; state = Live 0 0 }) (λ _. 0)
+  pub heap : new.heap ≡ record mid { blocks = new.heap.blocks }
+  pub entry : Puts (entry_of old) (entry_of new) name (Some (blank_entry bunch size at))
+  pub spare : old.spare ≤ new.spare + 1
+  pub keeps : Keeps old new
+
+-- what an Info changes beside an entry: a new object is laid, an older place's object moves, each in a
+-- segment that is mapped; or nothing
+abbrev pub Places : Holding → Holding → Info → Option Entry → Type 0
+Places old new i None = MapsThen old.heap new.heap i.place.address (λ before after. Lays before after i.place.address (blank_header i) (λ _. 0))
+Places old new i (Some e) =
+    MatchBool (nat_lt e.place.moves i.place.moves)
+    (IsObject old i.name (λ a h. MapsThen old.heap new.heap i.place.address (λ before after. Moves before after a i.place h)))
+    (new ≡ old)
+
+-- an Info is learned
+pub record Learns (old new : Holding) (i : Info) : Type 0 where
+  pub accepted : Accepts old.heap i (entry_of old i.name)
+  pub entry : Puts (entry_of old) (entry_of new) i.name (Some (learned i (entry_of old i.name)))
+  pub places : Places old new i (entry_of old i.name)
+  pub spare : old.spare ≤ new.spare + 1
+  pub keeps : Keeps old new
+
+-- the object of a name moves, with its copy
+pub record MovesObject (old new : Holding) (name to : ℕ) : Type 0 where
+  pub entry : IsSomeAnd (entry_of old name) (λ e. Puts (entry_of old) (entry_of new) name (Some (at_place (record { address = to; moves = e.place.moves + 1 }) e)))
+  pub moved : IsObject old name (λ a h. Moves old.heap.blocks new.heap.blocks a (record { address = to; moves = moves_in h.state + 1 }) h)
+  pub heap : new.heap ≡ record old.heap { blocks = new.heap.blocks }
+  pub spare : new.spare ≡ old.spare
+  pub keeps : Keeps old new
+
+-- the entry of a name is gone, and its object's header dead; without an entry nothing changes. Words reach
+-- what they reached but for that object, and still mean its name
+pub record Forgets (old new : Holding) (name : ℕ) : Type 0 where
+  pub entry : Puts (entry_of old) (entry_of new) name None
+  pub dead : IfObject old name (new ≡ old) (λ a h. Sets old.heap.blocks new.heap.blocks a (record h { state = Dead }))
+  pub heap : new.heap ≡ record old.heap { blocks = new.heap.blocks }
+  pub spare : old.spare ≤ new.spare
+  pub names : KeepsNames old new
+  pub meaning : KeepsMeaning old new
+  pub reach : KeepsReachOfOthers old new name
+
+-- field words become current; each header stays, and each word of no header and no field
 pub record Repoints (old new : Holding) : Type 0 where
   pub entries : (q : ℕ) → entry_of new q ≡ entry_of old q
+  pub mapped : (k : ℕ) → is_some (block_at new.heap.blocks k) ≡ is_some (block_at old.heap.blocks k)
+  pub headers : (a : ℕ) → header_at new.heap.blocks a ≡ header_at old.heap.blocks a
+  pub words : (x : ℕ) → ((a : ℕ) (h : Header) → header_at old.heap.blocks a ≡ Some h → (x < a) ⊎ (a + header_words ≤ x)) → ((q j a : ℕ) → address_of old.slots q ≡ Some a → IsSome (field_of old q j) → x ≢ a + header_words + j) → word_at new.heap.blocks x ≡ word_at old.heap.blocks x
   pub rest : new ≡ record old { heap = record old.heap { blocks = new.heap.blocks } }
   pub current : (q j : ℕ) → IsCurrent old q j → IsCurrent new q j
-  pub meaning : KeepsMeaning old new
-  pub reach : KeepsReach old new
+  pub keeps : Keeps old new

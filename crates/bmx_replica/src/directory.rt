@@ -1,5 +1,6 @@
 ghost use Rattle.std.specs.Prelude.{◌≡◌, ◌+◌, ◌<◌, ◌≤◌, [], length, slice_get, IsSome, IsOk, OnOk, Some, None};
-ghost use Rattle.bmx_replica.specs.Slots.{slot_of, PutsSlot};
+ghost use Rattle.bmx_replica.specs.Slots.{slot_of};
+ghost use Rattle.bmx_replica.specs.Inside.Slots.{PutsSlot};
 
 use bmx_types::{Address, Name, NoMemory};
 use indexmap::IndexMap;
@@ -21,7 +22,7 @@ pub(crate) struct Directory {
 
 impl Model for Directory {
     ghost use Rattle.indexmap.specs.IndexMap.{spare};
-    ghost use Rattle.bmx_replica.specs.Slots.{Listing};
+    ghost use Rattle.bmx_replica.specs.Inside.Slots.{Listing};
 
     ghost Value = { Listing };
 

@@ -1,27 +1,27 @@
-ghost use Rattle.std.specs.Prelude.{◌≡◌, ◌≢◌, ℕ, ◌+◌, ◌<◌, ◌≤◌, ◌↔◌, [], replicate, Some, None, IsTrue, IsOk, IsErrOf, IsSome, IsSomeAnd, IfSome, IfNone, OnOk, OnErr};
+ghost use Rattle.std.specs.Prelude.{◌≡◌, ◌≢◌, ℕ, ◌+◌, ◌<◌, ◌≤◌, ◌↔◌, [], true, min, replicate, Some, None, IsTrue, IsOk, IsErrOf, IsSome, IsSomeAnd, IfSome, IfNone, OnOk, OnErr};
 ghost use Rattle.std.specs.Option.{option_map};
 ghost use Rattle.bmx_types.specs.Words.{home_of, segment_of, index_of};
 ghost use Rattle.bmx_replica.specs.declared.replica.LearnError.TheVariants.{NoMemory as out_of_memory, Clash as no_fit};
-ghost use Rattle.bmx_segment.specs.Headers.{kind_number, kind_of};
-ghost use Rattle.bmx_segment.specs.Stores.{Writes};
+ghost use Rattle.bmx_segment.specs.Headers.{kind_number};
+ghost use Rattle.bmx_segment.specs.Stores.{AreApart, Lays};
 ghost use Rattle.bmx_segment.specs.Heaps.{CanSet, made_of, room_of, handed_of};
-ghost use Rattle.bmx_replica.specs.Layouts.{Lays, Moves, Readies, CanLie, kinds_in, blank_header};
 ghost use Rattle.bmx_segment.specs.declared.segments.PlaceError.TheVariants.{Full};
-ghost use Rattle.bmx_replica.specs.Slots.{slot_of, address_of, PutsSlot};
-ghost use Rattle.bmx_replica.specs.Chains.{Means, name_at, AllLive};
-ghost use Rattle.bmx_replica.specs.Replicas.{entry_of, info_in, copy_of, field_of, value_in, word_in, with_value, without_copy, at_place, OthersStay, IsCurrent, HasTargets, Repoints, CanMove, MakesObject, Learns, Accepts, Same, KeepsReachOfOthers, HasTarget, IsField, IsFound, IsReplica, Puts, KeepsMeaning, KeepsReach, KeepsNames, ReachesTarget};
+ghost use Rattle.bmx_replica.specs.Slots.{slot_of};
+ghost use Rattle.bmx_replica.specs.Chains.{Means, name_at};
+ghost use Rattle.bmx_replica.specs.Layouts.{Moves, CanLie, blank_header};
+ghost use Rattle.bmx_replica.specs.Replicas.{entry_of, info_in, copy_of, field_of, value_in, word_in, IsCurrent, HasTargets, CanMove, Accepts, Same, HasTarget, IsField, IsReplica, ReachesTarget, WritesField, ClearsCopy, MakesObject, Learns, MovesObject, Forgets, Repoints};
+ghost use Rattle.bmx_replica.specs.Inside.Slots.{PutsSlot};
+ghost use Rattle.bmx_replica.specs.Inside.Layouts.{Readies};
+ghost use Rattle.bmx_replica.specs.Inside.Replicas.{IsFound, OthersStay};
 
 use crate::directory::{Directory, Slot};
-use crate::layout::{NO_WORDS, field_words, kind_in, lay, write_fields};
+use crate::layout::{NO_WORDS, field_words, kind_in};
 use crate::words::Word;
-use bmx_segment::{Clash, Header, Kind, PlaceError, Segments, State};
+use bmx_segment::{Clash, HEADER_WORDS, Header, Kind, PlaceError, SEGMENT_WORDS, Segments, State};
 use bmx_types::{Address, BunchNo, Info, Name, NoMemory, NodeNo, Place, Val};
 use std::alloc::Global;
 use std::marker::Model;
 use std::mem;
-
-/// How many words a segment has.
-const SEGMENT_WORDS: u32 = 1024;
 
 /// Why a place isn't learned.
 #[derive(Clone, Copy, Debug, PartialEq, Eq)]
@@ -60,6 +60,7 @@ pub struct Replica {
     me: NodeNo,
     directory: Directory,
     segments: Segments,
+    alloc: Global,
 }
 
 impl Model for Replica {
@@ -89,7 +90,7 @@ struct Found {
 }
 
 impl Replica {
-    ghost use Rattle.bmx_replica.specs.Lending.{slots_in};
+    ghost use Rattle.bmx_replica.specs.Lending.{slots_in, room_in};
 
     /// No name, nothing made or mapped. Takes no memory.
     pub fn new(alloc: Global, me: NodeNo, limit: u32) -> Replica
@@ -101,19 +102,21 @@ impl Replica {
             me,
             directory: Directory::new(alloc),
             segments: Segments::new(alloc, me, limit),
+            alloc,
         }
     }
 
     /// Lends the segments, with the names, which the replica is without until they are given back. Takes no
     /// memory.
-    pub fn lend(&mut self, alloc: Global) -> Lent
+    pub fn lend(&mut self) -> Lent
         ensures slots { slots_in result ≡ self.old.slots }
         ensures segments { result.segments ≡ self.old.heap }
+        ensures spare { min (room_in result) result.segments.spare ≡ self.old.spare }
         ensures replica { IsReplica self.old.slots self.old.heap.blocks }
         ensures left { self.new.slots ≡ [] }
-        ensures me { self.new.heap.me ≡ self.old.heap.me }
+        ensures nothing { self.new.heap ≡ record { me = self.old.heap.me; limit = 0; own = []; current = replicate 16 None; blocks = []; spare = 0 } }
     {
-        let nothing = Replica::new(alloc, self.me, 0);
+        let nothing = Replica::new(self.alloc, self.me, 0);
         let Replica {
             directory,
             segments,
@@ -129,8 +132,7 @@ impl Replica {
     pub fn give_back(&mut self, lent: Lent)
         requires replica { IsReplica (slots_in lent) lent.segments.blocks }
         requires me { lent.segments.me ≡ self.old.heap.me }
-        ensures slots { self.new.slots ≡ slots_in lent }
-        ensures heap { self.new.heap ≡ lent.segments }
+        ensures { self.new ≡ record { slots = slots_in lent; heap = lent.segments; spare = min (room_in lent) lent.segments.spare } }
     {
         let Lent {
             directory,
@@ -152,7 +154,10 @@ impl Replica {
     fn find(&self, name: Name) -> Option<Found>
         ensures slot { option_map (λ f. f.slot) result ≡ slot_of self.now.slots name }
         ensures found { IfSome result (λ f. IsFound self.now.slots self.now.heap.blocks name f.slot f.header) }
+        ensures few { IfSome result (λ f. f.header.size ≤ 32) }
+        ensures stands { IfSome result (λ f. CanSet self.now.heap f.slot.address f.header.name f.header.size) }
         ensures replica { IsReplica self.now.slots self.now.heap.blocks }
+        ensures apart { IfSome result (λ _. AreApart self.now.heap.blocks) }
     {
         let slot = self.directory.get(name)?;
         let Some(header) = self.segments.header(slot.address) else {
@@ -185,8 +190,8 @@ impl Replica {
     pub fn has_copy(&self, name: Name) -> bool
         ensures { IsTrue result ↔ IsSome (copy_of self.now name) }
     {
-        match self.find(name) {
-            Some(found) => found.slot.has_copy,
+        match self.directory.get(name) {
+            Some(slot) => slot.has_copy,
             None => false,
         }
     }
@@ -201,8 +206,8 @@ impl Replica {
     {
         let segments = &self.segments;
         let address = Address::from_word(w)?;
-        match segments.header(address) {
-            Some(header) => Some(header.name),
+        match segments.name(address) {
+            Some(name) => Some(name),
             None => None,
         }
     }
@@ -251,15 +256,35 @@ impl Replica {
                 word: number.cast_unsigned(),
             },
             Val::Ref(name) => {
-                let Some(found) = self.find(name) else {
+                let Some(slot) = self.directory.get(name) else {
                     unreachable!()
                 };
                 Word {
                     kind: Kind::Ref,
-                    word: found.slot.address.word(),
+                    word: slot.address.word(),
                 }
             }
         }
+    }
+
+    /// The value in a field of a copy that was found.
+    fn field_in(&self, found: &Found, i: u8) -> Val
+        requires found { IsFound self.now.slots self.now.heap.blocks found.now.header.name found.now.slot found.now.header }
+        requires copy { found.now.slot.has_copy ≡ true }
+        requires field { i < found.now.header.size }
+        requires few { found.now.header.size ≤ 32 }
+        requires replica { IsReplica self.now.slots self.now.heap.blocks }
+        ensures { field_of self.now found.now.header.name i ≡ Some result }
+    {
+        let Found { slot, header } = *found;
+        let State::Live { kinds, .. } = header.state else {
+            unreachable!()
+        };
+        let word = Word {
+            kind: kind_in(kinds, i),
+            word: self.segments.word(slot.address, i),
+        };
+        self.value(word)
     }
 
     /// The value in a field of a name's copy.
@@ -270,14 +295,7 @@ impl Replica {
         let Some(found) = self.find(name) else {
             unreachable!()
         };
-        let State::Live { kinds, .. } = found.header.state else {
-            unreachable!()
-        };
-        let word = Word {
-            kind: kind_in(kinds, i),
-            word: self.segments.word(found.slot.address, i),
-        };
-        self.value(word)
+        self.field_in(&found, i)
     }
 
     /// The value in a field of a name's copy, None where the name has no copy or the copy no such field.
@@ -290,26 +308,31 @@ impl Replica {
         if !found.slot.has_copy || i >= found.header.size {
             return None;
         }
-        Some(self.read_field(name, i))
+        Some(self.field_in(&found, i))
     }
 
     /// Writes a field of a name's copy. A reference is stored as the current address of its name.
     pub fn write_field(&mut self, name: Name, i: u8, v: Val)
         requires field { IsSome (field_of self.old name i) }
         requires target { HasTarget self.old v }
-        ensures entry { Puts self.old self.new name (option_map (with_value i v) (entry_of self.old name)) }
-        ensures written { IsSomeAnd (address_of self.old.slots name) (λ a. Writes self.old.heap.blocks self.new.heap.blocks a i (kind_number (word_in self.old v).kind) (word_in self.old v).word) }
+        ensures { WritesField self.old self.new name i v }
+    {
+        self.put_field(name, i, v);
+    }
+
+    /// The same.
+    fn put_field(&mut self, name: Name, i: u8, v: Val)
+        requires field { IsSome (field_of self.old name i) }
+        requires target { HasTarget self.old v }
+        ensures writes { WritesField self.old self.new name i v }
         ensures others { OthersStay self.old self.new name i }
-        ensures rest { self.new ≡ record self.old { heap = record self.old.heap { blocks = self.new.heap.blocks } } }
-        ensures meaning { KeepsMeaning self.old self.new }
-        ensures reach { KeepsReach self.old self.new }
-        ensures names { KeepsNames self.old self.new }
+        ensures fields { IsReplica self.old.slots self.old.heap.blocks }
     {
         let Word { kind, word } = self.word(v);
-        let Some(found) = self.find(name) else {
+        let Some(slot) = self.directory.get(name) else {
             unreachable!()
         };
-        self.segments.set_word(found.slot.address, i, kind, word);
+        self.segments.set_word(slot.address, i, kind, word);
     }
 
     /// Writes a field of a copy again, so that a reference is stored as the current address of its name.
@@ -320,7 +343,7 @@ impl Replica {
         ensures current { IsCurrent self.new name i }
     {
         let value = self.read_field(name, i);
-        self.write_field(name, i, value);
+        self.put_field(name, i, value);
     }
 
     /// Writes all fields of a name's copy again.
@@ -355,19 +378,22 @@ impl Replica {
 
     /// Clears the fields of a name, which has no copy from now on. Where it has no entry nothing changes.
     pub fn clear_copy(&mut self, name: Name)
-        ensures entry { Puts self.old self.new name (option_map without_copy (entry_of self.old name)) }
-        ensures heap { self.new.heap ≡ record self.old.heap { blocks = self.new.heap.blocks } }
-        ensures spare { self.new.spare ≡ self.old.spare }
-        ensures meaning { KeepsMeaning self.old self.new }
-        ensures reach { KeepsReach self.old self.new }
+        ensures { ClearsCopy self.old self.new name }
     {
         let Some(found) = self.find(name) else {
             return;
         };
-        let address = found.slot.address;
-        write_fields(&mut self.segments, address, 0, &NO_WORDS);
+        let Found { slot, header } = found;
+        let State::Live { moves, .. } = header.state else {
+            unreachable!()
+        };
+        let state = State::Live { moves, kinds: 0 };
+        let cleared = Header { state, ..header };
+        let Ok(()) = self.segments.lay(slot.address, &cleared, &NO_WORDS) else {
+            unreachable!()
+        };
         let has_copy = false;
-        self.directory.set(name, Slot { address, has_copy });
+        self.directory.set(name, Slot { has_copy, ..slot });
     }
 
     /// Makes an object of a bunch under a new name, with null fields, where the segments find a place. It
@@ -378,12 +404,7 @@ impl Replica {
         ensures made { OnOk result (MakesObject self.old self.new name bunch size) }
         ensures full { IsErrOf result Full → (self.old.heap.limit ≤ made_of self.old.heap) × (room_of self.old.heap bunch < 4 + size) }
         ensures room { OnOk result (¬ ((self.old.heap.limit ≤ made_of self.old.heap) × (room_of self.old.heap bunch < 4 + size))) }
-        ensures err { OnErr result (self.new.heap ≡ self.old.heap) }
-        ensures err_slots { OnErr result (self.new.slots ≡ self.old.slots) }
-        ensures meaning { KeepsMeaning self.old self.new }
-        ensures reach { KeepsReach self.old self.new }
-        ensures live { OnOk result (AllLive self.old.heap.blocks → AllLive self.new.heap.blocks) }
-        ensures names { KeepsNames self.old self.new }
+        ensures err { OnErr result (Same self.old self.new) }
     {
         self.directory.reserve(1)?;
         let address = self.segments.place(bunch, size)?;
@@ -437,6 +458,7 @@ impl Replica {
     fn learn_again(&mut self, info: &Info, found: &Found) -> Result<(), LearnError>
         requires few { info.now.size ≤ 32 }
         requires found { IsFound self.old.slots self.old.heap.blocks info.now.name found.now.slot found.now.header }
+        requires small { found.now.header.size ≤ 32 }
         ensures ok { OnOk result (Learns self.old self.new info.now) }
         ensures clash { IsErrOf result no_fit → ¬ Accepts self.old.heap info.now (entry_of self.old info.now.name) }
         ensures err { OnErr result (Same self.old self.new) }
@@ -475,11 +497,7 @@ impl Replica {
     /// Takes the entry of a name away; its header is dead. Where it has no entry nothing changes. A word
     /// that leads to the object still means the name.
     pub fn forget(&mut self, name: Name)
-        ensures entry { Puts self.old self.new name None }
-        ensures heap { self.new.heap ≡ record self.old.heap { blocks = self.new.heap.blocks } }
-        ensures spare { self.old.spare ≤ self.new.spare }
-        ensures meaning { KeepsMeaning self.old self.new }
-        ensures reach { KeepsReachOfOthers self.old self.new name }
+        ensures { Forgets self.old self.new name }
     {
         let Some(found) = self.find(name) else {
             return;
@@ -492,11 +510,7 @@ impl Replica {
     /// 1, and the old header forwards.
     pub fn relocate(&mut self, name: Name, to: Address)
         requires { IsSomeAnd (entry_of self.old name) (λ e. CanMove self.old.heap to e) }
-        ensures entry { IsSomeAnd (entry_of self.old name) (λ e. Puts self.old self.new name (Some (at_place (record { address = to; moves = e.place.moves + 1 }) e))) }
-        ensures heap { self.new.heap ≡ record self.old.heap { blocks = self.new.heap.blocks } }
-        ensures spare { self.new.spare ≡ self.old.spare }
-        ensures meaning { KeepsMeaning self.old self.new }
-        ensures reach { KeepsReach self.old self.new }
+        ensures { MovesObject self.old self.new name to }
     {
         let Some(found) = self.find(name) else {
             unreachable!()
@@ -523,10 +537,11 @@ fn re_place(
     to: Place,
 ) -> Result<(), Clash>
     requires found { IsFound directory.old.slots segments.old.blocks found.now.header.name found.now.slot found.now.header }
-    requires known { (i : ℕ) → i < found.now.header.size → kind_of (kinds_in found.now.header.state) i < 3 }
+    requires few { found.now.header.size ≤ 32 }
     requires apart { found.now.slot.address ≢ to.address }
     ensures ok { IsOk result ↔ CanSet segments.old to.address found.now.header.name found.now.header.size }
     ensures moved { OnOk result (Moves segments.old.blocks segments.new.blocks found.now.slot.address to found.now.header) }
+    ensures apart { OnOk result (AreApart segments.new.blocks) }
     ensures rest { segments.new ≡ record segments.old { blocks = segments.new.blocks } }
     ensures slots { OnOk result (PutsSlot directory.old.slots directory.new.slots found.now.header.name (Some (record found.now.slot { address = to.address }))) }
     ensures spare { directory.new.spare ≡ directory.old.spare }
@@ -541,7 +556,7 @@ fn re_place(
     let moves = to.moves;
     let state = State::Live { moves, kinds };
     let moved = Header { state, ..header };
-    lay(segments, to.address, &moved, &words)?;
+    segments.lay(to.address, &moved, &words)?;
     segments.forward(slot.address, to.address);
     let address = to.address;
     directory.set(header.name, Slot { address, ..slot });
@@ -560,6 +575,7 @@ fn add_object(
     requires room { 0 < directory.old.spare }
     ensures ok { IsOk result ↔ CanSet segments.old info.now.place.address info.now.name info.now.size }
     ensures laid { OnOk result (Lays segments.old.blocks segments.new.blocks info.now.place.address (blank_header info.now) (λ i. 0)) }
+    ensures apart { OnOk result (AreApart segments.new.blocks) }
     ensures rest { segments.new ≡ record segments.old { blocks = segments.new.blocks } }
     ensures slots { OnOk result (PutsSlot directory.old.slots directory.new.slots info.now.name (Some (record { address = info.now.place.address; has_copy = has_copy }))) }
     ensures spare { directory.old.spare ≤ directory.new.spare + 1 }
@@ -577,7 +593,7 @@ fn add_object(
         state,
     };
     let address = info.place.address;
-    lay(segments, address, &header, &NO_WORDS)?;
+    segments.lay(address, &header, &NO_WORDS)?;
     directory.add(info.name, Slot { address, has_copy });
     Ok(())
 }
@@ -589,15 +605,15 @@ fn is_handed(segments: &Segments, me: NodeNo, address: Address, size: u8) -> boo
     requires me { me ≡ segments.now.me }
     ensures { IsTrue result ↔ ((index_of address + 4 + size ≤ 1024) × (home_of address ≡ segments.now.me → index_of address + 4 + size ≤ handed_of segments.now (segment_of address))) }
 {
-    let end = address.index() + 4 + size as u32;
-    if end > SEGMENT_WORDS {
+    let end = address.index() + HEADER_WORDS as u32 + size as u32;
+    if end > SEGMENT_WORDS as u32 {
         return false;
     }
     if address.home() != me {
         return true;
     }
     let number = address.segment();
-    number <= segments.made() && end <= SEGMENT_WORDS - segments.left(number)
+    number <= segments.made() && end <= SEGMENT_WORDS as u32 - segments.left(number)
 }
 
 /// Maps the segment in which an object is to lie. It clashes where the object can't lie there since the

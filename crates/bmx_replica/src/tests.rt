@@ -3,7 +3,6 @@ ghost use Rattle.std.specs.Prelude.{◌≡◌, ◌≤◌, IfSome};
 use crate::{LearnError, Replica, Word, Words};
 use bmx_segment::{Kind, PlaceError};
 use bmx_types::{Address, BunchNo, Info, Name, NoMemory, NodeNo, Place, Val};
-use std::alloc::Global;
 use std::test::Fail;
 
 /// How many names the test of many has.
@@ -45,8 +44,8 @@ fn write(replica: &mut Replica, name: Name, i: u8, number: i64) -> bool {
 }
 
 /// Reserves segments while they are lent.
-fn reserve_lent(replica: &mut Replica, alloc: Global, n: u32) -> Result<(), NoMemory> {
-    let mut lent = replica.lend(alloc);
+fn reserve_lent(replica: &mut Replica, n: u32) -> Result<(), NoMemory> {
+    let mut lent = replica.lend();
     let reserved = lent.segments.reserve(n);
     replica.give_back(lent);
     reserved
@@ -113,7 +112,7 @@ fn lent_segments_come_back(rt: HostRuntime) -> Result<(), Fail> {
     let mut replica = Replica::new(rt.alloc(), node, 4);
     assert!(rt; make(&mut replica, name, bunch)?);
     assert!(rt; write(&mut replica, name, 0, -5));
-    reserve_lent(&mut replica, rt.alloc(), 2)?;
+    reserve_lent(&mut replica, 2)?;
     assert_eq!(rt; replica.field(name, 0), Some(Val::Int(-5)));
     Ok(())
 }

@@ -5,8 +5,10 @@ use Rattle.std.proofs.lemmas.Bool.{cases_eq, ne_eqb}
 use Rattle.std.proofs.lemmas.Option.{cond_some, none-some, same_Some, option_and_then_some}
 use Rattle.bmx_types.specs.Words.{index_of}
 use Rattle.bmx_segment.specs.Headers.{size_in}
-use Rattle.bmx_segment.specs.Blocks.{Block, IsBlock, header_in}
-use Rattle.bmx_segment.specs.Stores.{key_of, key_at, block_at, header_at, AreBlocks, AreApart}
+use Rattle.bmx_segment.specs.Blocks.{Block, header_in}
+use Rattle.bmx_segment.specs.Stores.{key_of, key_at, block_at, header_at, AreApart}
+use Rattle.bmx_segment.specs.Inside.Blocks.{IsBlock}
+use Rattle.bmx_segment.specs.Inside.Stores.{AreBlocks}
 use Rattle.bmx_segment.specs.declared.headers.Header.{Header}
 use Rattle.bmx_segment.proofs.Standing.{size-few}
 

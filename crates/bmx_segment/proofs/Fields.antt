@@ -6,9 +6,10 @@ use Rattle.std.proofs.lemmas.List.{length-set, get_or-set_same, get_or-set_other
 use Rattle.std.proofs.lemmas.Nat.Bits.{bit_at-zero}
 use Rattle.std.specs.Prelude.{slice_index, IsSomeAnd}
 use Rattle.bmx_segment.specs.Headers.{header_of, state_in, size_in, state_of, IsHeaderWords, IsLive, with_kind, with_kind_at, live_number}
-use Rattle.bmx_segment.specs.Blocks.{Block, is_start, header_in, IsBlock, with_field, blank_words, blank_starts, blank_block, live_below, live_at}
+use Rattle.bmx_segment.specs.Blocks.{Block, is_start, header_in, with_field, blank_words, blank_starts, blank_block, live_below, live_at, live_in}
 use Rattle.std.proofs.lemmas.Nat.{pow-add, div_below, mul-add-lt, pow_pos}
-use Rattle.bmx_segment.specs.Stores.{IsBlank}
+use Rattle.bmx_segment.specs.Inside.Blocks.{IsBlock}
+use Rattle.bmx_segment.specs.Inside.Stores.{IsBlank}
 use Rattle.bmx_segment.specs.declared.headers.Header.{Header}
 use Rattle.bmx_segment.specs.declared.headers.State.{State}
 use Rattle.bmx_segment.specs.declared.headers.State.TheVariants.{Live, Forwarded, Dead}
@@ -120,6 +121,7 @@ module _ (b : Block) (i field n w : ℕ) (block : IsBlock b) (h : Header) (is : 
 
   pub IsBlock-with_field : IsBlock (with_field b i field n w)
   IsBlock-with_field = record {
+    a_home = block.a_home;
     a_number = block.a_number;
     few_numbers = block.few_numbers;
     all_words = length-set (set b.words (i + 3) (with_kind (slice_index b.words (i + 3)) field n)) (i + 4 + field) w ∙ (length-set b.words (i + 3) (with_kind (slice_index b.words (i + 3)) field n) ∙ block.all_words);
@@ -154,8 +156,9 @@ length-blank : length blank_words ≡ 1024
 unfolding blank_words
 length-blank = length-replicate {A = ℕ} 1024 0
 
-pub IsBlock-blank : (home number : ℕ) → 0 < number → number < 2 ^ 16 → IsBlock (blank_block home number)
-IsBlock-blank home number some few = record {
+pub IsBlock-blank : (home number : ℕ) → home < 8 → 0 < number → number < 2 ^ 16 → IsBlock (blank_block home number)
+IsBlock-blank home number small some few = record {
+  a_home = small;
   a_number = some;
   few_numbers = few;
   all_words = length-blank;
@@ -165,8 +168,9 @@ IsBlock-blank home number some few = record {
   apart = λ i j bi bj lt. absurd (false≢true (sym (is_start-blank i) ∙ bi));
 }
 
-pub IsBlock-renumbered : (b : Block) (home number : ℕ) → IsBlock b → 0 < number → number < 2 ^ 16 → IsBlock (record b { home = home; number = number })
-IsBlock-renumbered b home number block some few = record {
+pub IsBlock-renumbered : (b : Block) (home number : ℕ) → IsBlock b → home < 8 → 0 < number → number < 2 ^ 16 → IsBlock (record b { home = home; number = number })
+IsBlock-renumbered b home number block small some few = record {
+  a_home = small;
   a_number = some;
   few_numbers = few;
   all_words = block.all_words;
@@ -181,13 +185,14 @@ pub header_with : (o : Option Header) (P : Header → Type 0) → IsSomeAnd o P 
 header_with None P none = absurd none
 header_with (Some h) P holds = (h, refl, holds)
 
--- the kinds fit a word again
-pub with_kind-lt : (kinds k n : ℕ) → kinds < 2 ^ 64 → k < 32 → n < 4 → with_kind kinds k n < 2 ^ 64
-with_kind-lt kinds k n few within small =
+-- kinds of so many fields stay kinds of so many
+pub with_kind-lt : (kinds k n size : ℕ) → kinds < 2 ^ (2 * size) → k < size → n < 4 → with_kind kinds k n < 2 ^ (2 * size)
+with_kind-lt kinds k n size few within small =
     let u : ℕ = 2 ^ (2 * k) in
-    let t : ℕ = 2 ^ (62 - 2 * k) in
-    let whole : 2 * k + (62 - 2 * k) ≡ 62 = omega arith in
-    let product : u * t ≡ 2 ^ 62 = sym (pow-add 2 (2 * k) (62 - 2 * k)) ∙ ap (λ (e : ℕ). 2 ^ e) whole in
+    let t : ℕ = 2 ^ (2 * size - 2 - 2 * k) in
+    let whole : 2 * k + (2 * size - 2 - 2 * k) + 2 ≡ 2 * size = omega arith in
+    let product : u * t ≡ 2 ^ (2 * k + (2 * size - 2 - 2 * k)) = sym (pow-add 2 (2 * k) (2 * size - 2 - 2 * k)) in
+    let all_bits : 2 ^ (2 * size) ≡ u * t * 4 = ap (λ (e : ℕ). 2 ^ e) (sym whole) ∙ (pow-add 2 (2 * k + (2 * size - 2 - 2 * k)) 2 ∙ ap (λ (p : ℕ). p * 4) (sym product)) in
     let some : 0 < u = pow_pos (2 * k) in
     let above : kinds < t * 4 * u = omega arith in
     let quotient = div_below kinds u (t * 4) some above in
@@ -204,6 +209,17 @@ live_number-le Dead = omega arith
 live_at-le : (o : Option Header) → live_at o ≤ 1
 live_at-le None = omega arith
 live_at-le (Some h) = live_number-le h.state
+
+none_below : (home number n : ℕ) → 0 ≡ live_below (blank_block home number) n
+none_below home number zero = refl
+none_below home number (suc n) =
+    let rest = none_below home number n in
+    let none = ap live_at (header_in-blank home number n) in
+    omega arith
+
+-- a blank block has no live header
+pub live-blank : (home number : ℕ) → 0 ≡ live_in (blank_block home number)
+live-blank home number = none_below home number (length blank_words)
 
 -- one more word is counted
 pub live_below-more : (b : Block) (i : ℕ) → live_below b (i + 1) ≡ live_below b i + live_at (header_in b i)

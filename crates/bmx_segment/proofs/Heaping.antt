@@ -1,20 +1,22 @@
 -- What each change of a heap keeps.
 use Rattle.std.proofs.Common.{◌≡◌, ℕ, ◌+◌, ◌-◌, ◌^◌, ◌<◌, ◌≤◌, List, [], ◌∷◌, ◌++◌, length, get_or, set, replicate, Option, Some, None, Result, Ok, Err, arith, refl, sym, ap, ◌∙◌, inl, inr, subst}
-use Rattle.std.specs.Prelude.{IsSome, is_some, IsSomeAnd, unwrap_or, MatchOption, OnOk, OnErr, IsOk}
+use Rattle.std.specs.Prelude.{IfSome, IsSome, is_some, IsSomeAnd, unwrap_or, MatchOption, OnOk, OnErr, IsOk}
 use Rattle.std.specs.Option.{option_map, option_and_then}
 use Rattle.std.proofs.lemmas.Bool.{cases_eq, cases_lt, cases_Bool, false≢true}
 use Rattle.std.proofs.lemmas.Option.{none-some, same_Some}
 use Rattle.std.proofs.lemmas.List.{length-set, get_or-set_same, get_or-set_other, length-append, length-replicate, get_or_past, get_or_default, length_push}
 use Rattle.bmx_types.specs.Words.{home_of, segment_of, index_of, address_word}
 use Rattle.bmx_segment.specs.Blocks.{Block, CanStand, header_in, blank_block}
-use Rattle.bmx_segment.specs.Stores.{Mapped, segment_key, key_at, block_at, header_at, IsMapped, is_between, Puts, Maps, Sets, Writes, Drops}
+use Rattle.bmx_segment.specs.Stores.{segment_key, key_at, block_at, header_at, IsMapped, is_between, CanStandAt, Maps, Sets, Writes, Drops}
+use Rattle.bmx_segment.specs.Inside.Stores.{Mapped, Fills}
+use Rattle.bmx_segment.specs.Updates.{Puts}
 use Rattle.bmx_segment.specs.Heaps.{Heap, IsHeap, IsOpenOne, IsOpen, CanSet, made_of, own_at, handed_in, handed_of, with_handed, raised, Makes, PlacesIn, PlacesInNew}
 use Rattle.bmx_segment.specs.Headers.{with_kind_at}
 use Rattle.bmx_segment.specs.declared.headers.Header.{Header}
 use Rattle.bmx_segment.specs.declared.headers.State.{State}
 use Rattle.bmx_segment.specs.declared.segments.Own.{Own}
 use Rattle.bmx_segment.proofs.Owning.{own_at-within, own_at-raised_same, own_at-raised_other, length-raised, own_at-append, handed-append, own_at-pushed, raised-pushed}
-use Rattle.bmx_segment.proofs.Rising.{chosen, passed}
+use Rattle.bmx_segment.proofs.Found.{chosen, passed}
 use Rattle.bmx_segment.proofs.Stored.{for_block}
 
 -- ---- what is mapped stays mapped
@@ -22,14 +24,14 @@ use Rattle.bmx_segment.proofs.Stored.{for_block}
 some_kept : (x y : Option Block) → x ≡ y → IsSome y → IsSome x
 some_kept x y e is = ap is_some e ∙ is
 
-mapped-puts : (old new : List Block) (key : ℕ) (b : Block) → Puts old new key (Some b) → (k : ℕ) → IsSome (block_at old k) → IsSome (block_at new k)
+mapped-puts : (old new : List Block) (key : ℕ) (b : Block) → Puts (block_at old) (block_at new) key (Some b) → (k : ℕ) → IsSome (block_at old k) → IsSome (block_at new k)
 mapped-puts old new key b puts k is =
     elim (cases_eq k key) [
       | inl same ↦ some_kept (block_at new k) (Some b) (puts k ∙ chosen k key (Some b) (block_at old k) same) refl
       | inr other ↦ some_kept (block_at new k) (block_at old k) (puts k ∙ passed k key (Some b) (block_at old k) other) is
     ]
 
-mapped-some : (old new : List Block) (key : ℕ) (o : Option Block) (f : Block → Block) → IsSomeAnd o (λ b. Puts old new key (Some (f b))) → (k : ℕ) → IsSome (block_at old k) → IsSome (block_at new k)
+mapped-some : (old new : List Block) (key : ℕ) (o : Option Block) (f : Block → Block) → IsSomeAnd o (λ b. Puts (block_at old) (block_at new) key (Some (f b))) → (k : ℕ) → IsSome (block_at old k) → IsSome (block_at new k)
 mapped-some old new key None f none = absurd none
 mapped-some old new key (Some b) f puts = mapped-puts old new key (f b) puts
 
@@ -78,6 +80,11 @@ IsHeap-set h blocks spare address x heap can sets =
           subst P (sym same) (subst Q size handed)
       | inr other ↦ heap.within a y at (sym (passed a address (Some x) (header_at h.blocks a) other) ∙ (sym (sets.headers a) ∙ e))
     ])
+
+-- words behind a header are written
+pub IsHeap-filled : (h : Heap) (blocks : List Block) (spare : ℕ) (address n : ℕ) (ws : List ℕ) → IsHeap h → Fills h.blocks blocks address n ws → IsHeap (record h { blocks = blocks; spare = spare })
+IsHeap-filled h blocks spare address n ws heap fills =
+    IsHeap-blocks h blocks spare heap (λ k there. fills.mapped k ∙ there) (λ a x at e. heap.within a x at (sym (fills.headers a) ∙ e))
 
 -- a header that stands is put into another state
 pub IsHeap-stated : (h : Heap) (blocks : List Block) (spare : ℕ) (address : ℕ) (x : Header) (state : State) → IsHeap h → header_at h.blocks address ≡ Some x → Sets h.blocks blocks address (record x { state = state }) → IsHeap (record h { blocks = blocks; spare = spare })
@@ -158,6 +165,11 @@ some_block (Some b) some = (b, refl)
 
 header_at-block : (bs : List Block) (a : ℕ) (b : Block) → block_at bs (key_at a) ≡ Some b → header_at bs a ≡ header_in b (index_of a)
 header_at-block bs a b e = ap (option_and_then (λ (b : Block). header_in b (index_of a))) e
+
+-- what stands at an address can be set there again
+pub can_set : (o : Option Header) (h : Heap) (a : ℕ) → IsHeap h → o ≡ header_at h.blocks a → IfSome o (λ x. CanStandAt h.blocks a x.name x.size) → IfSome o (λ x. CanSet h a x.name x.size)
+can_set None h a heap is stands = tt
+can_set (Some x) h a heap is stands = record { stands = stands; handed = λ home. heap.within a x home (sym is) }
 
 -- ---- words are handed out
 

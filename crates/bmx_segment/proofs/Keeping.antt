@@ -1,15 +1,20 @@
 -- What a change of one block means for headers and words by their addresses.
-use Rattle.std.proofs.Common.{◌≡◌, ◌≢◌, ◌⊎◌, ℕ, ◌+◌, ◌-◌, ◌^◌, ◌<◌, ◌≤◌, true, false, List, Option, Some, None, arith, refl, sym, ap, ◌∙◌, inl, inr}
+use Rattle.std.proofs.Common.{◌≡◌, ◌≢◌, ◌⊎◌, ℕ, ◌+◌, ◌-◌, ◌^◌, ◌<◌, ◌≤◌, true, false, List, length, Option, Some, None, arith, refl, sym, ap, ◌∙◌, inl, inr}
 use Rattle.std.specs.Prelude.{slice_index, unwrap_or, ◌==◌, if◌then◌else◌, is_some}
 use Rattle.std.specs.Option.{option_and_then, option_map}
 use Rattle.std.proofs.lemmas.Bool.{cases_eq, cases_lt}
 use Rattle.std.proofs.lemmas.Bool.Decides.{nat_tests}
 use Rattle.bmx_types.specs.Words.{index_of}
-use Rattle.bmx_segment.specs.Headers.{IsHeader, IsLive, with_kind_at}
-use Rattle.bmx_segment.specs.Blocks.{Block, IsBlock, CanStand, header_in, with_header, with_field, blank_block}
-use Rattle.bmx_segment.specs.Stores.{segment_key, key_at, block_at, header_at, word_at, word_in, is_between, Puts, Maps, Sets, Writes, Drops}
+use Rattle.bmx_segment.specs.Headers.{size_in, IsHeader, IsLive, with_kind_at}
+use Rattle.bmx_segment.specs.Inside.Blocks.{with_words}
+use Rattle.bmx_segment.specs.Inside.Stores.{Fills}
+use Rattle.bmx_segment.proofs.Filling.{header_in-filled, word-filled, word-outside}
+use Rattle.bmx_segment.specs.Blocks.{is_start, Block, CanStand, header_in, with_header, with_field, blank_block}
+use Rattle.bmx_segment.specs.Stores.{segment_key, key_at, block_at, header_at, word_at, word_in, is_between, Maps, Sets, Lays, Writes, Drops}
+use Rattle.bmx_segment.specs.Inside.Blocks.{IsBlock}
+use Rattle.bmx_segment.specs.Updates.{Puts}
 use Rattle.bmx_segment.specs.declared.headers.Header.{Header}
-use Rattle.bmx_segment.proofs.Rising.{chosen, passed}
+use Rattle.bmx_segment.proofs.Found.{chosen, passed}
 use Rattle.bmx_segment.proofs.Standing.{header_in-with_same, header_in-with_other, word-with_header}
 use Rattle.bmx_segment.proofs.Fields.{header_in-with_field_same, header_in-with_field_other, word-with_field, word-with_field_same, header_in-blank, word-blank}
 
@@ -40,7 +45,7 @@ header_kept old new a same = header_at-in new a (block_at old (key_at a)) same
 word_kept : (old new : List Block) (a : ℕ) → block_at new (key_at a) ≡ block_at old (key_at a) → word_at new a ≡ word_at old a
 word_kept old new a same = word_at-in new a (block_at old (key_at a)) same
 
-module _ (old new : List Block) (a : ℕ) (b c : Block) (is : block_at old (key_at a) ≡ Some b) (puts : Puts old new (key_at a) (Some c)) where
+module _ (old new : List Block) (a : ℕ) (b c : Block) (is : block_at old (key_at a) ≡ Some b) (puts : Puts (block_at old) (block_at new) (key_at a) (Some c)) where
   -- an address in the changed segment
   now_there : (x : ℕ) → key_at x ≡ key_at a → block_at new (key_at x) ≡ Some c
   now_there x same = puts (key_at x) ∙ chosen (key_at x) (key_at a) (Some c) (block_at old (key_at x)) same
@@ -63,8 +68,8 @@ module _ (old new : List Block) (a : ℕ) (b c : Block) (is : block_at old (key_
       ]
 
 -- a header that was set
-module _ (old new : List Block) (a : ℕ) (h : Header) (b : Block) (is : block_at old (key_at a) ≡ Some b) (block : IsBlock b) (can : CanStand b (index_of a) h.name h.size) (ok : IsHeader h) (puts : Puts old new (key_at a) (Some (with_header b (index_of a) h))) where
-  set_headers : (x : ℕ) → header_at new x ≡ (if x == a then Some h else header_at old x)
+module _ (old new : List Block) (a : ℕ) (h : Header) (b : Block) (is : block_at old (key_at a) ≡ Some b) (block : IsBlock b) (can : CanStand b (index_of a) h.name h.size) (ok : IsHeader h) (puts : Puts (block_at old) (block_at new) (key_at a) (Some (with_header b (index_of a) h))) where
+  set_headers : (x : ℕ) → header_at new x ≡ (if a == x then Some h else header_at old x)
   set_headers x =
       let c : Block = with_header b (index_of a) h in
       elim (cases_eq (key_at x) (key_at a)) [
@@ -107,7 +112,7 @@ module _ (old new : List Block) (a : ℕ) (h : Header) (b : Block) (is : block_a
   }
 
 -- a field that was written
-module _ (old new : List Block) (a field n w : ℕ) (b : Block) (is : block_at old (key_at a) ≡ Some b) (block : IsBlock b) (h : Header) (there : header_in b (index_of a) ≡ Some h) (live : IsLive h.state) (has : field < h.size) (within : index_of a + 4 + field < 1024) (puts : Puts old new (key_at a) (Some (with_field b (index_of a) field n w))) where
+module _ (old new : List Block) (a field n w : ℕ) (b : Block) (is : block_at old (key_at a) ≡ Some b) (block : IsBlock b) (h : Header) (there : header_in b (index_of a) ≡ Some h) (live : IsLive h.state) (has : field < h.size) (within : index_of a + 4 + field < 1024) (puts : Puts (block_at old) (block_at new) (key_at a) (Some (with_field b (index_of a) field n w))) where
   written_header : header_at new a ≡ option_map (λ (h : Header). record h { state = with_kind_at h.state field n }) (header_at old a)
   written_header =
       let c : Block = with_field b (index_of a) field n w in
@@ -161,6 +166,63 @@ module _ (old new : List Block) (a field n w : ℕ) (b : Block) (is : block_at o
     words = written_words;
   }
 
+-- words behind a header that were written
+module _ (old new : List Block) (a n : ℕ) (ws : List ℕ) (b : Block) (is : block_at old (key_at a) ≡ Some b) (block : IsBlock b) (begins : is_start b.starts (index_of a) ≡ true) (size : size_in (slice_index b.words (index_of a)) ≡ n) (enough : n ≤ length ws) (puts : Puts (block_at old) (block_at new) (key_at a) (Some (with_words b (index_of a) n ws))) where
+  filled_headers : (x : ℕ) → header_at new x ≡ header_at old x
+  filled_headers x =
+      let c : Block = with_words b (index_of a) n ws in
+      elim (cases_eq (key_at x) (key_at a)) [
+        | inl same ↦
+            header_at-in new x (Some c) (now_there old new a b c is puts x same)
+            ∙ (header_in-filled b (index_of a) n ws block begins size enough (index_of x) ∙ sym (header_at-in old x (Some b) (was_there old new a b c is puts x same)))
+        | inr other ↦ header_kept old new x (elsewhere old new a b c is puts x other)
+      ]
+
+  filled_fields : (i : ℕ) → i < n → word_at new (a + 4 + i) ≡ slice_index ws i
+  filled_fields i lt =
+      let c : Block = with_words b (index_of a) n ws in
+      let inside = block.inside (index_of a) begins in
+      let one : a + 4 + i ≡ a + (4 + i) = omega arith in
+      let same : key_at (a + 4 + i) ≡ key_at a = ap key_at one ∙ later_key a (4 + i) (omega arith) in
+      let index : index_of (a + 4 + i) ≡ index_of a + 4 + i = ap index_of one ∙ (later_index a (4 + i) (omega arith) ∙ omega arith) in
+      word_at-in new (a + 4 + i) (Some c) (now_there old new a b c is puts (a + 4 + i) same)
+      ∙ (ap (slice_index c.words) index ∙ word-filled b (index_of a) n ws block begins size enough i lt)
+
+  filled_words : (x : ℕ) → (x < a + 4) ⊎ (a + 4 + n ≤ x) → word_at new x ≡ word_at old x
+  filled_words x apart =
+      let c : Block = with_words b (index_of a) n ws in
+      elim (cases_eq (key_at x) (key_at a)) [
+        | inl same ↦
+            let base = same_base x a same in
+            let outside : (index_of x < index_of a + 4) ⊎ (index_of a + 4 + n ≤ index_of x) =
+            elim apart [ inl before ↦ inl (omega arith) | inr after ↦ inr (omega arith) ] in
+            word_at-in new x (Some c) (now_there old new a b c is puts x same)
+            ∙ (word-outside b (index_of a) n ws block begins size enough (index_of x) outside ∙ sym (word_at-in old x (Some b) (was_there old new a b c is puts x same)))
+        | inr other ↦ word_kept old new x (elsewhere old new a b c is puts x other)
+      ]
+
+  pub Fills-from : Fills old new a n ws
+  Fills-from = record {
+    blocks = rw is puts;
+    mapped = λ k. mapped_kept old new a b (with_words b (index_of a) n ws) is puts k;
+    headers = filled_headers;
+    fields = filled_fields;
+    words = filled_words;
+  }
+
+-- an object whose header was set and whose fields were written
+pub Lays-from : (old mid new : List Block) (a : ℕ) (h : Header) (ws : List ℕ) → Sets old mid a h → Fills mid new a h.size ws → Lays old new a h (λ i. slice_index ws i)
+Lays-from old mid new a h ws sets fills = record {
+  mapped = λ k. fills.mapped k ∙ sets.mapped k;
+  headers = λ x. fills.headers x ∙ sets.headers x;
+  fields = fills.fields;
+  words = λ x away.
+      elim away [
+        | inl before ↦ fills.words x (inl (omega arith)) ∙ sets.words x (inl before)
+        | inr after ↦ fills.words x (inr after) ∙ sets.words x (inr (omega arith))
+      ];
+}
+
 -- ---- mapping
 
 between_one : (k key : ℕ) → k ≡ key → is_between k key 1 ≡ true
@@ -184,7 +246,7 @@ Maps-there old home number b is = record {
 }
 
 -- a segment that wasn't is blank
-module _ (old new : List Block) (home number : ℕ) (none : block_at old (segment_key home number) ≡ None) (puts : Puts old new (segment_key home number) (Some (blank_block home number))) where
+module _ (old new : List Block) (home number : ℕ) (none : block_at old (segment_key home number) ≡ None) (puts : Puts (block_at old) (block_at new) (segment_key home number) (Some (blank_block home number))) where
   mapped_there : (k : ℕ) → k ≡ segment_key home number → block_at new k ≡ Some (blank_block home number)
   mapped_there k same = puts k ∙ chosen k (segment_key home number) (Some (blank_block home number)) (block_at old k) same
 
@@ -219,7 +281,7 @@ module _ (old new : List Block) (home number : ℕ) (none : block_at old (segmen
 
 -- ---- dropping
 
-pub Drops-from : (old new : List Block) (home number : ℕ) → Puts old new (segment_key home number) None → Drops old new home number
+pub Drops-from : (old new : List Block) (home number : ℕ) → Puts (block_at old) (block_at new) (segment_key home number) None → Drops old new home number
 Drops-from old new home number puts =
     let key : ℕ = segment_key home number in
     record {

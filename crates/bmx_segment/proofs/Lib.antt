@@ -2,7 +2,8 @@ pub mod Starts
 pub mod Four
 pub mod Standing
 pub mod Fields
-pub mod Rising
+pub mod Filling
+pub mod Found
 pub mod Keeping
 pub mod Stored
 pub mod Owning

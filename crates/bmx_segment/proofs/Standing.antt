@@ -1,12 +1,13 @@
 -- A block in which a header is set.
 use Rattle.std.proofs.Common.{◌≡◌, ◌≢◌, ◌⊎◌, ℕ, ◌+◌, ◌/◌, ◌<◌, ◌≤◌, true, length, Some, None, arith, refl, sym, ap, ◌∙◌, inl, inr, subst, eq-eqb}
-use Rattle.std.proofs.lemmas.Bool.{cases_eq, cases_order, cases_Bool, ne_eqb}
+use Rattle.std.proofs.lemmas.Bool.{cases_eq, cases_lt, cases_order, cases_Bool, ne_eqb, false≢true}
 use Rattle.std.proofs.lemmas.Option.{cond_some, none-some}
 use Rattle.std.proofs.lemmas.List.{length-set}
-use Rattle.std.specs.Prelude.{slice_index}
+use Rattle.std.specs.Prelude.{slice_index, IsSome, Bool, if◌then◌else◌}
 use Rattle.bmx_types.specs.Words.{IsAddress}
-use Rattle.bmx_segment.specs.Headers.{mark_of, third_of, fourth_of, header_of, state_in, size_in, bunch_in, state_number, state_of, IsHeaderWords, IsHeader}
-use Rattle.bmx_segment.specs.Blocks.{Block, is_start, header_in, IsBlock, CanStand, with_header, words_with, starts_with}
+use Rattle.bmx_segment.specs.Headers.{mark_of, third_of, fourth_of, header_of, held_moves, state_in, size_in, bunch_in, state_number, state_of, IsHeaderWords, IsHeader}
+use Rattle.bmx_segment.specs.Blocks.{Block, is_start, header_in, CanStand, with_header, words_with, starts_with}
+use Rattle.bmx_segment.specs.Inside.Blocks.{IsBlock}
 use Rattle.bmx_segment.specs.declared.headers.Header.{Header}
 use Rattle.bmx_segment.specs.declared.headers.State.{State}
 use Rattle.bmx_segment.specs.declared.headers.State.TheVariants.{Live, Forwarded, Dead}
@@ -75,6 +76,14 @@ state_leads s t f leads two =
 pub stands : (b : Block) (i : ℕ) → is_start b.starts i ≡ true → header_in b i ≡ Some (header_of (slice_index b.words i) (slice_index b.words (i + 1)) (slice_index b.words (i + 2)) (slice_index b.words (i + 3)))
 stands b i begins = rw begins
 
+-- the header of a word where one begins
+pub start_of : (b : Block) (i : ℕ) → IsSome (header_in b i) → (is_start b.starts i ≡ true) × ((h : Header) × (header_in b i ≡ Some h) × (size_in (slice_index b.words i) ≡ h.size))
+start_of b i there =
+    elim (cases_Bool (is_start b.starts i)) [
+      | inl begins ↦ (begins, (_, stands b i begins, refl))
+      | inr none ↦ let P : Bool → Type 0 = λ x. IsSome (if x then Some (header_of (slice_index b.words i) (slice_index b.words (i + 1)) (slice_index b.words (i + 2)) (slice_index b.words (i + 3))) else None) in absurd (false≢true (subst P none there))
+    ]
+
 -- what begins at a word can be set there again, in another state
 pub CanStand-again : (b : Block) (i : ℕ) → IsBlock b → is_start b.starts i ≡ true → CanStand b i (slice_index b.words (i + 1)) (size_in (slice_index b.words i))
 CanStand-again b i block begins = record {
@@ -107,6 +116,10 @@ CanStand-there b i name size there block e en es =
       same = λ other eo. let same = again.same other eo in (same.0 ∙ (named ∙ en), same.1 ∙ (has ∙ es));
     }
 
+-- the same, for what is read there
+pub CanStand-begins : (b : Block) (i : ℕ) (h : Header) → IsBlock b → header_in b i ≡ Some h → CanStand b i h.name h.size
+CanStand-begins b i h block e = CanStand-there b i h.name h.size h block e refl refl
+
 -- a header can begin where none does, and none reaches or begins within its words
 pub CanStand-free : (b : Block) (i name size : ℕ) → header_in b i ≡ None → i + 4 + size ≤ 1024 → ((j : ℕ) (other : Header) → header_in b j ≡ Some other → (j + 4 + other.size ≤ i) ⊎ (i + 4 + size ≤ j)) → CanStand b i name size
 CanStand-free b i name size none inside alone = record {
@@ -123,6 +136,54 @@ size-few b j other block e =
     let few = (block.headers j s.0).few_fields in
     let inside = block.inside j s.0 in
     (omega arith, omega arith)
+
+-- no header begins where there is none
+pub not_start : (b : Block) (i : ℕ) → header_in b i ≡ None → is_start b.starts i ≡ true → ⊥
+not_start b i none begins = none-some _ (sym none ∙ stands b i begins)
+
+-- a header can begin where none does, none begins within its words, and the last before it ends before it
+pub free_of : (b : Block) (i name size last : ℕ) → IsBlock b → header_in b i ≡ None → i + 4 + size ≤ 1024
+    → ((j : ℕ) → i ≤ j → j < i + 4 + size → is_start b.starts j ≡ true → ⊥)
+    → (last < i) × (is_start b.starts last ≡ true) × ((j : ℕ) → last < j → j < i → is_start b.starts j ≡ true → ⊥)
+    → last + 4 + size_in (slice_index b.words last) ≤ i
+    → CanStand b i name size
+free_of b i name size last block none inside free nearest ends =
+    CanStand-free b i name size none inside (λ j other e.
+    let s = cond_some _ _ _ e in
+    let has : size_in (slice_index b.words j) ≡ other.size = ap (λ (h : Header). h.size) s.1 in
+    elim (cases_lt j i) [
+      | inl before ↦ elim (cases_order j last) [
+        | inl same ↦ let z : size_in (slice_index b.words j) ≡ size_in (slice_index b.words last) = ap (λ k. size_in (slice_index b.words k)) same in inl (omega arith)
+        | inr rest ↦ elim rest [
+          | inl lt ↦ let far = block.apart j last s.0 nearest.1 lt in inl (omega arith)
+          | inr gt ↦ absurd (nearest.2 j gt before s.0)
+        ]
+      ]
+      | inr at_least ↦ elim (cases_lt j (i + 4 + size)) [
+        | inl within ↦ absurd (free j at_least within s.0)
+        | inr beyond ↦ inr beyond
+      ]
+    ])
+
+-- the same where none begins in the 64 words before it
+pub free_alone : (b : Block) (i name size : ℕ) → IsBlock b → header_in b i ≡ None → i + 4 + size ≤ 1024
+    → ((j : ℕ) → i ≤ j → j < i + 4 + size → is_start b.starts j ≡ true → ⊥)
+    → ((j : ℕ) → i ≤ j + 64 → j < i → is_start b.starts j ≡ true → ⊥)
+    → CanStand b i name size
+free_alone b i name size block none inside free alone =
+    CanStand-free b i name size none inside (λ j other e.
+    let s = cond_some _ _ _ e in
+    let few = size-few b j other block e in
+    elim (cases_lt j i) [
+      | inl before ↦ elim (cases_lt (j + 64) i) [
+        | inl far ↦ inl (omega arith)
+        | inr near ↦ absurd (alone j near before s.0)
+      ]
+      | inr at_least ↦ elim (cases_lt j (i + 4 + size)) [
+        | inl within ↦ absurd (free j at_least within s.0)
+        | inr beyond ↦ inr beyond
+      ]
+    ])
 
 -- a header of a block has words
 pub IsHeader-in : (b : Block) (j : ℕ) (other : Header) → IsBlock b → header_in b j ≡ Some other → IsHeader other
@@ -155,24 +216,24 @@ module _ (b : Block) (i : ℕ) (h : Header) (block : IsBlock b) (can : CanStand 
 
   -- the words outside the four stay
   pub word-with_header : (k : ℕ) → (k < i) ⊎ (i + 4 ≤ k) → slice_index (words_with b.words i h) k ≡ slice_index b.words k
-  word-with_header k apart = four_others b.words i (mark_of h) h.name (third_of h.state (slice_index b.words (i + 2))) (fourth_of h.state (slice_index b.words (i + 3))) fits k apart
+  word-with_header k apart = four_others b.words i (mark_of h) h.name (third_of h.state (held_moves (slice_index b.words i) (slice_index b.words (i + 2)))) (fourth_of h.state (slice_index b.words (i + 3))) fits k apart
 
   first_is : slice_index (words_with b.words i h) i ≡ mark_of h
-  first_is = four_first b.words i (mark_of h) h.name (third_of h.state (slice_index b.words (i + 2))) (fourth_of h.state (slice_index b.words (i + 3))) fits
+  first_is = four_first b.words i (mark_of h) h.name (third_of h.state (held_moves (slice_index b.words i) (slice_index b.words (i + 2)))) (fourth_of h.state (slice_index b.words (i + 3))) fits
 
   second_is : slice_index (words_with b.words i h) (i + 1) ≡ h.name
-  second_is = four_second b.words i (mark_of h) h.name (third_of h.state (slice_index b.words (i + 2))) (fourth_of h.state (slice_index b.words (i + 3))) fits
+  second_is = four_second b.words i (mark_of h) h.name (third_of h.state (held_moves (slice_index b.words i) (slice_index b.words (i + 2)))) (fourth_of h.state (slice_index b.words (i + 3))) fits
 
-  third_is : slice_index (words_with b.words i h) (i + 2) ≡ third_of h.state (slice_index b.words (i + 2))
-  third_is = four_third b.words i (mark_of h) h.name (third_of h.state (slice_index b.words (i + 2))) (fourth_of h.state (slice_index b.words (i + 3))) fits
+  third_is : slice_index (words_with b.words i h) (i + 2) ≡ third_of h.state (held_moves (slice_index b.words i) (slice_index b.words (i + 2)))
+  third_is = four_third b.words i (mark_of h) h.name (third_of h.state (held_moves (slice_index b.words i) (slice_index b.words (i + 2)))) (fourth_of h.state (slice_index b.words (i + 3))) fits
 
   fourth_is : slice_index (words_with b.words i h) (i + 3) ≡ fourth_of h.state (slice_index b.words (i + 3))
-  fourth_is = four_fourth b.words i (mark_of h) h.name (third_of h.state (slice_index b.words (i + 2))) (fourth_of h.state (slice_index b.words (i + 3))) fits
+  fourth_is = four_fourth b.words i (mark_of h) h.name (third_of h.state (held_moves (slice_index b.words i) (slice_index b.words (i + 2)))) (fourth_of h.state (slice_index b.words (i + 3))) fits
 
   -- the header that was set stands there
   pub header_in-with_same : header_in (with_header b i h) i ≡ Some h
   header_in-with_same =
-      rw (begins_same, first_is, second_is, third_is, fourth_is) (ap Some (header_of-words h (slice_index b.words (i + 2)) (slice_index b.words (i + 3)) ok))
+      rw (begins_same, first_is, second_is, third_is, fourth_is) (ap Some (header_of-words h (held_moves (slice_index b.words i) (slice_index b.words (i + 2))) (slice_index b.words (i + 3)) ok))
 
   -- a header elsewhere lies apart
   lies_apart : (j : ℕ) → j ≢ i → is_start b.starts j ≡ true → (j + 4 + size_in (slice_index b.words j) ≤ i) ⊎ (i + 4 + h.size ≤ j)
@@ -207,7 +268,7 @@ module _ (b : Block) (i : ℕ) (h : Header) (block : IsBlock b) (can : CanStand 
 
   headers_after : (j : ℕ) → is_start (starts_with b.starts i) j ≡ true → (j ≡ i) ⊎ (j ≡ i → ⊥) → IsHeaderWords (slice_index (words_with b.words i h) j) (slice_index (words_with b.words i h) (j + 1)) (slice_index (words_with b.words i h) (j + 2)) (slice_index (words_with b.words i h) (j + 3))
   headers_after j begins (inl same) =
-      rw (same, first_is, second_is, third_is, fourth_is) (IsHeaderWords-words h (slice_index b.words (i + 2)) (slice_index b.words (i + 3)) ok)
+      rw (same, first_is, second_is, third_is, fourth_is) (IsHeaderWords-words h (held_moves (slice_index b.words i) (slice_index b.words (i + 2))) (slice_index b.words (i + 3)) ok)
   headers_after j begins (inr ne) =
       let old = was j ne begins in
       let k0 = kept j j ne old (omega arith) (omega arith) in
@@ -232,9 +293,10 @@ module _ (b : Block) (i : ℕ) (h : Header) (block : IsBlock b) (can : CanStand 
 
   pub IsBlock-with_header : IsBlock (with_header b i h)
   IsBlock-with_header = record {
+    a_home = block.a_home;
     a_number = block.a_number;
     few_numbers = block.few_numbers;
-    all_words = length-four b.words i (mark_of h) h.name (third_of h.state (slice_index b.words (i + 2))) (fourth_of h.state (slice_index b.words (i + 3))) ∙ block.all_words;
+    all_words = length-four b.words i (mark_of h) h.name (third_of h.state (held_moves (slice_index b.words i) (slice_index b.words (i + 2)))) (fourth_of h.state (slice_index b.words (i + 3))) ∙ block.all_words;
     all_starts = length-set b.starts (i / 64) _ ∙ block.all_starts;
     headers = λ j begins. headers_after j begins (cases_eq j i);
     inside = λ j begins. inside_after j begins (cases_eq j i);

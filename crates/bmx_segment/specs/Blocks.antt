@@ -1,9 +1,13 @@
 -- A segment's block of words, and the headers that stand in it.
-use Rattle.std.specs.Prelude.{◌≡◌, ◌≢◌, ℕ, ◌+◌, ◌*◌, ◌/◌, ◌%◌, ◌^◌, ◌<◌, ◌≤◌, ◌⊎◌, Bool, true, if◌then◌else◌, ◌==◌, List, length, slice_index, slice_set, replicate, bit_or, Option, Some, None, IsSomeAnd}
+use Rattle.std.specs.Prelude.{◌≡◌, ◌≢◌, ℕ, ◌+◌, ◌*◌, ◌/◌, ◌%◌, ◌^◌, ◌<◌, ◌≤◌, ◌⊎◌, Bool, if◌then◌else◌, ◌==◌, List, length, slice_index, slice_set, replicate, bit_or, Option, Some, None, IsSomeAnd}
 use Rattle.std.specs.Int.{bit_at}
 use Rattle.std.proofs.Common.{zero, suc}
-use Rattle.bmx_segment.specs.Headers.{mark_of, third_of, fourth_of, header_of, size_in, IsHeaderWords, IsLive, live_number, with_kind}
+use Rattle.bmx_segment.specs.Headers.{header_words, mark_of, third_of, fourth_of, header_of, held_moves, IsLive, live_number, with_kind}
 use Rattle.bmx_segment.specs.declared.headers.Header.{Header}
+
+-- how many words a segment has
+abbrev pub segment_words : ℕ
+segment_words = 1024
 
 -- a mapped segment: whose it is, its number there, its words, and a bit for each word, 64 to a
 -- number: whether a header begins there
@@ -24,29 +28,18 @@ header_in b i =
     then Some (header_of (slice_index b.words i) (slice_index b.words (i + 1)) (slice_index b.words (i + 2)) (slice_index b.words (i + 3)))
     else None
 
--- a block has 1,024 words; each header in it is one, stays within it, and shares no word with
--- another, its fields counted as its own
-pub record IsBlock (b : Block) : Type 0 where
-  pub a_number : 0 < b.number
-  pub few_numbers : b.number < 2 ^ 16
-  pub all_words : length b.words ≡ 1024
-  pub all_starts : length b.starts ≡ 16
-  pub headers : (i : ℕ) → is_start b.starts i ≡ true → IsHeaderWords (slice_index b.words i) (slice_index b.words (i + 1)) (slice_index b.words (i + 2)) (slice_index b.words (i + 3))
-  pub inside : (i : ℕ) → is_start b.starts i ≡ true → i + 4 + size_in (slice_index b.words i) ≤ 1024
-  pub apart : (i j : ℕ) → is_start b.starts i ≡ true → is_start b.starts j ≡ true → i < j → i + 4 + size_in (slice_index b.words i) ≤ j
-
 -- a header of that name and size can begin at a word: it stays within the block, shares no word with
 -- a header that begins elsewhere, and what begins there already has that name and size
 pub record CanStand (b : Block) (i name size : ℕ) : Type 0 where
-  pub inside : i + 4 + size ≤ 1024
-  pub alone : (j : ℕ) (other : Header) → j < 1024 → header_in b j ≡ Some other → j ≢ i → (j + 4 + other.size ≤ i) ⊎ (i + 4 + size ≤ j)
+  pub inside : i + header_words + size ≤ segment_words
+  pub alone : (j : ℕ) (other : Header) → j < segment_words → header_in b j ≡ Some other → j ≢ i → (j + header_words + other.size ≤ i) ⊎ (i + header_words + size ≤ j)
   pub same : (other : Header) → header_in b i ≡ Some other → (other.name ≡ name) × (other.size ≡ size)
 
--- the words with a header at a word
+-- the words with a header at a word: a dead one keeps the moves, and one that isn't live the kinds
 abbrev pub words_with : List ℕ → ℕ → Header → List ℕ
 words_with words i h =
     slice_set
-    (slice_set (slice_set (slice_set words i (mark_of h)) (i + 1) h.name) (i + 2) (third_of h.state (slice_index words (i + 2))))
+    (slice_set (slice_set (slice_set words i (mark_of h)) (i + 1) h.name) (i + 2) (third_of h.state (held_moves (slice_index words i) (slice_index words (i + 2)))))
     (i + 3) (fourth_of h.state (slice_index words (i + 3)))
 
 -- the bits with a header at a word
@@ -64,7 +57,7 @@ HasField b i field = IsSomeAnd (header_in b i) (λ h. IsLive h.state × (field <
 -- the block with a kind and a word for a field of the header at a word
 abbrev pub with_field : Block → ℕ → ℕ → ℕ → ℕ → Block
 with_field b i field kind w =
-    record b { words = slice_set (slice_set b.words (i + 3) (with_kind (slice_index b.words (i + 3)) field kind)) (i + 4 + field) w }
+    record b { words = slice_set (slice_set b.words (i + 3) (with_kind (slice_index b.words (i + 3)) field kind)) (i + header_words + field) w }
 
 -- 1 where a live header begins, else 0
 abbrev pub live_at : Option Header → ℕ
@@ -80,9 +73,9 @@ live_below b (suc i) = live_below b i + live_at (header_in b i)
 abbrev pub live_in : Block → ℕ
 live_in b = live_below b (length b.words)
 
--- 1,024 words that are 0
+-- words that are 0
 unfoldable pub blank_words : List ℕ
-blank_words = replicate 1024 0
+blank_words = replicate segment_words 0
 
 -- no header begins
 abbrev pub blank_starts : List ℕ

@@ -50,6 +50,10 @@ bunch_in mark = mark % 2 ^ 8
 abbrev pub state_of : ℕ → ℕ → ℕ → State
 state_of number third fourth = if number == 1 then Live third fourth else (if number == 2 then Forwarded third else Dead)
 
+-- the moves among the words of a header, which a forwarded one has not: it counts as unmoved
+abbrev pub held_moves : ℕ → ℕ → ℕ
+held_moves mark third = if state_in mark == 2 then 0 else third
+
 -- the header of four words
 abbrev pub header_of : ℕ → ℕ → ℕ → ℕ → Header
 header_of mark name third fourth =
@@ -71,6 +75,10 @@ pub record IsHeader (h : Header) : Type 0 where
   pub a_bunch : h.bunch < 16
   pub named : IsName h.name
   pub leads : state_number h.state ≡ 2 → IsAddress (third_of h.state 0)
+
+-- how many words stand in front of an object's fields
+abbrev pub header_words : ℕ
+header_words = 4
 
 -- ---- the kinds of fields
 

@@ -2,7 +2,8 @@
 use Rattle.std.specs.Prelude.{◌≡◌, ℕ, ◌+◌, ◌-◌, ◌<◌, ◌≤◌, ◌==◌, if◌then◌else◌, List, [], ◌∷◌, ◌++◌, length, slice_index_or, slice_set, slice_get, replicate, Contains, Option, Some, None}
 use Rattle.std.proofs.Common.{zero, suc}
 use Rattle.bmx_types.specs.Words.{address_word, home_of, segment_of, index_of}
-use Rattle.bmx_segment.specs.Blocks.{Block}
+use Rattle.bmx_segment.specs.Headers.{header_words}
+use Rattle.bmx_segment.specs.Blocks.{Block, segment_words}
 use Rattle.bmx_segment.specs.Stores.{header_at, IsMapped, Maps, CanStandAt}
 use Rattle.bmx_segment.specs.declared.headers.Header.{Header}
 use Rattle.bmx_segment.specs.declared.segments.Own.{Own}
@@ -34,7 +35,7 @@ handed_in (Some o) = o.handed
 -- and those that weren't
 abbrev pub left_in : Option Own → ℕ
 left_in None = 0
-left_in (Some o) = 1024 - o.handed
+left_in (Some o) = segment_words - o.handed
 
 -- how many words of an own segment were handed out
 abbrev pub handed_of : Heap → ℕ → ℕ
@@ -75,7 +76,7 @@ with_handed own number more = raised own (number - 1) more
 -- its words were handed out
 pub record CanSet (h : Heap) (address name size : ℕ) : Type 0 where
   pub stands : CanStandAt h.blocks address name size
-  pub handed : home_of address ≡ h.me → index_of address + 4 + size ≤ handed_of h (segment_of address)
+  pub handed : home_of address ≡ h.me → index_of address + header_words + size ≤ handed_of h (segment_of address)
 
 -- a bunch's open segment is made and mapped and the bunch's own
 pub record IsOpenOne (h : Heap) (bunch number : ℕ) : Type 0 where
@@ -93,12 +94,12 @@ pub record Makes (old new : Heap) (bunch more : ℕ) : Type 0 where
 -- the next words of an open segment are handed out
 pub record PlacesIn (old new : Heap) (number size at : ℕ) : Type 0 where
   pub address : at ≡ address_word old.me number (handed_of old number)
-  pub handed : new ≡ record old { own = with_handed old.own number (4 + size) }
+  pub handed : new ≡ record old { own = with_handed old.own number (header_words + size) }
 
 -- a segment is made, mapped and opened for the bunch, and its first words are handed out
 pub record PlacesInNew (old new : Heap) (bunch size at : ℕ) : Type 0 where
   pub address : at ≡ address_word old.me (made_of old + 1) 0
-  pub own : new.own ≡ old.own ++ record { bunch = bunch; handed = 4 + size } ∷ []
+  pub own : new.own ≡ old.own ++ record { bunch = bunch; handed = header_words + size } ∷ []
   pub current : new.current ≡ slice_set old.current bunch (Some (made_of old + 1))
   pub mapped : Maps old.blocks new.blocks old.me (made_of old + 1) 1
   pub rest : new ≡ record old { own = new.own; current = new.current; blocks = new.blocks }
@@ -109,6 +110,6 @@ pub record IsHeap (h : Heap) : Type 0 where
   pub few : h.limit ≤ 65535
   pub few_made : made_of h ≤ 65535
   pub bunches : length h.current ≡ 16
-  pub handed : (number : ℕ) → handed_of h number ≤ 1024
+  pub handed : (number : ℕ) → handed_of h number ≤ segment_words
   pub current : (bunch number : ℕ) → current_of h bunch ≡ Some number → IsOpenOne h bunch number
-  pub within : (a : ℕ) (x : Header) → home_of a ≡ h.me → header_at h.blocks a ≡ Some x → index_of a + 4 + x.size ≤ handed_of h (segment_of a)
+  pub within : (a : ℕ) (x : Header) → home_of a ≡ h.me → header_at h.blocks a ≡ Some x → index_of a + header_words + x.size ≤ handed_of h (segment_of a)

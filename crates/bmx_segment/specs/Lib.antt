@@ -1,4 +1,6 @@
 pub mod Headers
+pub mod Updates
 pub mod Blocks
 pub mod Stores
 pub mod Heaps
+pub mod Inside

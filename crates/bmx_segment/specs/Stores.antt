@@ -1,9 +1,10 @@
 -- The mapped segments, as a finite map from home and number to blocks of words.
-use Rattle.std.specs.Prelude.{◌≡◌, ◌≢◌, ◌⊎◌, ℕ, ◌+◌, ◌-◌, ◌*◌, ◌^◌, ◌<◌, ◌≤◌, Bool, if◌then◌else◌, ◌==◌, ◌&&◌, nat_le, nat_lt, List, [], ◌∷◌, length, slice_index, slice_index_or, Option, Some, None, IsSome, IsSomeAnd, is_some, unwrap_or}
+use Rattle.std.specs.Prelude.{◌≡◌, ◌≢◌, ◌⊎◌, ℕ, ◌+◌, ◌-◌, ◌*◌, ◌^◌, ◌<◌, ◌≤◌, Bool, if◌then◌else◌, ◌==◌, ◌&&◌, nat_le, nat_lt, List, [], ◌∷◌, slice_index, Option, Some, None, IsSome, IsSomeAnd, is_some, unwrap_or}
 use Rattle.std.specs.Option.{option_and_then, option_map}
 use Rattle.bmx_types.specs.Words.{home_of, segment_of, index_of}
-use Rattle.bmx_segment.specs.Blocks.{Block, IsBlock, header_in, CanStand, with_header, with_field, blank_block, blank_words, blank_starts, live_in}
-use Rattle.bmx_segment.specs.Headers.{with_kind_at, IsLive}
+use Rattle.bmx_segment.specs.Updates.{Puts}
+use Rattle.bmx_segment.specs.Blocks.{Block, header_in, CanStand, with_header, with_field, blank_block, live_in}
+use Rattle.bmx_segment.specs.Headers.{header_words, with_kind_at, IsLive}
 use Rattle.bmx_segment.specs.declared.headers.Header.{Header}
 
 -- one number for a home and a segment's number there
@@ -45,26 +46,9 @@ abbrev pub live_of : Option Block → ℕ
 live_of None = 0
 live_of (Some b) = live_in b
 
--- the blocks rise by home and number
-abbrev pub IsRising : List Block → Type 0
-IsRising bs = (i j : ℕ) (d : Block) → i < j → j < length bs → key_of (slice_index_or bs i d) < key_of (slice_index_or bs j d)
-
--- each block is one
-abbrev pub AreBlocks : List Block → Type 0
-AreBlocks bs = (i : ℕ) (d : Block) → i < length bs → IsBlock (slice_index_or bs i d)
-
 -- no two headers share a word, their fields counted as theirs
 abbrev pub AreApart : List Block → Type 0
-AreApart blocks = (a b : ℕ) (x y : Header) → header_at blocks a ≡ Some x → header_at blocks b ≡ Some y → a < b → a + 4 + x.size ≤ b
-
--- all words are 0 and no header begins
-abbrev pub IsBlank : Block → Type 0
-IsBlank b = (b.words ≡ blank_words) × (b.starts ≡ blank_starts)
-
--- the segment of that number has that block from now on, or none, and each other has the block that
--- it had
-abbrev pub Puts : List Block → List Block → ℕ → Option Block → Type 0
-Puts old new key b = (k : ℕ) → block_at new k ≡ (if k == key then b else block_at old k)
+AreApart blocks = (a b : ℕ) (x y : Header) → header_at blocks a ≡ Some x → header_at blocks b ≡ Some y → a < b → a + header_words + x.size ≤ b
 
 -- a key is that of one of some segments in a row
 abbrev pub is_between : ℕ → ℕ → ℕ → Bool
@@ -83,31 +67,34 @@ pub record Maps (old new : List Block) (home first more : ℕ) : Type 0 where
 -- a header is set at an address: its segment's block has it from now on, no other header changes, and
 -- only its four words do
 pub record Sets (old new : List Block) (address : ℕ) (h : Header) : Type 0 where
-  pub blocks : IsSomeAnd (block_at old (key_at address)) (λ b. Puts old new (key_at address) (Some (with_header b (index_of address) h)))
+  pub blocks : IsSomeAnd (block_at old (key_at address)) (λ b. Puts (block_at old) (block_at new) (key_at address) (Some (with_header b (index_of address) h)))
   pub mapped : (k : ℕ) → is_some (block_at new k) ≡ is_some (block_at old k)
-  pub headers : (a : ℕ) → header_at new a ≡ (if a == address then Some h else header_at old a)
-  pub words : (a : ℕ) → (a < address) ⊎ (address + 4 ≤ a) → word_at new a ≡ word_at old a
+  pub headers : Puts (header_at old) (header_at new) address (Some h)
+  pub words : (a : ℕ) → (a < address) ⊎ (address + header_words ≤ a) → word_at new a ≡ word_at old a
+
+-- an object is laid at an address: its header stands there and its fields have those words from now on; no
+-- other header changes, and no word outside the object
+pub record Lays (old new : List Block) (address : ℕ) (h : Header) (f : ℕ → ℕ) : Type 0 where
+  pub mapped : (k : ℕ) → is_some (block_at new k) ≡ is_some (block_at old k)
+  pub headers : Puts (header_at old) (header_at new) address (Some h)
+  pub fields : (i : ℕ) → i < h.size → word_at new (address + header_words + i) ≡ f i
+  pub words : (a : ℕ) → (a < address) ⊎ (address + header_words + h.size ≤ a) → word_at new a ≡ word_at old a
 
 -- a field of the live header at an address is written: the header has the kind, the field's word is
 -- the one that was written; no other header changes, and only that word and the kinds do
 pub record Writes (old new : List Block) (address field kind w : ℕ) : Type 0 where
-  pub blocks : IsSomeAnd (block_at old (key_at address)) (λ b. Puts old new (key_at address) (Some (with_field b (index_of address) field kind w)))
+  pub blocks : IsSomeAnd (block_at old (key_at address)) (λ b. Puts (block_at old) (block_at new) (key_at address) (Some (with_field b (index_of address) field kind w)))
   pub mapped : (k : ℕ) → is_some (block_at new k) ≡ is_some (block_at old k)
   pub header : header_at new address ≡ option_map (λ (h : Header). record h { state = with_kind_at h.state field kind }) (header_at old address)
   pub headers : (a : ℕ) → a ≢ address → header_at new a ≡ header_at old a
-  pub word : word_at new (address + 4 + field) ≡ w
-  pub words : (a : ℕ) → a ≢ address + 3 → a ≢ address + 4 + field → word_at new a ≡ word_at old a
+  pub word : word_at new (address + header_words + field) ≡ w
+  pub words : (a : ℕ) → a ≢ address + 3 → a ≢ address + header_words + field → word_at new a ≡ word_at old a
 
 -- a segment is mapped no more, and its headers are gone; each other segment has the block that it had
 pub record Drops (old new : List Block) (home number : ℕ) : Type 0 where
-  pub blocks : Puts old new (segment_key home number) None
-  pub headers : (a : ℕ) → header_at new a ≡ (if key_at a == segment_key home number then None else header_at old a)
+  pub blocks : Puts (block_at old) (block_at new) (segment_key home number) None
+  pub headers : (a : ℕ) → header_at new a ≡ (if segment_key home number == key_at a then None else header_at old a)
   pub words : (a : ℕ) → key_at a ≢ segment_key home number → word_at new a ≡ word_at old a
-
--- the mapped segments, and how many more can be mapped without memory
-pub record Mapped : Type 0 where
-  pub blocks : List Block
-  pub spare : ℕ
 
 -- a header of that name and size can begin at an address of a mapped segment
 abbrev pub CanStandAt : List Block → ℕ → ℕ → ℕ → Type 0
@@ -116,10 +103,3 @@ CanStandAt blocks address name size = IsSomeAnd (block_at blocks (key_at address
 -- at that address a live header begins that has that field
 abbrev pub HasFieldAt : List Block → ℕ → ℕ → Type 0
 HasFieldAt blocks address field = IsSomeAnd (header_at blocks address) (λ h. IsLive h.state × (field < h.size))
-
--- what the store of segments keeps: order, blocks, blank blocks in stock, and room for each of them
-pub record IsStored (segments pool : List Block) (room : ℕ) : Type 0 where
-  pub rising : IsRising segments
-  pub blocks : AreBlocks segments
-  pub blank : (i : ℕ) (d : Block) → i < length pool → IsBlank (slice_index_or pool i d)
-  pub enough : length segments + length pool ≤ room

@@ -1,7 +1,8 @@
-ghost use Rattle.std.specs.Prelude.{◌≡◌, ℕ, ◌+◌, ◌*◌, ◌/◌, ◌%◌, ◌^◌, ◌<◌, ◌≤◌};
+ghost use Rattle.std.specs.Prelude.{◌≡◌, ℕ, ◌+◌, ◌*◌, ◌/◌, ◌%◌, ◌^◌, ◌<◌, ◌≤◌, ◌==◌, if◌then◌else◌};
+ghost use Rattle.bmx_segment.specs.declared.headers.Kind.{Kind as KindOf};
 ghost use Rattle.bmx_types.specs.Words.{IsName, IsAddress};
 ghost use Rattle.bmx_segment.specs.declared.headers.Header.{Header};
-ghost use Rattle.bmx_segment.specs.Headers.{mark_of, third_of, fourth_of, header_of, state_number, IsHeader, IsHeaderWords, kind_number, with_kind};
+ghost use Rattle.bmx_segment.specs.Headers.{mark_of, third_of, fourth_of, header_of, size_in, held_moves, state_number, live_number, IsHeader, IsHeaderWords, kind_number, kind_of, with_kind};
 
 use bmx_types::{Address, BunchNo, Name};
 
@@ -46,7 +47,18 @@ impl State {
         }
     }
 
-    /// The third word of a header in this state, where that word holds `held` so far.
+    /// 1 where the object stands here, else 0.
+    pub(crate) fn live(&self) -> u32
+        ensures value { result ≡ live_number self.now }
+        ensures one { result ≤ 1 }
+    {
+        match self {
+            State::Live { .. } => 1,
+            State::Forwarded { .. } | State::Dead => 0,
+        }
+    }
+
+    /// The third word of a header in this state, where it holds those moves so far.
     pub(crate) fn third(&self, held: u64) -> u64
         ensures value { result ≡ third_of self.now held }
         ensures leads { state_number self.now ≡ 2 → IsAddress (third_of self.now 0) }
@@ -67,6 +79,25 @@ impl State {
             State::Forwarded { .. } => held,
             State::Dead => held,
         }
+    }
+}
+
+/// How many fields a header has, by its first word.
+pub(crate) fn size_in(mark: u64) -> usize
+    ensures { result ≡ size_in mark }
+{
+    (mark / SIZE_UNIT % BYTE) as usize
+}
+
+/// The moves among the first and the third word of a header, which a forwarded one has not: it counts as
+/// unmoved.
+pub(crate) fn held_moves(mark: u64, third: u64) -> u64
+    ensures { result ≡ held_moves mark third }
+{
+    if mark / STATE_UNIT % BYTE == FORWARDED {
+        0
+    } else {
+        third
     }
 }
 
@@ -129,6 +160,13 @@ impl Header {
 pub fn words_of_headers()
     ensures read { (h : Header) (third fourth : ℕ) → IsHeader h → header_of (mark_of h) h.name (third_of h.state third) (fourth_of h.state fourth) ≡ h }
     ensures written { (mark name third fourth : ℕ) → IsHeaderWords mark name third fourth → (mark_of (header_of mark name third fourth) ≡ mark) × (third_of (header_of mark name third fourth).state third ≡ third) × (fourth_of (header_of mark name third fourth).state fourth ≡ fourth) }
+{}
+
+/// A law: with the kind of one field replaced, that field has it and each other the one that it had, and
+/// kinds of so many fields stay kinds of so many.
+pub fn kinds_of_fields()
+    ensures read { (kinds i : ℕ) (kind : KindOf) (j : ℕ) → kind_of (with_kind kinds i (kind_number kind)) j ≡ (if j == i then kind_number kind else kind_of kinds j) }
+    ensures few { (kinds i : ℕ) (kind : KindOf) (size : ℕ) → i < size → kinds < 2 ^ (2 * size) → with_kind kinds i (kind_number kind) < 2 ^ (2 * size) }
 {}
 
 /// A header can't be set there.

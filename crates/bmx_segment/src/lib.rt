@@ -7,9 +7,9 @@
 //! with its state, size and bunch, its name, how often it has moved or where it has gone, and the kinds
 //! of its fields.
 //!
-//! A mapped segment takes 8 KiB for its words and 168 bytes beside them. So eight nodes that each map
-//! 4,096 segments of each of eight homes take 2 GiB of words, and between 2 and 4 percent of that
-//! beside them.
+//! A mapped segment takes 8 KiB for its words and 176 bytes beside them, and the largest number that was
+//! mapped 64 bytes for each number up to it. So eight nodes that each map 4,096 segments of each of eight
+//! homes take 2 GiB of words, and between 2 and 5 percent of that beside them.
 #![tactic(auto)]
 
 mod headers;
@@ -19,5 +19,6 @@ mod store;
 #[cfg(test)]
 mod tests;
 
-pub use headers::{Clash, Header, Kind, State, words_of_headers};
+pub use headers::{Clash, Header, Kind, State, kinds_of_fields, words_of_headers};
+pub use segment::{HEADER_WORDS, SEGMENT_WORDS};
 pub use segments::{PlaceError, Segments};

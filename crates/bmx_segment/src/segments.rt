@@ -1,17 +1,19 @@
-ghost use Rattle.std.specs.Prelude.{◌≡◌, ◌≢◌, ◌⊎◌, ℕ, ◌+◌, ◌-◌, ◌*◌, ◌^◌, ◌<◌, ◌≤◌, ◌↔◌, List, [], ◌∷◌, ◌++◌, length, max, replicate, slice_set, IsTrue, IsOk, IsErr, IsSome, IsSomeAnd, IfOk, IfErr, IfSome, IfNone, IsOkAnd, IsErrOf, OnOk, OnErr, vec_len, Some, None, MatchOption, if◌then◌else◌, is_some, ◌==◌};
+ghost use Rattle.std.specs.Prelude.{◌≡◌, ◌≢◌, ◌⊎◌, ℕ, ◌+◌, ◌-◌, ◌*◌, ◌^◌, ◌<◌, ◌≤◌, ◌↔◌, List, [], ◌∷◌, ◌++◌, length, slice_index, max, replicate, slice_set, IsTrue, IsOk, IsErr, IsSome, IsSomeAnd, IfOk, IfErr, IfSome, IfNone, IsOkAnd, IsErrOf, OnOk, OnErr, vec_len, Some, None, MatchOption, if◌then◌else◌, is_some, ◌==◌};
 ghost use Rattle.bmx_types.specs.Words.{home_of, segment_of, index_of, address_word};
 ghost use Rattle.std.specs.Vec.{vec_capacity};
-ghost use Rattle.bmx_segment.specs.Headers.{IsHeader, kind_number, kind_of, with_kind};
+ghost use Rattle.bmx_segment.specs.Headers.{IsHeader, IsLive, kind_number};
+ghost use Rattle.bmx_segment.specs.declared.headers.Header.{Header as HeaderOf};
+ghost use Rattle.std.specs.Option.{option_map};
 ghost use Rattle.bmx_segment.specs.declared.segments.PlaceError.TheVariants.{Full};
 ghost use Rattle.bmx_segment.specs.declared.headers.State.TheVariants.{Forwarded, Dead};
 ghost use Rattle.bmx_segment.specs.Blocks.{Block};
-ghost use Rattle.bmx_segment.specs.Stores.{segment_key, key_at, block_at, header_at, word_at, live_of, IsMapped, Maps, Sets, Writes, Drops, HasFieldAt, AreApart};
+ghost use Rattle.bmx_segment.specs.Stores.{segment_key, key_at, block_at, header_at, word_at, live_of, IsMapped, Maps, Sets, Writes, Lays, Drops, HasFieldAt, AreApart};
 ghost use Rattle.bmx_segment.specs.Heaps.{Heap, made_of, handed_of, left_of, current_of, room_of, own_at, with_handed, CanSet, IsOpen, IsOpenOne, Makes, PlacesIn, PlacesInNew, IsHeap};
 
 use crate::headers::{Clash, Header, Kind, State};
-use crate::segment::{HEADER_WORDS, WORDS};
+use crate::segment::{HEADER_WORDS, SEGMENT_WORDS};
 use crate::store::Store;
-use bmx_types::{Address, BunchNo, NoMemory, NodeNo};
+use bmx_types::{Address, BunchNo, Name, NoMemory, NodeNo};
 use std::alloc::Global;
 use std::marker::Model;
 
@@ -43,8 +45,8 @@ struct Own {
 }
 
 /// The segments of one node: those that it made, and those that it mapped of any home. A segment is
-/// found in steps logarithmic in how many are mapped, and a header or a field in it at once. To map,
-/// make or drop one moves 168 bytes for each mapped segment that follows it in order of home and number.
+/// found by its home and number without search, and mapped, made or dropped in constant time, but that
+/// mapping one with a number larger than any so far takes 64 bytes more for each number between.
 #[derive(Drop)]
 pub struct Segments {
     me: NodeNo,
@@ -94,7 +96,7 @@ impl Segments {
         self.store.is_mapped(home, number)
     }
 
-    /// How many live headers a segment has, 0 where it isn't mapped. Looks at each of its words.
+    /// How many live headers a segment has, 0 where it isn't mapped.
     pub fn live(&self, home: NodeNo, number: u32) -> u32
         ensures { result ≡ live_of (block_at self.now.blocks (segment_key home number)) }
     {
@@ -105,9 +107,17 @@ impl Segments {
     pub fn header(&self, address: Address) -> Option<Header>
         ensures value { result ≡ header_at self.now.blocks address }
         ensures fits { IfSome result (λ h. IsHeader h × (index_of address + 4 + h.size ≤ 1024)) }
+        ensures stands { IfSome result (λ h. CanSet self.now address h.name h.size) }
         ensures apart { AreApart self.now.blocks }
     {
         self.store.header(address)
+    }
+
+    /// The name in the header that begins at an address, None where none does.
+    pub fn name(&self, address: Address) -> Option<Name>
+        ensures { result ≡ option_map (λ (h : HeaderOf). h.name) (header_at self.now.blocks address) }
+    {
+        self.store.name(address)
     }
 
     /// Maps the segment of an address; its words are 0. Where it is mapped nothing changes. It takes
@@ -135,7 +145,7 @@ impl Segments {
     /// Sets a header: its mark, its name, and what its state tells of the other two words. The field
     /// words stay. It clashes exactly where its words aren't mapped, leave the segment, overlap a header
     /// that begins at another word, begin where a header of another name or size stands, or lie in the
-    /// node's own home and were never handed out. Looks at up to 71 words.
+    /// node's own home and were never handed out.
     pub fn set_header(&mut self, address: Address, header: &Header) -> Result<(), Clash>
         requires { header.now.size ≤ 32 }
         ensures ok { IsOk result ↔ CanSet self.old address header.now.name header.now.size }
@@ -147,6 +157,23 @@ impl Segments {
             return Err(Clash);
         }
         self.store.set_header(address, header)
+    }
+
+    /// Sets a live header, and the words of its fields to the first of those given. It clashes exactly where
+    /// `set_header` does, and nothing changes then.
+    pub fn lay(&mut self, address: Address, header: &Header, words: &[u64]) -> Result<(), Clash>
+        requires few { header.now.size ≤ 32 }
+        requires live { IsLive header.now.state }
+        requires enough { header.now.size ≤ length words.now }
+        ensures ok { IsOk result ↔ CanSet self.old address header.now.name header.now.size }
+        ensures laid { OnOk result (Lays self.old.blocks self.new.blocks address header.now (λ i. slice_index words.now i)) }
+        ensures apart { OnOk result (AreApart self.new.blocks) }
+        ensures rest { self.new ≡ record self.old { blocks = self.new.blocks } }
+        ensures err { OnErr result (self.new ≡ self.old) }
+    {
+        self.set_header(address, header)?;
+        self.store.fill(address, header.size as usize, words);
+        Ok(())
     }
 
     /// The word of a field of the live header at an address: 0 for null, a number in two's complement,
@@ -162,7 +189,7 @@ impl Segments {
     pub fn set_word(&mut self, address: Address, i: u8, kind: Kind, w: u64)
         requires { HasFieldAt self.old.blocks address i }
         ensures written { Writes self.old.blocks self.new.blocks address i (kind_number kind) w }
-        ensures kinds { (ks j : ℕ) → kind_of (with_kind ks i (kind_number kind)) j ≡ (if j == i then kind_number kind else kind_of ks j) }
+        ensures apart { AreApart self.old.blocks }
         ensures rest { self.new ≡ record self.old { blocks = self.new.blocks } }
     {
         self.store.set_field(address, i as usize, kind, w);
@@ -177,8 +204,8 @@ impl Segments {
         self.store.set_state(from, State::Forwarded { to });
     }
 
-    /// The header at an address is dead from now on; its other words stay. Where none begins nothing
-    /// changes.
+    /// The header at an address is dead from now on. Its other words stay, but that one which was forwarded
+    /// counts as unmoved in place of its target. Where none begins nothing changes.
     pub fn kill(&mut self, address: Address)
         ensures set { MatchOption (header_at self.old.blocks address) (self.new ≡ self.old) (λ h. Sets self.old.blocks self.new.blocks address (record h { state = Dead })) }
         ensures rest { self.new ≡ record self.old { blocks = self.new.blocks } }
@@ -236,7 +263,7 @@ impl Segments {
         ensures { result ≡ left_of self.now number }
     {
         match self.own_at(number) {
-            Some(own) => WORDS as u32 - own.handed,
+            Some(own) => SEGMENT_WORDS as u32 - own.handed,
             None => 0,
         }
     }

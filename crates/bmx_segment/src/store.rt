@@ -1,69 +1,85 @@
-ghost use Rattle.std.specs.Prelude.{◌≡◌, ℕ, ◌+◌, ◌-◌, ◌*◌, ◌^◌, ◌<◌, ◌≤◌, ◌↔◌, ◌==◌, List, [], length, slice_index, slice_index_or, max, min, insert, is_some, if◌then◌else◌, IsTrue, IsOk, IsSome, IsSomeAnd, IfOk, IfErr, IfSome, OnOk, OnErr, Some, None, option_copied, MatchOption, vec_len};
-ghost use Rattle.bmx_types.specs.Words.{home_of, segment_of, index_of};
+ghost use Rattle.std.specs.Vec.{vec_capacity};
+ghost use Rattle.std.specs.Prelude.{◌≡◌, ◌≢◌, ℕ, ◌+◌, ◌-◌, ◌*◌, ◌^◌, ◌<◌, ◌≤◌, ◌↔◌, [], length, slice_index, slice_index_or, max, min, is_some, if◌then◌else◌, IsTrue, IsOk, IsSome, IfOk, IfNone, IfSome, OnOk, OnErr, Some, None, option_copied, MatchOption, vec_len};
+ghost use Rattle.std.specs.Option.{option_map};
+ghost use Rattle.bmx_types.specs.Words.{index_of};
 ghost use Rattle.bmx_segment.specs.Headers.{IsHeader, kind_number};
-ghost use Rattle.bmx_segment.specs.Blocks.{Block, IsBlock, header_in, with_header, with_field, blank_block};
-ghost use Rattle.bmx_segment.specs.Stores.{Mapped, segment_key, key_of, key_at, block_at, header_at, word_at, live_of, IsRising, IsBlank, AreBlocks, AreApart, Maps, Sets, Writes, Puts, CanStandAt, HasFieldAt};
+ghost use Rattle.bmx_segment.specs.Updates.{Puts};
+ghost use Rattle.bmx_segment.specs.Blocks.{Block};
+ghost use Rattle.bmx_segment.specs.Stores.{segment_key, block_at, header_at, word_at, live_of, AreApart, Maps, Sets, Writes, CanStandAt, HasFieldAt};
+ghost use Rattle.bmx_segment.specs.Inside.Stores.{Mapped, rank_of, AreBlocks, IsBlank, IsAt, Fills};
+ghost use Rattle.bmx_segment.specs.declared.headers.Header.{Header as HeaderOf};
 
 use crate::headers::{Clash, Header, Kind, State};
 use crate::segment::Segment;
-use bmx_types::{Address, NoMemory, NodeNo};
+use bmx_types::{Address, Name, NoMemory, NodeNo};
 use std::alloc::Global;
 use std::marker::Model;
 
-/// The mapped segments in order of home and number, with blank ones in stock.
+/// How many homes there are.
+const HOMES: usize = 8;
+
+/// How many segments of all homes have a number.
+const RANKS: usize = HOMES << 16;
+
+/// The mapped segments, with blank ones in stock. A segment is found by its number and home in a table,
+/// without search. The table has as many rows as the largest number that was mapped, of 64 bytes each.
 #[derive(Drop)]
 pub(crate) struct Store {
     segments: Vec<Segment>,
-    /// Blank segments, for each of which `segments` has room.
+    /// 1 more than where a segment stands, 0 where it isn't mapped, by number and then by home.
+    table: Vec<usize>,
+    /// Blank segments, for each of which `segments` has room, and where there are some, `table` has for
+    /// all ranks.
     pool: Vec<Segment>,
     alloc: Global,
 }
 
 impl Model for Store {
     ghost use Rattle.std.specs.Prelude.{vec_len};
-    ghost use Rattle.bmx_segment.specs.Stores.{Mapped};
+    ghost use Rattle.bmx_segment.specs.Inside.Stores.{Mapped};
 
     ghost Value = { Mapped };
 
-    ghost use Rattle.bmx_segment.specs.Stores.{IsStored};
+    ghost use Rattle.bmx_segment.specs.Inside.Stores.{IsStored};
     ghost use Rattle.std.specs.Vec.{vec_capacity};
 
     ghost view = { λ s. record { blocks = s.segments.items; spare = vec_len s.pool } };
 
-    ghost invariant = { λ s. IsStored s.segments.items s.pool.items (vec_capacity s.segments) };
+    ghost invariant = { λ s. IsStored s.segments.items s.pool.items s.table.items (vec_capacity s.segments) (vec_capacity s.table) };
 }
 
-/// One number for a home and a segment's number there.
-fn rank(home: NodeNo, number: u32) -> u64
-    ensures { result ≡ segment_key home number }
+/// Where the table has the segment of a home and a number.
+fn rank(home: NodeNo, number: u32) -> usize
+    ensures value { result ≡ rank_of home number }
+    ensures home { home < 8 }
 {
-    ((home.get() as u64) << 32) + number as u64
+    number as usize * HOMES + home.get() as usize
 }
 
-/// Where a segment stands among those that rise, or where it would.
-fn place_of(segments: &[Segment], key: u64) -> Result<usize, usize>
-    requires { IsRising segments.now }
-    ensures found { IfOk result (λ i. (i < length segments.now) × ((d : Block) → key_of (slice_index_or segments.now i d) ≡ key)) }
-    ensures bound { IfErr result (λ i. i ≤ length segments.now) }
-    ensures below { IfErr result (λ i. (j : ℕ) (d : Block) → j < i → key_of (slice_index_or segments.now j d) < key) }
-    ensures above { IfErr result (λ i. (j : ℕ) (d : Block) → i ≤ j → j < length segments.now → key < key_of (slice_index_or segments.now j d)) }
+/// What a table says of a rank.
+fn place_in(table: &[usize], rank: usize) -> Option<usize>
+    ensures some { IfSome result (λ i. slice_index table.now rank ≡ i + 1) }
+    ensures none { IfNone result (slice_index table.now rank ≡ 0) }
 {
-    let mut low = 0;
-    let mut high = segments.len();
-    while low < high {
-        let middle = low + (high - low) / 2;
-        let segment = &segments[middle];
-        let there = rank(segment.home(), segment.number());
-        if there == key {
-            return Ok(middle);
-        }
-        if there < key {
-            low = middle + 1;
-        } else {
-            high = middle;
-        }
+    if rank >= table.len() {
+        return None;
     }
-    Err(low)
+    table[rank].checked_sub(1)
+}
+
+/// Writes a row of a table, which has room for it.
+fn set_row(table: &mut Vec<usize>, rank: usize, row: usize)
+    requires { rank < vec_capacity table.old }
+    ensures here { slice_index table.new.items rank ≡ row }
+    ensures others { (k : ℕ) → k ≢ rank → slice_index table.new.items k ≡ slice_index table.old.items k }
+    ensures capacity { vec_capacity table.old ≤ vec_capacity table.new }
+{
+    if rank >= table.len() {
+        let Ok(()) = table.resize(rank + 1, 0) else {
+            unreachable!()
+        };
+    }
+    table[rank] = row;
 }
 
 /// So many blank segments.
@@ -88,6 +104,7 @@ impl Store {
     {
         Store {
             segments: Vec::new(alloc),
+            table: Vec::new(alloc),
             pool: Vec::new(alloc),
             alloc,
         }
@@ -101,15 +118,23 @@ impl Store {
         self.pool.len()
     }
 
+    /// Where a mapped segment stands.
+    fn place_of(&self, home: NodeNo, number: u32) -> Option<usize>
+        ensures some { IfSome result (λ i. IsAt self.now.blocks (segment_key home number) i) }
+        ensures none { IfNone result (block_at self.now.blocks (segment_key home number) ≡ None) }
+        ensures blocks { AreBlocks self.now.blocks }
+    {
+        place_in(self.table.as_slice(), rank(home, number))
+    }
+
     /// A mapped segment.
     fn segment(&self, home: NodeNo, number: u32) -> Option<&Segment>
         ensures value { option_copied result ≡ block_at self.now.blocks (segment_key home number) }
         ensures blocks { AreBlocks self.now.blocks }
     {
-        let segments = self.segments.as_slice();
-        match place_of(segments, rank(home, number)) {
-            Ok(place) => Some(&segments[place]),
-            Err(_) => None,
+        match self.place_of(home, number) {
+            Some(place) => Some(&self.segments[place]),
+            None => None,
         }
     }
 
@@ -117,10 +142,10 @@ impl Store {
     pub(crate) fn is_mapped(&self, home: NodeNo, number: u32) -> bool
         ensures { result ≡ is_some (block_at self.now.blocks (segment_key home number)) }
     {
-        self.segment(home, number).is_some()
+        self.place_of(home, number).is_some()
     }
 
-    /// How many live headers a segment has, 0 where it isn't mapped. Looks at each word.
+    /// How many live headers a segment has, 0 where it isn't mapped.
     pub(crate) fn live(&self, home: NodeNo, number: u32) -> u32
         ensures { result ≡ live_of (block_at self.now.blocks (segment_key home number)) }
     {
@@ -134,10 +159,19 @@ impl Store {
     pub(crate) fn header(&self, address: Address) -> Option<Header>
         ensures value { result ≡ header_at self.now.blocks address }
         ensures fits { IfSome result (λ h. IsHeader h × (index_of address + 4 + h.size ≤ 1024)) }
+        ensures stands { IfSome result (λ h. CanStandAt self.now.blocks address h.name h.size) }
         ensures apart { AreApart self.now.blocks }
     {
         let segment = self.segment(address.home(), address.segment())?;
         segment.header(address.index() as usize)
+    }
+
+    /// The name in the header that begins at an address.
+    pub(crate) fn name(&self, address: Address) -> Option<Name>
+        ensures { result ≡ option_map (λ (h : HeaderOf). h.name) (header_at self.now.blocks address) }
+    {
+        let segment = self.segment(address.home(), address.segment())?;
+        segment.name(address.index() as usize)
     }
 
     /// The word of a field of the live header at an address.
@@ -161,31 +195,31 @@ impl Store {
         if n <= spare {
             return Ok(());
         }
+        self.table.reserve(RANKS.saturating_sub(self.table.len()))?;
         self.segments.reserve(n)?;
         let mut more = blanks(self.alloc, n - spare)?;
         self.pool.append(&mut more)?;
         Ok(())
     }
 
-    /// Maps a segment that isn't mapped, at the place where it belongs.
-    fn insert(&mut self, place: usize, home: NodeNo, number: u32)
+    /// Maps a segment that isn't mapped, from the stock.
+    fn insert(&mut self, home: NodeNo, number: u32)
         requires some { 0 < number }
         requires few { number < 2 ^ 16 }
         requires spare { 0 < self.old.spare }
-        requires bound { place ≤ length self.old.blocks }
-        requires below { (j : ℕ) (d : Block) → j < place → key_of (slice_index_or self.old.blocks j d) < segment_key home number }
-        requires above { (j : ℕ) (d : Block) → place ≤ j → j < length self.old.blocks → segment_key home number < key_of (slice_index_or self.old.blocks j d) }
-        ensures blocks { self.new.blocks ≡ insert self.old.blocks place (blank_block home number) }
+        requires absent { block_at self.old.blocks (segment_key home number) ≡ None }
+        ensures mapped { Maps self.old.blocks self.new.blocks home number 1 }
         ensures spare { self.new.spare + 1 ≡ self.old.spare }
-        ensures rising { IsRising self.old.blocks }
     {
+        let rank = rank(home, number);
         let Some(mut segment) = self.pool.pop() else {
             unreachable!()
         };
         segment.renumber(home, number);
-        let Ok(()) = self.segments.insert(place, segment) else {
+        let Ok(()) = self.segments.push(segment) else {
             unreachable!()
         };
+        set_row(&mut self.table, rank, self.segments.len());
     }
 
     /// Maps a segment. Where it is mapped nothing changes.
@@ -197,11 +231,11 @@ impl Store {
         ensures err { OnErr result (self.new ≡ self.old) }
         ensures free { 0 < self.old.spare → IsOk result }
     {
-        let Err(place) = place_of(self.segments.as_slice(), rank(home, number)) else {
+        if self.is_mapped(home, number) {
             return Ok(());
-        };
+        }
         self.reserve(1)?;
-        self.insert(place, home, number);
+        self.insert(home, number);
         Ok(())
     }
 
@@ -233,12 +267,17 @@ impl Store {
 
     /// Takes a segment away. Where it isn't mapped nothing changes.
     pub(crate) fn remove(&mut self, home: NodeNo, number: u32)
-        ensures blocks { Puts self.old.blocks self.new.blocks (segment_key home number) None }
+        ensures blocks { Puts (block_at self.old.blocks) (block_at self.new.blocks) (segment_key home number) None }
         ensures spare { self.new.spare ≡ self.old.spare }
     {
-        if let Ok(place) = place_of(self.segments.as_slice(), rank(home, number)) {
-            self.segments.remove(place);
-        }
+        let Some(place) = self.place_of(home, number) else {
+            return;
+        };
+        let last = &self.segments[self.segments.len() - 1];
+        let moved = rank(last.home(), last.number());
+        self.table[moved] = place + 1;
+        self.table[rank(home, number)] = 0;
+        self.segments.swap_remove(place);
     }
 
     /// Sets a header.
@@ -249,9 +288,8 @@ impl Store {
         ensures spare { self.new.spare ≡ self.old.spare }
         ensures err { OnErr result (self.new ≡ self.old) }
     {
-        let rank = rank(address.home(), address.segment());
         let index = address.index() as usize;
-        let Ok(place) = place_of(self.segments.as_slice(), rank) else {
+        let Some(place) = self.place_of(address.home(), address.segment()) else {
             return Err(Clash);
         };
         let segment = &mut self.segments[place];
@@ -262,15 +300,31 @@ impl Store {
         Ok(())
     }
 
+    /// Writes the words of all fields of the header at an address.
+    pub(crate) fn fill(&mut self, address: Address, size: usize, words: &[u64])
+        requires there { IsSome (header_at self.old.blocks address) }
+        requires size { (h : HeaderOf) → header_at self.old.blocks address ≡ Some h → h.size ≡ size }
+        requires enough { size ≤ length words.now }
+        ensures filled { Fills self.old.blocks self.new.blocks address size words.now }
+        ensures apart { AreApart self.old.blocks }
+        ensures spare { self.new.spare ≡ self.old.spare }
+    {
+        let index = address.index() as usize;
+        let Some(place) = self.place_of(address.home(), address.segment()) else {
+            unreachable!()
+        };
+        let segment = &mut self.segments[place];
+        segment.fill(index, size, words);
+    }
+
     /// Puts the header that begins at an address into another state. Where none begins nothing
     /// changes.
     pub(crate) fn set_state(&mut self, address: Address, state: State)
         ensures set { MatchOption (header_at self.old.blocks address) (self.new ≡ self.old) (λ h. Sets self.old.blocks self.new.blocks address (record h { state = state })) }
         ensures spare { self.new.spare ≡ self.old.spare }
     {
-        let rank = rank(address.home(), address.segment());
         let index = address.index() as usize;
-        let Ok(place) = place_of(self.segments.as_slice(), rank) else {
+        let Some(place) = self.place_of(address.home(), address.segment()) else {
             return;
         };
         let segment = &mut self.segments[place];
@@ -284,11 +338,11 @@ impl Store {
     pub(crate) fn set_field(&mut self, address: Address, field: usize, kind: Kind, word: u64)
         requires { HasFieldAt self.old.blocks address field }
         ensures written { Writes self.old.blocks self.new.blocks address field (kind_number kind) word }
+        ensures apart { AreApart self.old.blocks }
         ensures spare { self.new.spare ≡ self.old.spare }
     {
-        let rank = rank(address.home(), address.segment());
         let index = address.index() as usize;
-        if let Ok(place) = place_of(self.segments.as_slice(), rank) {
+        if let Some(place) = self.place_of(address.home(), address.segment()) {
             let segment = &mut self.segments[place];
             segment.set_field(index, field, kind, word);
         }

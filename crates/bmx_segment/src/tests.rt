@@ -81,6 +81,19 @@ fn places_fill_a_segment(rt: HostRuntime) -> Result<(), Fail> {
 }
 
 #[test]
+fn segments_are_made_ahead(rt: HostRuntime) -> Result<(), Fail> {
+    let node = NodeNo::new(2).ok_or("node")?;
+    let bunch = BunchNo::new(4).ok_or("bunch")?;
+    let mut segments = Segments::new(rt.alloc(), node, 3);
+    assert_eq!(rt; segments.open(bunch, 2), Ok(1));
+    assert_eq!(rt; segments.open(bunch, 1), Ok(3));
+    assert_eq!(rt; segments.open(bunch, 1), Err(PlaceError::Full));
+    assert_eq!(rt; (segments.made(), segments.left(3)), (3, 1024));
+    assert!(rt; segments.is_mapped(node, 3) && !segments.has_open(bunch));
+    Ok(())
+}
+
+#[test]
 fn a_birth_is_placed_beyond_the_limit(rt: HostRuntime) -> Result<(), Fail> {
     let node = NodeNo::new(3).ok_or("node")?;
     let bunch = BunchNo::new(15).ok_or("bunch")?;
@@ -159,6 +172,7 @@ fn a_forwarded_header_leads_on(rt: HostRuntime) -> Result<(), Fail> {
         })
     );
     assert_eq!(rt; segments.header(to), Some(live(name, bunch, 2)));
+    assert_eq!(rt; segments.name(from), Some(name));
     Ok(())
 }
 

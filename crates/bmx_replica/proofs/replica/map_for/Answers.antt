@@ -3,7 +3,8 @@ use Rattle.bmx_types.specs.Words.{home_of}
 use Rattle.std.proofs.lemmas.Bool.{false≢true}
 use Rattle.bmx_segment.specs.Stores.{segment_key, block_at, key_at}
 use Rattle.bmx_segment.specs.Heaps.{Heap}
-use Rattle.bmx_replica.proofs.Lying.{Readies-there, Readies-mapped, none_from, spare_from}
+use Rattle.bmx_replica.specs.Layouts.{MapsFor}
+use Rattle.bmx_replica.proofs.Lying.{Readies-there, Readies-mapped, none_from}
 use Rattle.bmx_replica.proofs.replica.map_for.Goals as goal
 
 pub returns-then-is_mapped-clause-ok : goal.returns-then-is_mapped-clause-ok
@@ -25,5 +26,5 @@ returns-clause-ok c =
     let not : P (key_at a) → ⊥ = λ is. false≢true (sym c.if-is_mapped.false ∙ c.is_mapped.ensures.1 (subst P (sym same) is)) in
     let handed : c.is_handed.result ≡ true = search rules in
     let within = c.is_handed.ensures.0 handed in
-    let spare : h.spare ≤ new.spare + 1 = spare_from (is_some (block_at h.blocks (key_at a))) h.spare new.spare c.in_ok-map.ensures.spare in
-    Readies-mapped h new a c.args.info.now.name c.args.info.now.size (none_from (block_at h.blocks (key_at a)) not) within.0 within.1 c.in_ok-map.ensures.ok c.map.ensures.rest spare
+    let maps : MapsFor h new a = record { mapped = c.in_ok-map.ensures.ok; spare = c.in_ok-map.ensures.spare; rest = c.map.ensures.rest } in
+    Readies-mapped h new a c.args.info.now.name c.args.info.now.size (none_from (block_at h.blocks (key_at a)) not) within.0 within.1 maps

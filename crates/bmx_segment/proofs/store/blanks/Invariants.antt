@@ -1,6 +1,6 @@
 use Rattle.std.proofs.Common.{◌≡◌, ℕ, ◌<◌, get_or, vec_len}
 use Rattle.bmx_segment.specs.Blocks.{Block}
-use Rattle.bmx_segment.specs.Stores.{IsBlank}
+use Rattle.bmx_segment.specs.Inside.Stores.{IsBlank}
 use Rattle.bmx_segment.proofs.store.blanks.Given as goal
 
 abbrev pub invariant-loop : goal.invariant-loop

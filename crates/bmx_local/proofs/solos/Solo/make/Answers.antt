@@ -15,6 +15,7 @@ use Rattle.bmx_segment.specs.Heaps.{Heap}
 use Rattle.bmx_local.specs.Rooms.{rooms_of}
 use Rattle.bmx_local.proofs.Rooms.{made_current, made_rooms, made_limit}
 use Rattle.bmx_local.proofs.Kept.{put_solo, null_targets, object_put, value_kept, respared, same_graph}
+use Rattle.bmx_replica.proofs.Living.{all_live-made}
 use Rattle.bmx_local.proofs.solos.Solo.make.Goals as goal
 
 pub make-requires-clause-absent : goal.make-requires-clause-absent
@@ -33,9 +34,9 @@ set_register-requires-clause-node c =
     put_solo n.local n.made c.make.new.self c.unwrap-name.result (n.made + 1) (blank_entry c.args.bunch c.args.size made.at) (replicate c.args.size val.Null)
     c.requires.node made.entry refl (null_targets n.local.replica c.args.size) (omega arith)
     (λ count above is. omega (arith, above, sym name ∙ is))
-    c.make.ensures.reach c.make.ensures.names
+    made.keeps.reach made.keeps.names
     (made_current n.local.replica c.make.new.self c.unwrap-name.result c.args.bunch c.args.size made)
-    (c.in-Ok.ensures.live c.requires.node.live)
+    (all_live-made n.local.replica c.make.new.self c.unwrap-name.result c.args.bunch c.args.size made c.requires.node.live)
 
 pub returns-in-Ok-clause-ok : goal.returns-in-Ok-clause-ok
 unfolding graph_of IsSolo
@@ -51,7 +52,7 @@ returns-in-Ok-clause-ok c =
     let changed = graph_of-from (record n { local = record n.local { replica = new }; made = n.made + 1 })
     (record { object = put s.object name (Some fields); register = s.register; held = s.held; made = put s.made 0 (n.made + 1) })
     (object_put r new name (blank_entry c.args.bunch c.args.size made.at) fields made.entry refl)
-    (λ m q. let w : Word = word_of n.local.registers q in ap (λ v. cond (m == 0) v val.Null) (value_kept r new (kind_number w.kind) w.word c.make.ensures.names (c.requires.node.fields q)))
+    (λ m q. let w : Word = word_of n.local.registers q in ap (λ v. cond (m == 0) v val.Null) (value_kept r new (kind_number w.kind) w.word made.keeps.names (c.requires.node.fields q)))
     (λ m q. refl) (made_put n.made (n.made + 1)) in
     c.set_register.ensures.graph ∙ ap (λ (t : State). with_register t 0 c.args.register (val.Ref name)) changed
     ∙ with_new-from s 0 c.args.register c.args.size 0 name (n.made + 1) fields refl named refl refl
@@ -70,19 +71,19 @@ returns-in-Ok-clause-limit c =
     ∙ made_limit n.local.replica c.make.new.self c.unwrap-name.result c.args.bunch c.args.size c.in-Ok.ensures.made
 
 pub returns-in-Err-Full-clause-ok : goal.returns-in-Err-Full-clause-ok
-returns-in-Err-Full-clause-ok c = same_graph c.args.self.now c.make.new.self c.in-Err-Full.ensures.err_slots c.in-Err-Full.ensures.err
+returns-in-Err-Full-clause-ok c = same_graph c.args.self.now c.make.new.self c.in-Err-Full.ensures.err.slots c.in-Err-Full.ensures.err.heap
 
 pub returns-in-Err-Full-clause-node : goal.returns-in-Err-Full-clause-node
 unfolding IsSolo
 returns-in-Err-Full-clause-node c =
     let n = c.args.self.now in
-    respared n.local n.made c.make.new.self c.in-Err-Full.ensures.err_slots c.in-Err-Full.ensures.err c.requires.node
+    respared n.local n.made c.make.new.self c.in-Err-Full.ensures.err.slots c.in-Err-Full.ensures.err.heap c.requires.node
 
 pub returns-in-Err-NoMemory-clause-err : goal.returns-in-Err-NoMemory-clause-err
-returns-in-Err-NoMemory-clause-err c = same_graph c.args.self.now c.make.new.self c.in-Err-NoMemory.ensures.err_slots c.in-Err-NoMemory.ensures.err
+returns-in-Err-NoMemory-clause-err c = same_graph c.args.self.now c.make.new.self c.in-Err-NoMemory.ensures.err.slots c.in-Err-NoMemory.ensures.err.heap
 
 pub returns-in-Err-NoMemory-clause-node : goal.returns-in-Err-NoMemory-clause-node
 unfolding IsSolo
 returns-in-Err-NoMemory-clause-node c =
     let n = c.args.self.now in
-    respared n.local n.made c.make.new.self c.in-Err-NoMemory.ensures.err_slots c.in-Err-NoMemory.ensures.err c.requires.node
+    respared n.local n.made c.make.new.self c.in-Err-NoMemory.ensures.err.slots c.in-Err-NoMemory.ensures.err.heap c.requires.node

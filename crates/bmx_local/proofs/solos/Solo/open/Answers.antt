@@ -8,6 +8,7 @@ use Rattle.bmx_segment.specs.Heaps.{Heap}
 use Rattle.bmx_local.specs.Rooms.{rooms_of, rooms_with}
 use Rattle.bmx_local.proofs.Rooms.{made_current, made_rooms}
 use Rattle.bmx_local.proofs.Opened.{opened, born, none_live, null_register}
+use Rattle.bmx_replica.proofs.Living.{all_live-made}
 use Rattle.bmx_local.proofs.solos.Solo.open.Goals as goal
 
 pub returns-clause-graph : goal.returns-clause-graph
@@ -26,7 +27,7 @@ returns-clause-node c =
     let made = c.in-Ok.ensures.made in
     opened c.new-replica.result c.make.new.self c.new.result c.anchor.result c.bunch.result made.at c.new-replica.ensures.slots c.anchor.ensures made.entry c.new.ensures
     (made_current c.new-replica.result c.make.new.self c.anchor.result c.bunch.result 32 made ∙ ap (λ (h : Heap). length h.current) c.new-replica.ensures.heap)
-    (c.in-Ok.ensures.live (none_live c.new-replica.result.heap.blocks (ap (λ (h : Heap). h.blocks) c.new-replica.ensures.heap)))
+    (all_live-made c.new-replica.result c.make.new.self c.anchor.result c.bunch.result 32 made (none_live c.new-replica.result.heap.blocks (ap (λ (h : Heap). h.blocks) c.new-replica.ensures.heap)))
 
 pub returns-clause-rooms : goal.returns-clause-rooms
 returns-clause-rooms c =

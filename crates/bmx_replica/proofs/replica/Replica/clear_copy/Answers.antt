@@ -1,19 +1,28 @@
-use Rattle.std.proofs.Common.{◌≡◌, ℕ, ◌<◌, false, List, Some, get_or, replicate, sym, ap, ◌∙◌, refl, subst}
+use Rattle.std.proofs.Common.{◌≡◌, ◌≢◌, ℕ, ◌+◌, ◌<◌, ◌≤◌, true, false, List, Option, Some, None, IsSome, IsSomeAnd, min, get_or, replicate, refl, sym, ap, subst, ◌∙◌, arith}
 use Rattle.std.specs.Option.{option_map}
-use Rattle.std.proofs.lemmas.Option.{same_Some}
-use Rattle.bmx_segment.specs.Headers.{kind_of}
+use Rattle.std.proofs.lemmas.Bool.{false≢true}
+use Rattle.bmx_types.specs.declared.addresses.Place.{Place}
+use Rattle.bmx_segment.specs.Headers.{kind_number, kind_of, IsLive}
 use Rattle.bmx_segment.specs.Blocks.{Block}
-use Rattle.bmx_segment.specs.Stores.{header_at}
-use Rattle.bmx_segment.specs.Heaps.{Heap}
+use Rattle.bmx_segment.specs.Stores.{header_at, word_at, AreApart, Sets, Lays}
+use Rattle.bmx_segment.specs.Heaps.{Heap, CanSet}
 use Rattle.bmx_segment.specs.declared.headers.Header.{Header}
+use Rattle.bmx_segment.specs.declared.headers.State.TheVariants.{Live, Dead}
+use Rattle.bmx_replica.specs.Slots.{slot_of}
+use Rattle.bmx_replica.specs.Layouts.{Moves, kinds_in, moves_in, with_kinds, blank_header}
+use Rattle.bmx_replica.specs.Replicas.{Holding, Entry, IsReplica, IsField, HandsOut, CanMove, WritesField, entry_of, entry_in, field_of, value_in}
+use Rattle.bmx_replica.specs.Inside.Slots.{PutsSlot}
+use Rattle.bmx_replica.specs.Inside.Replicas.{IsFound, OthersStay}
 use Rattle.bmx_replica.specs.declared.directory.Slot.{Slot}
-use Rattle.bmx_replica.specs.Layouts.{with_kinds, Lays}
-use Rattle.bmx_replica.specs.Replicas.{Holding, IsFound, IsField, entry_of, without_copy}
+use Rattle.bmx_replica.specs.declared.words.Word.{Word}
 use Rattle.bmx_replica.specs.contracts.replica.Replica.{the_view}
-use Rattle.bmx_replica.proofs.Standing.{Stands, IsReplica-stands, Means-stands, Reaches-stands, Puts-stands}
-use Rattle.bmx_replica.proofs.Fielded.{entry_at-found}
-use Rattle.bmx_replica.proofs.Laid.{kind_of-none}
-use Rattle.bmx_replica.proofs.Changing.{Stands-laid, IsField-null, get_or-same}
+use Rattle.bmx_replica.proofs.Laid.{IsLive-from}
+use Rattle.bmx_replica.proofs.Standing.{Stands, IsReplica-stands, found_at, if_none, entry_none}
+use Rattle.bmx_replica.proofs.Fielded.{field_of-there, field_of-found, entry_at-found}
+use Rattle.bmx_replica.proofs.Changing.{CanSet-same}
+use Rattle.bmx_replica.proofs.Making.{HandsOut-me, HandsOut-spare}
+use Rattle.bmx_replica.proofs.Done.{spare_same, spare_more, spare_one}
+use Rattle.bmx_replica.proofs.Done.{IsReplica-written, WritesField-done, OthersStay-done, Stands-cleared, ClearsCopy-done, Stands-made, MakesObject-done, Stands-relocated, MovesObject-done, Forgets-done}
 use Rattle.bmx_replica.proofs.replica.Replica.clear_copy.Goals as goal
 
 pub invariant_of-self : goal.invariant_of-self
@@ -21,77 +30,24 @@ invariant_of-self c =
     let r : Holding = the_view c.self.inside in
     let s : Slot = c.in-Some.found.slot in
     let h : Header = c.in-Some.found.header in
-    let new : List Block = c.write_fields.new.segments.blocks in
-    let slots' = c.set.new.self.slots in
     let F : Holding → Type 0 = λ x. IsFound x.slots x.heap.blocks c.args.name s h in
     let f : F r = subst F (sym c.self.view_is) c.in-Some.ensures.found in
-    let zeros : ℕ → ℕ = λ i. get_or (replicate 32 0) i 0 in
-    let lays : Lays r.heap.blocks new s.address (with_kinds h 0) zeros = c.write_fields.ensures.laid h f.there in
-    let slot : Slot = record { address = s.address; has_copy = false } in
-    let there : Header = with_kinds (with_kinds h 0) lays.kinds in
-    let before : (t : Header) → header_at r.heap.blocks s.address ≡ Some t → t.name ≡ c.args.name = λ t e. ap (λ (y : Header). y.name) (same_Some t h (sym e ∙ f.there)) ∙ f.named in
-    let own : (i : ℕ) → i < h.size → IsField r.heap.blocks (kind_of 0 i) (zeros i) = λ i small. IsField-null r.heap.blocks (kind_of 0 i) (zeros i) (kind_of-none i) (get_or-same 32 i 0) in
-    let st : Stands slots' r.slots r.heap.blocks new c.args.name slot there =
-    Stands-laid r.slots slots' r.heap.blocks new c.args.name slot (with_kinds h 0) zeros c.self.invariant.1 c.set.ensures.slots refl f.named lays before own (λ none i small. kind_of-none i)
-    (λ x off e. off (same_Some x s.address (sym e ∙ ap (option_map (λ (t : Slot). t.address)) f.slot))) in
-    (c.self.invariant.0 ∙ sym (ap (λ (x : Heap). x.me) c.write_fields.ensures.rest), IsReplica-stands r.slots slots' r.heap.blocks new c.args.name slot there st)
+    let next : Holding = record { slots = c.set.new.self.slots; heap = c.lay.new.self; spare = min c.set.new.self.spare c.lay.new.self.spare } in
+    let moves : c.in-Live.moves ≡ moves_in h.state = sym (ap moves_in c.in-Live.is) in
+    let Z : ℕ → Type 0 = λ m. Lays r.heap.blocks c.lay.new.self.blocks s.address (record h { state = Live m 0 }) (λ j. get_or (replicate 32 0) j 0) in
+    let lays : Z (moves_in h.state) = subst Z moves c.in-Ok.ensures.laid in
+    let st = Stands-cleared r next c.args.name s h c.self.invariant.1 f c.set.ensures.slots lays c.in-Ok.ensures.apart in
+    (c.self.invariant.0 ∙ sym (ap (λ (x : Heap). x.me) c.in-Ok.ensures.rest), IsReplica-stands r.slots next.slots r.heap.blocks next.heap.blocks c.args.name _ _ st)
 
-pub returns-clause-entry : goal.returns-clause-entry
-returns-clause-entry c =
+pub returns : goal.returns
+returns c =
     let r : Holding = the_view c.self.inside in
     let s : Slot = c.in-Some.found.slot in
     let h : Header = c.in-Some.found.header in
-    let new : List Block = c.write_fields.new.segments.blocks in
-    let slots' = c.set.new.self.slots in
     let F : Holding → Type 0 = λ x. IsFound x.slots x.heap.blocks c.args.name s h in
     let f : F r = subst F (sym c.self.view_is) c.in-Some.ensures.found in
-    let zeros : ℕ → ℕ = λ i. get_or (replicate 32 0) i 0 in
-    let lays : Lays r.heap.blocks new s.address (with_kinds h 0) zeros = c.write_fields.ensures.laid h f.there in
-    let slot : Slot = record { address = s.address; has_copy = false } in
-    let there : Header = with_kinds (with_kinds h 0) lays.kinds in
-    let before : (t : Header) → header_at r.heap.blocks s.address ≡ Some t → t.name ≡ c.args.name = λ t e. ap (λ (y : Header). y.name) (same_Some t h (sym e ∙ f.there)) ∙ f.named in
-    let own : (i : ℕ) → i < h.size → IsField r.heap.blocks (kind_of 0 i) (zeros i) = λ i small. IsField-null r.heap.blocks (kind_of 0 i) (zeros i) (kind_of-none i) (get_or-same 32 i 0) in
-    let st : Stands slots' r.slots r.heap.blocks new c.args.name slot there =
-    Stands-laid r.slots slots' r.heap.blocks new c.args.name slot (with_kinds h 0) zeros c.self.invariant.1 c.set.ensures.slots refl f.named lays before own (λ none i small. kind_of-none i)
-    (λ x off e. off (same_Some x s.address (sym e ∙ ap (option_map (λ (t : Slot). t.address)) f.slot))) in
-    rw (← c.self.view_is) (Puts-stands r.slots slots' r.heap.blocks new c.args.name slot there st (option_map without_copy (entry_of r c.args.name)) (sym (ap (option_map without_copy) (entry_at-found r.slots r.heap.blocks c.args.name s h f))))
-
-pub returns-clause-meaning : goal.returns-clause-meaning
-returns-clause-meaning c =
-    let r : Holding = the_view c.self.inside in
-    let s : Slot = c.in-Some.found.slot in
-    let h : Header = c.in-Some.found.header in
-    let new : List Block = c.write_fields.new.segments.blocks in
-    let slots' = c.set.new.self.slots in
-    let F : Holding → Type 0 = λ x. IsFound x.slots x.heap.blocks c.args.name s h in
-    let f : F r = subst F (sym c.self.view_is) c.in-Some.ensures.found in
-    let zeros : ℕ → ℕ = λ i. get_or (replicate 32 0) i 0 in
-    let lays : Lays r.heap.blocks new s.address (with_kinds h 0) zeros = c.write_fields.ensures.laid h f.there in
-    let slot : Slot = record { address = s.address; has_copy = false } in
-    let there : Header = with_kinds (with_kinds h 0) lays.kinds in
-    let before : (t : Header) → header_at r.heap.blocks s.address ≡ Some t → t.name ≡ c.args.name = λ t e. ap (λ (y : Header). y.name) (same_Some t h (sym e ∙ f.there)) ∙ f.named in
-    let own : (i : ℕ) → i < h.size → IsField r.heap.blocks (kind_of 0 i) (zeros i) = λ i small. IsField-null r.heap.blocks (kind_of 0 i) (zeros i) (kind_of-none i) (get_or-same 32 i 0) in
-    let st : Stands slots' r.slots r.heap.blocks new c.args.name slot there =
-    Stands-laid r.slots slots' r.heap.blocks new c.args.name slot (with_kinds h 0) zeros c.self.invariant.1 c.set.ensures.slots refl f.named lays before own (λ none i small. kind_of-none i)
-    (λ x off e. off (same_Some x s.address (sym e ∙ ap (option_map (λ (t : Slot). t.address)) f.slot))) in
-    rw (← c.self.view_is) (Means-stands r.slots slots' r.heap.blocks new c.args.name slot there st)
-
-pub returns-clause-reach : goal.returns-clause-reach
-returns-clause-reach c =
-    let r : Holding = the_view c.self.inside in
-    let s : Slot = c.in-Some.found.slot in
-    let h : Header = c.in-Some.found.header in
-    let new : List Block = c.write_fields.new.segments.blocks in
-    let slots' = c.set.new.self.slots in
-    let F : Holding → Type 0 = λ x. IsFound x.slots x.heap.blocks c.args.name s h in
-    let f : F r = subst F (sym c.self.view_is) c.in-Some.ensures.found in
-    let zeros : ℕ → ℕ = λ i. get_or (replicate 32 0) i 0 in
-    let lays : Lays r.heap.blocks new s.address (with_kinds h 0) zeros = c.write_fields.ensures.laid h f.there in
-    let slot : Slot = record { address = s.address; has_copy = false } in
-    let there : Header = with_kinds (with_kinds h 0) lays.kinds in
-    let before : (t : Header) → header_at r.heap.blocks s.address ≡ Some t → t.name ≡ c.args.name = λ t e. ap (λ (y : Header). y.name) (same_Some t h (sym e ∙ f.there)) ∙ f.named in
-    let own : (i : ℕ) → i < h.size → IsField r.heap.blocks (kind_of 0 i) (zeros i) = λ i small. IsField-null r.heap.blocks (kind_of 0 i) (zeros i) (kind_of-none i) (get_or-same 32 i 0) in
-    let st : Stands slots' r.slots r.heap.blocks new c.args.name slot there =
-    Stands-laid r.slots slots' r.heap.blocks new c.args.name slot (with_kinds h 0) zeros c.self.invariant.1 c.set.ensures.slots refl f.named lays before own (λ none i small. kind_of-none i)
-    (λ x off e. off (same_Some x s.address (sym e ∙ ap (option_map (λ (t : Slot). t.address)) f.slot))) in
-    rw (← c.self.view_is) (Reaches-stands r.slots slots' r.heap.blocks new c.args.name slot there st)
+    let next : Holding = record { slots = c.set.new.self.slots; heap = c.lay.new.self; spare = min c.set.new.self.spare c.lay.new.self.spare } in
+    let moves : c.in-Live.moves ≡ moves_in h.state = sym (ap moves_in c.in-Live.is) in
+    let Z : ℕ → Type 0 = λ m. Lays r.heap.blocks c.lay.new.self.blocks s.address (record h { state = Live m 0 }) (λ j. get_or (replicate 32 0) j 0) in
+    let lays : Z (moves_in h.state) = subst Z moves c.in-Ok.ensures.laid in
+    rw (← c.self.view_is) (ClearsCopy-done r next c.args.name s h c.self.invariant.1 f c.set.ensures.slots lays c.in-Ok.ensures.apart c.in-Ok.ensures.rest (spare_same _ _ _ _ c.set.ensures.spare (ap (λ (x : Heap). x.spare) c.in-Ok.ensures.rest)))

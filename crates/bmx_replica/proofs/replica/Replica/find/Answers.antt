@@ -29,6 +29,4 @@ returns-clause-found c =
       there = sym c.in-Some.ensures.value;
       live = ap (λ (x : Header). is_live x.state) is ∙ t.2;
       named = ap (λ (x : Header). x.name) is ∙ t.3;
-      few = c.in-Some.ensures.fits.0.few;
-      apart = c.in-Some.ensures.apart;
     })

@@ -1,13 +1,29 @@
-use Rattle.std.proofs.Common.{List, sym, ap, ◌∙◌, subst}
+use Rattle.std.proofs.Common.{◌≡◌, ◌≢◌, ℕ, ◌+◌, ◌<◌, ◌≤◌, true, false, List, Option, Some, None, IsSome, IsSomeAnd, min, get_or, replicate, refl, sym, ap, subst, ◌∙◌, arith}
+use Rattle.std.specs.Option.{option_map}
+use Rattle.std.proofs.lemmas.Bool.{false≢true}
+use Rattle.bmx_types.specs.declared.addresses.Place.{Place}
+use Rattle.bmx_segment.specs.Headers.{kind_number, kind_of, IsLive}
 use Rattle.bmx_segment.specs.Blocks.{Block}
-use Rattle.bmx_segment.specs.Stores.{Sets}
-use Rattle.bmx_segment.specs.Heaps.{Heap}
+use Rattle.bmx_segment.specs.Stores.{header_at, word_at, AreApart, Sets, Lays}
+use Rattle.bmx_segment.specs.Heaps.{Heap, CanSet}
 use Rattle.bmx_segment.specs.declared.headers.Header.{Header}
-use Rattle.bmx_segment.specs.declared.headers.State.TheVariants.{Dead}
+use Rattle.bmx_segment.specs.declared.headers.State.TheVariants.{Live, Dead}
+use Rattle.bmx_replica.specs.Slots.{slot_of}
+use Rattle.bmx_replica.specs.Layouts.{Moves, kinds_in, moves_in, with_kinds, blank_header}
+use Rattle.bmx_replica.specs.Replicas.{Holding, Entry, IsReplica, IsField, HandsOut, CanMove, WritesField, entry_of, entry_in, field_of, value_in}
+use Rattle.bmx_replica.specs.Inside.Slots.{PutsSlot}
+use Rattle.bmx_replica.specs.Inside.Replicas.{IsFound, OthersStay}
 use Rattle.bmx_replica.specs.declared.directory.Slot.{Slot}
-use Rattle.bmx_replica.specs.Replicas.{Holding, IsFound}
+use Rattle.bmx_replica.specs.declared.words.Word.{Word}
 use Rattle.bmx_replica.specs.contracts.replica.Replica.{the_view}
-use Rattle.bmx_replica.proofs.Forgetting.{IsReplica-forgotten, Means-forgotten, Reaches-forgotten, Puts-forgotten}
+use Rattle.bmx_replica.proofs.Laid.{IsLive-from}
+use Rattle.bmx_replica.proofs.Standing.{Stands, IsReplica-stands, found_at, if_none, entry_none}
+use Rattle.bmx_replica.proofs.Fielded.{field_of-there, field_of-found, entry_at-found}
+use Rattle.bmx_replica.proofs.Changing.{CanSet-same}
+use Rattle.bmx_replica.proofs.Making.{HandsOut-me, HandsOut-spare}
+use Rattle.bmx_replica.proofs.Done.{spare_same, spare_more, spare_one}
+use Rattle.bmx_replica.proofs.Done.{IsReplica-written, WritesField-done, OthersStay-done, Stands-cleared, ClearsCopy-done, Stands-made, MakesObject-done, Stands-relocated, MovesObject-done, Forgets-done}
+use Rattle.bmx_replica.proofs.Forgetting.{IsReplica-forgotten}
 use Rattle.bmx_replica.proofs.replica.Replica.forget.Goals as goal
 
 pub invariant_of-self : goal.invariant_of-self
@@ -15,49 +31,25 @@ invariant_of-self c =
     let r : Holding = the_view c.self.inside in
     let s : Slot = c.in-Some.found.slot in
     let h : Header = c.in-Some.found.header in
-    let new : List Block = c.kill.new.self.blocks in
-    let slots' = c.remove.new.self.slots in
     let F : Holding → Type 0 = λ x. IsFound x.slots x.heap.blocks c.args.name s h in
     let f : F r = subst F (sym c.self.view_is) c.in-Some.ensures.found in
-    let S : Type 0 = Sets r.heap.blocks new s.address (record h { state = Dead }) in
+    let next : Holding = record { slots = c.remove.new.self.slots; heap = c.kill.new.self; spare = min c.remove.new.self.spare c.kill.new.self.spare } in
+    let S : Type 0 = Sets r.heap.blocks next.heap.blocks s.address (record h { state = Dead }) in
     let sets : S = rw f.there at c.kill.ensures.set in
-    (c.self.invariant.0 ∙ sym (ap (λ (x : Heap). x.me) c.kill.ensures.rest), IsReplica-forgotten r.slots slots' r.heap.blocks new c.args.name s h c.self.invariant.1 f c.remove.ensures.slots sets)
+    let A : Holding → Type 0 = λ x. AreApart x.heap.blocks in
+    let apart : A r = subst A (sym c.self.view_is) c.in-Some.ensures.apart in
+    (c.self.invariant.0 ∙ sym (ap (λ (x : Heap). x.me) c.kill.ensures.rest), IsReplica-forgotten r.slots next.slots r.heap.blocks next.heap.blocks c.args.name s h c.self.invariant.1 f apart c.remove.ensures.slots sets)
 
-pub returns-clause-entry : goal.returns-clause-entry
-returns-clause-entry c =
+pub returns : goal.returns
+returns c =
     let r : Holding = the_view c.self.inside in
     let s : Slot = c.in-Some.found.slot in
     let h : Header = c.in-Some.found.header in
-    let new : List Block = c.kill.new.self.blocks in
-    let slots' = c.remove.new.self.slots in
     let F : Holding → Type 0 = λ x. IsFound x.slots x.heap.blocks c.args.name s h in
     let f : F r = subst F (sym c.self.view_is) c.in-Some.ensures.found in
-    let S : Type 0 = Sets r.heap.blocks new s.address (record h { state = Dead }) in
+    let next : Holding = record { slots = c.remove.new.self.slots; heap = c.kill.new.self; spare = min c.remove.new.self.spare c.kill.new.self.spare } in
+    let S : Type 0 = Sets r.heap.blocks next.heap.blocks s.address (record h { state = Dead }) in
     let sets : S = rw f.there at c.kill.ensures.set in
-    rw (← c.self.view_is) (Puts-forgotten r.slots slots' r.heap.blocks new c.args.name s h c.self.invariant.1 f c.remove.ensures.slots sets)
-
-pub returns-clause-meaning : goal.returns-clause-meaning
-returns-clause-meaning c =
-    let r : Holding = the_view c.self.inside in
-    let s : Slot = c.in-Some.found.slot in
-    let h : Header = c.in-Some.found.header in
-    let new : List Block = c.kill.new.self.blocks in
-    let slots' = c.remove.new.self.slots in
-    let F : Holding → Type 0 = λ x. IsFound x.slots x.heap.blocks c.args.name s h in
-    let f : F r = subst F (sym c.self.view_is) c.in-Some.ensures.found in
-    let S : Type 0 = Sets r.heap.blocks new s.address (record h { state = Dead }) in
-    let sets : S = rw f.there at c.kill.ensures.set in
-    rw (← c.self.view_is) (Means-forgotten r.slots slots' r.heap.blocks new c.args.name s h c.self.invariant.1 f c.remove.ensures.slots sets)
-
-pub returns-clause-reach : goal.returns-clause-reach
-returns-clause-reach c =
-    let r : Holding = the_view c.self.inside in
-    let s : Slot = c.in-Some.found.slot in
-    let h : Header = c.in-Some.found.header in
-    let new : List Block = c.kill.new.self.blocks in
-    let slots' = c.remove.new.self.slots in
-    let F : Holding → Type 0 = λ x. IsFound x.slots x.heap.blocks c.args.name s h in
-    let f : F r = subst F (sym c.self.view_is) c.in-Some.ensures.found in
-    let S : Type 0 = Sets r.heap.blocks new s.address (record h { state = Dead }) in
-    let sets : S = rw f.there at c.kill.ensures.set in
-    rw (← c.self.view_is) (Reaches-forgotten r.slots slots' r.heap.blocks new c.args.name s h c.self.invariant.1 f c.remove.ensures.slots sets)
+    let A : Holding → Type 0 = λ x. AreApart x.heap.blocks in
+    let apart : A r = subst A (sym c.self.view_is) c.in-Some.ensures.apart in
+    rw (← c.self.view_is) (Forgets-done r next c.args.name s h c.self.invariant.1 f apart c.remove.ensures.slots sets c.kill.ensures.rest (spare_more _ _ _ _ c.remove.ensures.spare (ap (λ (x : Heap). x.spare) c.kill.ensures.rest)))

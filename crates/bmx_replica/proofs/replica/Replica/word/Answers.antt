@@ -1,13 +1,17 @@
-use Rattle.std.proofs.Common.{List, ◌≡◌, ℕ, subst, sym}
+use Rattle.std.proofs.Common.{List, ◌≡◌, ℕ, Some, unwrap_or, subst, sym, ap, ◌∙◌}
+use Rattle.bmx_types.specs.declared.values.Val.TheVariants as val
 use Rattle.bmx_types.specs.declared.values.Val.{Val}
 use Rattle.bmx_types.specs.Words.{IsAddress}
 use Rattle.bmx_segment.specs.Blocks.{Block}
 use Rattle.bmx_segment.specs.declared.headers.Header.{Header}
 use Rattle.bmx_segment.specs.declared.headers.Kind.TheVariants.{Ref}
-use Rattle.bmx_replica.specs.Chains.{here, Ends, EndsLive, Reaches}
-use Rattle.bmx_replica.specs.Replicas.{ReachesTarget, IsFound}
+use Rattle.bmx_replica.specs.Chains.{here, name_at, Ends, EndsLive, Reaches}
+use Rattle.bmx_replica.specs.Replicas.{ReachesTarget}
+use Rattle.bmx_replica.specs.contracts.replica.Replica.{the_view}
+use Rattle.bmx_replica.proofs.Standing.{found_at}
+use Rattle.bmx_replica.specs.Inside.Replicas.{IsFound}
 use Rattle.bmx_replica.specs.declared.directory.Slot.{Slot}
-use Rattle.bmx_replica.proofs.Chained.{is_end-live}
+use Rattle.bmx_replica.proofs.Chained.{is_end-live, name_at-from}
 use Rattle.bmx_replica.proofs.replica.Replica.word.Goals as goal
 
 -- the address of a name's object reaches the name
@@ -22,7 +26,15 @@ reaches blocks slots name s h w f address is =
 
 pub returns-in-Some-clause-reach : goal.returns-in-Some-clause-reach
 returns-in-Some-clause-reach c =
-    let r = c.args.self.now in
+    let r = the_view c.self.inside in
+    let f = found_at r.slots r.heap.blocks c.in-Ref.name c.in-Some.slot c.self.invariant.1 (sym c.in-Some.ensures) in
     let at : Reaches r.heap.blocks c.word.result c.in-Ref.name =
-    reaches r.heap.blocks r.slots c.in-Ref.name c.in-Some.found.slot c.in-Some.found.header c.word.result c.in-Some.ensures.found c.word.ensures.address c.word.ensures.value in
-    subst (λ (v : Val). ReachesTarget r v (record { kind = Ref; word = c.word.result })) (sym c.in-Ref.is) at
+    reaches r.heap.blocks r.slots c.in-Ref.name c.in-Some.slot f.0 c.word.result f.1 c.word.ensures.address c.word.ensures.value in
+    rw (← c.self.view_is) (subst (λ (v : Val). ReachesTarget r v (record { kind = Ref; word = c.word.result })) (sym c.in-Ref.is) at)
+
+pub returns-in-Some-clause-holds : goal.returns-in-Some-clause-holds
+returns-in-Some-clause-holds c =
+    let r = the_view c.self.inside in
+    let f = found_at r.slots r.heap.blocks c.in-Ref.name c.in-Some.slot c.self.invariant.1 (sym c.in-Some.ensures) in
+    let is : name_at r.heap.blocks c.word.result ≡ Some c.in-Ref.name = ap (name_at r.heap.blocks) c.word.ensures.value ∙ name_at-from r.heap.blocks c.in-Some.slot.address f.0 f.1.there ∙ ap Some f.1.named in
+    rw (← c.self.view_is) (ap (λ o. val.Ref (unwrap_or o 0)) is ∙ sym c.in-Ref.is)

@@ -7,14 +7,14 @@ pub overflow_mul-result : goal.overflow_mul-result
 overflow_mul-result c =
     let small = c.number-number.ensures.bound in
     let unit = one_shl (2 * c.args.field) 64 (omega arith) in
-    let all = with_kind-lt c.args.kinds c.args.field c.number-number.result (omega arith) c.requires small in
+    let all = with_kind-lt c.args.kinds c.args.field c.number-number.result 32 (omega arith) c.requires small in
     rw unit (omega (arith, all))
 
 pub overflow_add-result : goal.overflow_add-result
 overflow_add-result c =
     let small = c.number-number.ensures.bound in
     let unit = one_shl (2 * c.args.field) 64 (omega arith) in
-    let all = with_kind-lt c.args.kinds c.args.field c.number-number.result (omega arith) c.requires small in
+    let all = with_kind-lt c.args.kinds c.args.field c.number-number.result 32 (omega arith) c.requires small in
     rw unit (omega (arith, all))
 
 pub returns : goal.returns

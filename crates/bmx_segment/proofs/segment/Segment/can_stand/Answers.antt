@@ -1,12 +1,9 @@
-use Rattle.std.proofs.Common.{◌≡◌, ◌≢◌, ◌+◌, ◌-◌, sym, ap, ◌∙◌, arith, refl, eq-eqb, Some, None, inl, inr}
-use Rattle.std.proofs.lemmas.Bool.{eqb-true, false≢true, cases_eq, cases_lt}
+use Rattle.std.proofs.Common.{◌≡◌, ℕ, Some, None, sym, ap, ◌∙◌, arith, refl, eq-eqb, inl, inr}
+use Rattle.std.proofs.lemmas.Bool.{eqb-true, false≢true, cases_eq, le-leb, leb-true}
 use Rattle.std.proofs.lemmas.Grind.{common_steps}
-use Rattle.std.proofs.lemmas.Option.{none-some, same_Some}
-use Rattle.bmx_segment.specs.Blocks.{header_in}
-use Rattle.bmx_segment.specs.declared.headers.Header.{Header}
-use Rattle.bmx_segment.proofs.Standing.{CanStand-there, CanStand-free, size-few}
+use Rattle.bmx_segment.specs.Blocks.{header_in, is_start}
+use Rattle.bmx_segment.proofs.Standing.{CanStand-there, stands, not_start, free_of, free_alone}
 use Rattle.bmx_segment.proofs.segment.Segment.can_stand.Goals as goal
-use Rattle.bmx_segment.proofs.segment.Segment.can_stand.Goals.{in-Some-header+else-other-there, in_default-header}
 
 pub returns-then-eq : goal.returns-then-eq
 returns-then-eq c =
@@ -14,42 +11,39 @@ returns-then-eq c =
     let named : c.in-Some.there.name ≡ c.args.header.now.name = grind (arith, common_steps) in
     (λ t. CanStand-there _ _ _ _ c.in-Some.there c.header.ensures.block e named (eqb-true _ _ t), λ can. eq-eqb _ _ (can.same _ e).1)
 
-pub returns-then-other-there : goal.returns-then-other-there
-returns-then-other-there c =
-    let e : header_in c.args.self.now c.loop-other.other ≡ Some c.in-Some-header.there = sym c.in-Some-header.ensures.value in
-    let none : header_in c.args.self.now c.args.index ≡ None = sym c.in_default.ensures.value in
-    let ne : c.loop-other.other ≢ c.args.index =
-    λ same. none-some c.in-Some-header.there (sym none ∙ (ap (header_in c.args.self.now) (sym same) ∙ e)) in (
+pub returns-then-not-is_free : goal.returns-then-not-is_free
+returns-then-not-is_free c =
+    let b = c.args.self.now in
+    let i : ℕ = c.args.index in
+    let none : header_in b i ≡ None = sym c.in_default.ensures.value in (
       λ t. absurd (false≢true t),
-      λ can. absurd (elim (can.alone c.loop-other.other c.in-Some-header.there (omega arith) e ne) [ inl before ↦ omega arith | inr after ↦ omega arith ]),
+      λ can.
+          let free = c.is_free.ensures.1 (λ j low high begins. elim (cases_eq j i) [
+            | inl same ↦ not_start b i none (ap (is_start b.starts) (sym same) ∙ begins)
+            | inr off ↦ elim (can.alone j _ (omega arith) (stands b j begins) off) [ inl before ↦ omega arith | inr after ↦ omega arith ]
+          ]) in
+          absurd (false≢true (sym c.if-not-is_free.true ∙ free)),
     )
 
-pub loop-other-preserved : goal.loop-other-preserved
-loop-other-preserved c = λ j there low high e.
-    elim (cases_eq j c.loop-other.other) [
-      | inl same ↦
-          let here : header_in c.args.self.now c.loop-other.other ≡ Some there = ap (header_in c.args.self.now) (sym same) ∙ e in
-          elim c.match-header-2.branch [
-            | in-Some-header+else-other-there w ↦
-                let one : w.in-Some-header.there ≡ there = same_Some _ _ (w.in-Some-header.ensures.value ∙ here) in
-                let size : w.in-Some-header.there.size ≡ there.size = ap (λ (h : Header). h.size) one in
-                omega (arith, w.if-other-there.false)
-            | in_default-header w ↦ absurd (none-some there (w.in_default-header.ensures.value ∙ here))
-          ]
-      | inr ne ↦ c.loop-other.invariant j there low (omega arith) e
-    ]
+pub returns-in-Some-start_before : goal.returns-in-Some-start_before
+returns-in-Some-start_before c =
+    let b = c.args.self.now in
+    let i : ℕ = c.args.index in
+    let none : header_in b i ≡ None = sym c.in_default.ensures.value in
+    let last = c.in-Some-start_before.ensures.some in
+    let free = c.is_free.ensures.0 c.if-not-is_free.false in (
+      λ t. let ends = leb-true _ _ t in free_of b i c.args.header.now.name c.args.header.now.size c.in-Some-start_before.other c.header.ensures.block none c.if-end-gt-SEGMENT_WORDS.false free last (omega (arith, c.size_at.ensures, ends)),
+      λ can.
+          let far = can.alone c.in-Some-start_before.other _ (omega arith) (stands b c.in-Some-start_before.other last.1) (omega arith) in
+          le-leb _ _ (elim far [ inl before ↦ omega (arith, c.size_at.ensures) | inr after ↦ absurd (omega arith) ]),
+    )
 
-pub returns : goal.returns
-returns c =
-    let none : header_in c.args.self.now c.args.index ≡ None = sym c.in_default.ensures.value in (
-      λ t. CanStand-free c.args.self.now c.args.index _ c.args.header.now.size none (omega arith) (λ j other e.
-          let few = size-few c.args.self.now j other c.header.ensures.block e in
-          elim (cases_lt j (c.args.index - 36)) [
-            | inl far ↦ inl (omega arith)
-            | inr near ↦ elim (cases_lt j (c.args.index + 4 + c.args.header.now.size)) [
-              | inl before ↦ inl (c.loop-other.invariant j other near (omega arith) e)
-              | inr after ↦ inr after
-            ]
-          ]),
+pub returns-in-None : goal.returns-in-None
+returns-in-None c =
+    let b = c.args.self.now in
+    let i : ℕ = c.args.index in
+    let none : header_in b i ≡ None = sym c.in_default.ensures.value in
+    let free = c.is_free.ensures.0 c.if-not-is_free.false in (
+      λ t. free_alone b i c.args.header.now.name c.args.header.now.size c.header.ensures.block none c.if-end-gt-SEGMENT_WORDS.false free c.in-None.ensures.none,
       λ can. refl,
     )

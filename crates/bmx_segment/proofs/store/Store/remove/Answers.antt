@@ -1,37 +1,129 @@
-use Rattle.std.proofs.Common.{◌≡◌, ℕ, ◌<◌, List, length, get_or, None, sym, ap, subst, ◌∙◌, arith}
-use Rattle.std.specs.Prelude.{remove}
+use Rattle.std.proofs.Common.{◌≡◌, ◌≢◌, ℕ, ◌+◌, ◌-◌, ◌<◌, List, length, get_or, set, None, sym, ap, subst, ◌∙◌, arith}
+use Rattle.std.specs.Prelude.{slice_index}
+use Rattle.std.proofs.lemmas.List.{length-set, get_or_read, get_or-set_same, get_or-set_other}
+use Rattle.bmx_segment.specs.Updates.{Puts}
 use Rattle.bmx_segment.specs.Blocks.{Block, blank_block}
-use Rattle.bmx_segment.specs.Stores.{Mapped, block_at, segment_key, key_of, Puts}
-use Rattle.bmx_segment.proofs.Rising.{block_at-none, Puts-remove}
-use Rattle.bmx_segment.proofs.Stored.{IsStored-remove, IsStored-roomier, Puts-nothing}
+use Rattle.bmx_segment.specs.Stores.{block_at, segment_key}
+use Rattle.bmx_segment.specs.Inside.Stores.{Mapped, IsAt, IsStored, rank_of, rank_in}
+use Rattle.bmx_segment.proofs.Stored.{in_table, same_rank, IsStored-removed, Puts-taken, Puts-nothing}
 use Rattle.bmx_segment.proofs.store.Store.remove.Goals as goal
+
+pub index_mut-requires : goal.index_mut-requires
+index_mut-requires c =
+    let xs : List Block = c.self.inside.segments.items in
+    let table : List ℕ = c.self.inside.table.items in
+    let n : ℕ = length xs in
+    let counted = c.self.inside.segments.ok.0 in
+    let same : xs ≡ c.args.self.now.blocks = ap (λ (s : Mapped). s.blocks) c.self.view_is in
+    let place : ℕ = c.in-Some.place in
+    let At : List Block → Type 0 = λ bs. IsAt bs (segment_key c.args.home c.args.number) place in
+    let at : At xs = subst At (sym same) c.in-Some.ensures.some in
+    let within = at.within in
+    let last : Block = c.index-last.result.now in
+    let last_there : last ≡ get_or xs (n - 1) last = c.index-last.ensures ∙ ap (λ (m : ℕ). get_or xs (m - 1) last) (c.len.ensures ∙ counted) in
+    let moved_is : c.rank-moved.result ≡ rank_in last = c.rank-moved.ensures.value ∙ (λ i. rank_of (c.home.ensures i) (c.number.ensures.value i)) in
+    let last_is : (d : Block) → rank_in (get_or xs (n - 1) d) ≡ c.rank-moved.result = λ d. sym (moved_is ∙ ap rank_in (get_or_read xs (n - 1) last (omega arith) last_there d)) in
+    let d : Block = blank_block 0 0 in
+    let moved_in : c.rank-moved.result < length table = in_table table c.rank-moved.result (n - 1) (ap (slice_index table) (sym (last_is d)) ∙ c.self.invariant.lists.listed (n - 1) d (omega arith)) in
+    let k = c.self.inside.table.ok.0 in
+    omega arith
+
+pub index_mut-requires-2 : goal.index_mut-requires-2
+index_mut-requires-2 c =
+    let xs : List Block = c.self.inside.segments.items in
+    let table : List ℕ = c.self.inside.table.items in
+    let n : ℕ = length xs in
+    let counted = c.self.inside.segments.ok.0 in
+    let same : xs ≡ c.args.self.now.blocks = ap (λ (s : Mapped). s.blocks) c.self.view_is in
+    let place : ℕ = c.in-Some.place in
+    let At : List Block → Type 0 = λ bs. IsAt bs (segment_key c.args.home c.args.number) place in
+    let at : At xs = subst At (sym same) c.in-Some.ensures.some in
+    let within = at.within in
+    let last : Block = c.index-last.result.now in
+    let last_there : last ≡ get_or xs (n - 1) last = c.index-last.ensures ∙ ap (λ (m : ℕ). get_or xs (m - 1) last) (c.len.ensures ∙ counted) in
+    let moved_is : c.rank-moved.result ≡ rank_in last = c.rank-moved.ensures.value ∙ (λ i. rank_of (c.home.ensures i) (c.number.ensures.value i)) in
+    let last_is : (d : Block) → rank_in (get_or xs (n - 1) d) ≡ c.rank-moved.result = λ d. sym (moved_is ∙ ap rank_in (get_or_read xs (n - 1) last (omega arith) last_there d)) in
+    let d : Block = blank_block 0 0 in
+    let moved_in : c.rank-moved.result < length table = in_table table c.rank-moved.result (n - 1) (ap (slice_index table) (sym (last_is d)) ∙ c.self.invariant.lists.listed (n - 1) d (omega arith)) in
+    let rank_there : (d : Block) → rank_in (get_or xs place d) ≡ c.rank.result = λ d.
+    let few = (c.self.invariant.blocks place d within).few_numbers in
+    same_rank (get_or xs place d).home (get_or xs place d).number c.args.home c.args.number (omega arith) c.ranges.number.fits (at.keyed d) ∙ sym c.rank.ensures.value in
+    let rank_inside : c.rank.result < length table = in_table table c.rank.result place (ap (slice_index table) (sym (rank_there d)) ∙ c.self.invariant.lists.listed place d within) in
+    let k = c.self.inside.table.ok.0 in
+    omega arith
 
 pub invariant_of-self : goal.invariant_of-self
 invariant_of-self c =
     let xs : List Block = c.self.inside.segments.items in
-    let Found : List Block → Type 0 = λ bs. (c.in-Ok.place < length bs) × ((d : Block) → key_of (get_or bs c.in-Ok.place d) ≡ c.rank.result) in
-    let found : Found xs = subst Found c.as_slice.ensures.value c.in-Ok.ensures.found in
-    let removed = IsStored-remove xs c.self.inside.pool.items c.self.inside.segments.cap c.in-Ok.place c.self.invariant found.0 in
-    rw c.remove.ensures.items (IsStored-roomier _ _ c.self.inside.segments.cap _ removed (omega (arith, c.remove.ensures.capacity)))
-
-pub returns-in-Ok-clause-blocks : goal.returns-in-Ok-clause-blocks
-returns-in-Ok-clause-blocks c =
-    let xs : List Block = c.self.inside.segments.items in
-    let now : List Block = c.args.self.now.blocks in
-    let same : now ≡ xs = ap (λ (s : Mapped). s.blocks) (sym c.self.view_is) in
-    let Found : List Block → Type 0 = λ bs. (c.in-Ok.place < length bs) × ((d : Block) → key_of (get_or bs c.in-Ok.place d) ≡ c.rank.result) in
-    let found : Found xs = subst Found c.as_slice.ensures.value c.in-Ok.ensures.found in
+    let ys : List Block = c.swap_remove.new.self.items in
+    let table : List ℕ = c.self.inside.table.items in
+    let n : ℕ = length xs in
+    let counted = c.self.inside.segments.ok.0 in
+    let same : xs ≡ c.args.self.now.blocks = ap (λ (s : Mapped). s.blocks) c.self.view_is in
+    let place : ℕ = c.in-Some.place in
+    let At : List Block → Type 0 = λ bs. IsAt bs (segment_key c.args.home c.args.number) place in
+    let at : At xs = subst At (sym same) c.in-Some.ensures.some in
+    let within = at.within in
+    let last : Block = c.index-last.result.now in
+    let last_there : last ≡ get_or xs (n - 1) last = c.index-last.ensures ∙ ap (λ (m : ℕ). get_or xs (m - 1) last) (c.len.ensures ∙ counted) in
+    let moved_is : c.rank-moved.result ≡ rank_in last = c.rank-moved.ensures.value ∙ (λ i. rank_of (c.home.ensures i) (c.number.ensures.value i)) in
+    let last_is : (d : Block) → rank_in (get_or xs (n - 1) d) ≡ c.rank-moved.result = λ d. sym (moved_is ∙ ap rank_in (get_or_read xs (n - 1) last (omega arith) last_there d)) in
     let d : Block = blank_block 0 0 in
-    let P : ℕ → Type 0 = λ key. Puts xs (remove xs c.in-Ok.place) key None in
-    let puts : P (segment_key c.args.home c.args.number) = subst P (found.1 d ∙ c.rank.ensures) (Puts-remove xs c.in-Ok.place d c.self.invariant.rising found.0) in
-    λ k. rw (c.remove.ensures.items, same) (puts k)
+    let moved_in : c.rank-moved.result < length table = in_table table c.rank-moved.result (n - 1) (ap (slice_index table) (sym (last_is d)) ∙ c.self.invariant.lists.listed (n - 1) d (omega arith)) in
+    let rank_there : (d : Block) → rank_in (get_or xs place d) ≡ c.rank.result = λ d.
+    let few = (c.self.invariant.blocks place d within).few_numbers in
+    same_rank (get_or xs place d).home (get_or xs place d).number c.args.home c.args.number (omega arith) c.ranges.number.fits (at.keyed d) ∙ sym c.rank.ensures.value in
+    let rank_inside : c.rank.result < length table = in_table table c.rank.result place (ap (slice_index table) (sym (rank_there d)) ∙ c.self.invariant.lists.listed place d within) in
+    let first : List ℕ = set table c.rank-moved.result (place + 1) in
+    let next : List ℕ = set first c.rank.result 0 in
+    let fewer : length ys + 1 ≡ n = let l = c.swap_remove.ensures.len in let k = c.swap_remove.new.self.ok.0 in omega arith in
+    let here : (d : Block) → place + 1 < n → get_or ys place d ≡ get_or xs (n - 1) d = λ d lt. c.swap_remove.ensures.by_index.0 d (omega arith) ∙ ap (λ (m : ℕ). get_or xs (m - 1) d) counted in
+    let stay : (k : ℕ) (d : Block) → k ≢ place → k + 1 < n → get_or ys k d ≡ get_or xs k d = λ k d ne lt. c.swap_remove.ensures.by_index.1 k d ne (omega arith) in
+    let long = length-set table c.rank-moved.result (place + 1) in
+    let gone : (d : Block) → slice_index next (rank_in (get_or xs place d)) ≡ 0 = λ d. ap (slice_index next) (rank_there d) ∙ get_or-set_same first c.rank.result 0 0 (omega arith) in
+    let moves : (d : Block) → c.rank-moved.result ≢ rank_in (get_or xs place d) → slice_index next c.rank-moved.result ≡ place + 1 = λ d off.
+    get_or-set_other first c.rank.result c.rank-moved.result 0 0 (λ e. off (e ∙ sym (rank_there d))) ∙ get_or-set_same table c.rank-moved.result (place + 1) 0 moved_in in
+    let others : (k : ℕ) (d : Block) → k ≢ c.rank-moved.result → k ≢ rank_in (get_or xs place d) → slice_index next k ≡ slice_index table k = λ k d off away.
+    get_or-set_other first c.rank.result k 0 0 (λ e. away (e ∙ sym (rank_there d))) ∙ get_or-set_other table c.rank-moved.result k (place + 1) 0 off in
+    let kept : IsStored ys c.self.inside.pool.items next c.self.inside.segments.cap c.self.inside.table.cap = IsStored-removed xs ys c.self.inside.pool.items table next c.self.inside.segments.cap c.self.inside.table.cap place c.rank-moved.result c.self.invariant within fewer last_is here stay gone moves others c.self.inside.table.cap (omega arith) in
+    rw c.swap_remove.ensures.capacity kept
+
+pub returns-clause-blocks : goal.returns-clause-blocks
+returns-clause-blocks c =
+    let xs : List Block = c.self.inside.segments.items in
+    let ys : List Block = c.swap_remove.new.self.items in
+    let table : List ℕ = c.self.inside.table.items in
+    let n : ℕ = length xs in
+    let counted = c.self.inside.segments.ok.0 in
+    let same : xs ≡ c.args.self.now.blocks = ap (λ (s : Mapped). s.blocks) c.self.view_is in
+    let place : ℕ = c.in-Some.place in
+    let At : List Block → Type 0 = λ bs. IsAt bs (segment_key c.args.home c.args.number) place in
+    let at : At xs = subst At (sym same) c.in-Some.ensures.some in
+    let within = at.within in
+    let last : Block = c.index-last.result.now in
+    let last_there : last ≡ get_or xs (n - 1) last = c.index-last.ensures ∙ ap (λ (m : ℕ). get_or xs (m - 1) last) (c.len.ensures ∙ counted) in
+    let moved_is : c.rank-moved.result ≡ rank_in last = c.rank-moved.ensures.value ∙ (λ i. rank_of (c.home.ensures i) (c.number.ensures.value i)) in
+    let last_is : (d : Block) → rank_in (get_or xs (n - 1) d) ≡ c.rank-moved.result = λ d. sym (moved_is ∙ ap rank_in (get_or_read xs (n - 1) last (omega arith) last_there d)) in
+    let d : Block = blank_block 0 0 in
+    let moved_in : c.rank-moved.result < length table = in_table table c.rank-moved.result (n - 1) (ap (slice_index table) (sym (last_is d)) ∙ c.self.invariant.lists.listed (n - 1) d (omega arith)) in
+    let rank_there : (d : Block) → rank_in (get_or xs place d) ≡ c.rank.result = λ d.
+    let few = (c.self.invariant.blocks place d within).few_numbers in
+    same_rank (get_or xs place d).home (get_or xs place d).number c.args.home c.args.number (omega arith) c.ranges.number.fits (at.keyed d) ∙ sym c.rank.ensures.value in
+    let rank_inside : c.rank.result < length table = in_table table c.rank.result place (ap (slice_index table) (sym (rank_there d)) ∙ c.self.invariant.lists.listed place d within) in
+    let first : List ℕ = set table c.rank-moved.result (place + 1) in
+    let next : List ℕ = set first c.rank.result 0 in
+    let fewer : length ys + 1 ≡ n = let l = c.swap_remove.ensures.len in let k = c.swap_remove.new.self.ok.0 in omega arith in
+    let here : (d : Block) → place + 1 < n → get_or ys place d ≡ get_or xs (n - 1) d = λ d lt. c.swap_remove.ensures.by_index.0 d (omega arith) ∙ ap (λ (m : ℕ). get_or xs (m - 1) d) counted in
+    let stay : (k : ℕ) (d : Block) → k ≢ place → k + 1 < n → get_or ys k d ≡ get_or xs k d = λ k d ne lt. c.swap_remove.ensures.by_index.1 k d ne (omega arith) in
+    let long = length-set table c.rank-moved.result (place + 1) in
+    let gone : (d : Block) → slice_index next (rank_in (get_or xs place d)) ≡ 0 = λ d. ap (slice_index next) (rank_there d) ∙ get_or-set_same first c.rank.result 0 0 (omega arith) in
+    let moves : (d : Block) → c.rank-moved.result ≢ rank_in (get_or xs place d) → slice_index next c.rank-moved.result ≡ place + 1 = λ d off.
+    get_or-set_other first c.rank.result c.rank-moved.result 0 0 (λ e. off (e ∙ sym (rank_there d))) ∙ get_or-set_same table c.rank-moved.result (place + 1) 0 moved_in in
+    let others : (k : ℕ) (d : Block) → k ≢ c.rank-moved.result → k ≢ rank_in (get_or xs place d) → slice_index next k ≡ slice_index table k = λ k d off away.
+    get_or-set_other first c.rank.result k 0 0 (λ e. away (e ∙ sym (rank_there d))) ∙ get_or-set_other table c.rank-moved.result k (place + 1) 0 off in
+    let key : ℕ = segment_key c.args.home c.args.number in
+    let P : List Block → Type 0 = λ bs. Puts (block_at bs) (block_at ys) key None in
+    subst P same (Puts-taken xs ys c.self.inside.pool.items table next c.self.inside.segments.cap c.self.inside.table.cap place c.rank-moved.result c.self.invariant within fewer last_is here stay gone moves others d key (at.keyed d))
 
 pub returns-in_default-clause-blocks : goal.returns-in_default-clause-blocks
-returns-in_default-clause-blocks c =
-    let xs : List Block = c.as_slice.result.now in
-    let now : List Block = c.args.self.now.blocks in
-    let same : now ≡ xs = ap (λ (s : Mapped). s.blocks) (sym c.self.view_is) ∙ sym c.as_slice.ensures.value in
-    let empty = block_at-none xs c.in_default.field-0 c.rank.result c.in_default.ensures.below c.in_default.ensures.above in
-    let none : block_at now (segment_key c.args.home c.args.number) ≡ None =
-    ap (λ (bs : List Block). block_at bs (segment_key c.args.home c.args.number)) same ∙ (ap (block_at xs) (sym c.rank.ensures) ∙ empty) in
-    Puts-nothing now (segment_key c.args.home c.args.number) none
+returns-in_default-clause-blocks c = Puts-nothing c.args.self.now.blocks (segment_key c.args.home c.args.number) c.in_default.ensures.none

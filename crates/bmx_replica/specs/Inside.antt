@@ -1,0 +1,4 @@
+-- What serves proofs and private functions alone.
+pub mod Slots
+pub mod Layouts
+pub mod Replicas
