@@ -20,3 +20,4 @@ pub mod Chains
 pub mod Forgetting
 pub mod Tables
 pub mod Fitting
+pub mod CaseRuns

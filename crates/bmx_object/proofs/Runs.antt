@@ -278,7 +278,6 @@ kept_step P kept o p h (Takes from me l rest m way t e) =
 kept_step P kept o p h (Writes me to tells told e) =
     kept (seen o) (seen p) h (Turn.Writes me to tells told
     (ap seen e ∙ world_path _ _ (λ n. sym (at_one-same o.holds me n)) (λ n k. issued_notes o me (send to (replicate tells Tells)) n k)))
-
 kept_step P kept o p h (Forgets me b holds u e) =
     kept (seen o) (seen p) h (Turn.Forgets me b holds (spare_of o me b u) (ap seen e))
 kept_step P kept o p h (Clears me other u e) = subst P (sym (ap seen e)) h

@@ -1,9 +1,10 @@
 -- What holds of one object over all nodes, whatever steps are taken.
-use Rattle.std.specs.Prelude.{◌≡◌, ℕ, ◌+◌, ◌==◌, ◌&&◌, ◌⊎◌, Bool, true, false, if◌then◌else◌, List, [], ◌∷◌, Contains, Option, Some, None, IsSome}
+use Rattle.std.specs.Prelude.{◌≡◌, ℕ, ◌==◌, ◌&&◌, ◌⊎◌, Bool, true, false, if◌then◌else◌, List, Contains, count_by, Option, Some, None, IsSome}
 use Rattle.bmx_types.specs.declared.numbers.Mode.TheVariants as mode
 use Rattle.bmx_token.specs.declared.parts.Role.{Role}
 use Rattle.bmx_token.specs.declared.parts.Role.TheVariants.{Owner, Parent}
-use Rattle.bmx_object.specs.Machine.{Holding, Slip, Note, Grants, Object, Run, IsFirst, IsNowhere, is_handover}
+use Rattle.bmx_token.specs.Turns.{Share, Grants}
+use Rattle.bmx_object.specs.Machine.{Slip, Object, Run, IsFirst, IsNowhere, brings}
 
 -- ## owners
 
@@ -13,19 +14,13 @@ is_owner Owner = true
 is_owner (Parent parent) = false
 
 -- 1 where a node has the object as its owner
-abbrev pub owned_at : Option Holding → ℕ
+abbrev pub owned_at : Option Share → ℕ
 owned_at None = 0
 owned_at (Some h) = if is_owner h.part.role then 1 else 0
 
--- how many grants of ownership notes have
-abbrev pub handovers : List Note → ℕ
-handovers [] = 0
-handovers (n ∷ notes) = (if is_handover n then 1 else 0) + handovers notes
-
--- how many grants of ownership are in letters
+-- how many letters bring ownership
 abbrev pub handovers_in : List Slip → ℕ
-handovers_in [] = 0
-handovers_in (l ∷ letters) = handovers l.notes + handovers_in letters
+handovers_in letters = count_by brings letters
 
 -- where ownership is: at a node, or on its way from one to another
 pub data Seat : Type 0 where
@@ -59,7 +54,7 @@ OwnershipIsOne = (o p : Object) → IsFirst o → Run o p → HasOneSeat p
 -- while a node holds the object for writing no other holds it
 abbrev pub WriteExcludes : Object → Type 0
 WriteExcludes o =
-    (n m : ℕ) (h k : Holding) → o.holds n ≡ Some h → o.holds m ≡ Some k →
+    (n m : ℕ) (h k : Share) → o.holds n ≡ Some h → o.holds m ≡ Some k →
     h.part.held ≡ Some mode.Write → IsSome k.part.held → m ≡ n
 
 -- whatever steps are taken from an opening, a token for writing excludes
@@ -70,16 +65,16 @@ TokensExclude = (o p : Object) → IsFirst o → Run o p → WriteExcludes p
 
 -- a node owns the object, and has another among its readers
 pub record HasReader (o : Object) (owner reader : ℕ) : Type 0 where
-  pub holding : Holding
-  pub has : o.holds owner ≡ Some holding
-  pub owns : is_owner holding.part.role ≡ true
-  pub listed : Contains holding.part.readers reader
+  pub share : Share
+  pub has : o.holds owner ≡ Some share
+  pub owns : is_owner share.part.role ≡ true
+  pub listed : Contains share.part.readers reader
 
 -- each copy but the owner's, and each grant to read on its way, is of a node among the owner's readers: the
 -- owner is the parent of the node that has the copy, or the sender of the grant
 pub record ReadersListed (o : Object) : Type 0 where
-  pub copies : (n parent : ℕ) (h : Holding) → o.holds n ≡ Some h → h.copy ≡ true → h.part.role ≡ Parent parent → HasReader o parent n
-  pub grants : (n m : ℕ) (l : Slip) → Contains (o.way n m) l → Contains l.notes (Grants mode.Read) → HasReader o n m
+  pub copies : (n parent : ℕ) (h : Share) → o.holds n ≡ Some h → h.copy ≡ true → h.part.role ≡ Parent parent → HasReader o parent n
+  pub grants : (n m : ℕ) (l : Slip) → Contains (o.way n m) l → l.note ≡ Some (Grants mode.Read) → HasReader o n m
 
 -- whatever steps are taken from an opening, the owner knows its readers
 abbrev pub ReadersAreListed : Type 0
