@@ -40,11 +40,11 @@ times_with-there node (y ∷ ys) = by_tests (node == y) (nat_lt node y) refl (ti
 -- one node less
 pub times_without-gone : (node : ℕ) (ys : List ℕ) → times node (nodes_without node ys) ≡ 0
 times_without-gone node [] = refl
-times_without-gone node (y ∷ ys) = by_case (cases y node) (times_without-gone node ys)
+times_without-gone node (y ∷ ys) = by_case (cases node y) (times_without-gone node ys)
   where
-    by_case : Cases y node → times node (nodes_without node ys) ≡ 0 → times node (cond (not (y == node)) (y ∷ nodes_without node ys) (nodes_without node ys)) ≡ 0
+    by_case : Cases node y → times node (nodes_without node ys) ≡ 0 → times node (cond (not (y == node)) (y ∷ nodes_without node ys) (nodes_without node ys)) ≡ 0
     by_case (Same e t) h = rw t h
-    by_case (Apart e t) h = rw (t, apart_false node y (λ q. e (sym q))) (omega arith)
+    by_case (Apart e t) h = rw (t, apart_false node y e) (omega arith)
 
 pub times_without-other : (x node : ℕ) (ys : List ℕ) → (x == node) ≡ false → times x (nodes_without node ys) ≡ times x ys
 times_without-other x node [] a = refl
