@@ -11,3 +11,4 @@ pub mod Sound
 pub mod Views
 pub mod Shared
 pub mod Readers
+pub mod Requests

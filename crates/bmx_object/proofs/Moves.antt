@@ -153,7 +153,7 @@ pub data Changes (o p : Object) : Type 0 where
   Turns : Acted o p → Changes o p
   Forgets : (me : ℕ) (h : Share) → o.holds me ≡ Some h → IsUnneeded o me h → p ≡ with_holding o me None → Changes o p
 
-none_moves : (o : Object) (me : ℕ) (refers : Bool) (t : Turn) → Moves o (moved o me refers t) me me None t
+pub none_moves : (o : Object) (me : ℕ) (refers : Bool) (t : Turn) → Moves o (moved o me refers t) me me None t
 none_moves o me refers t = record {
   left = λ n k. notes (o.way n k);
   before = λ n k. ap (λ (x : List Note). x ++ notes (o.way n k)) (sym (came-none me me n k));
