@@ -12,3 +12,4 @@ pub mod Views
 pub mod Shared
 pub mod Readers
 pub mod Requests
+pub mod Letters

@@ -184,32 +184,83 @@ still_acted o p holds way = record {
   acts = Rests refl refl;
 }
 
-does_acted : (o p : Object) (me : ℕ) (refers : Bool) (a : Act) (h : Share) (t : Turn) → o.holds me ≡ Some h → turn_of me a h ≡ Some t → p ≡ moved o me refers t → Acted o p
-does_acted o p me refers a h t has is e = record {
+-- node me takes the first letter from another, or none
+pub data Taking (o : Object) (me from : ℕ) (taken : Option Note) (tells : Bool) (q : Object) : Type 0 where
+  Nothing : taken ≡ None → tells ≡ false → q ≡ o → Taking o me from taken tells q
+  Letter : (l : Slip) (rest : List Slip) → o.way from me ≡ l ∷ rest → from ≢ me → l.note ≡ taken → l.tells ≡ tells → q ≡ popped o from me l rest →
+      Taking o me from taken tells q
+
+-- and makes a turn within the outcomes
+pub record Acting (o p : Object) : Type 0 where
+  pub me : ℕ
+  pub from : ℕ
+  pub taken : Option Note
+  pub tells : Bool
+  pub turn : Turn
+  pub refers : Bool
+  pub between : Object
+  pub taking : Taking o me from taken tells between
+  pub acts : Acts me from taken tells (o.holds me) turn
+  pub is : p ≡ moved between me refers turn
+
+pub does_acting : (o p : Object) (me : ℕ) (refers : Bool) (a : Act) (h : Share) (t : Turn) → o.holds me ≡ Some h → turn_of me a h ≡ Some t → p ≡ moved o me refers t → Acting o p
+does_acting o p me refers a h t has is e = record {
   me = me;
   from = me;
   taken = None;
   tells = false;
   turn = t;
-  moves = subst (λ x. Moves o x me me None t) (sym e) (none_moves o me refers t);
+  refers = refers;
+  between = o;
+  taking = Nothing refl refl refl;
   acts = subst (λ x. Acts me me None false x t) (sym has) (turn_acts me a h t is);
+  is = e;
 }
 
-takes_acted : (o p : Object) (from me : ℕ) (l : Slip) (rest : List Slip) (t : Turn) → o.way from me ≡ l ∷ rest → letter_turn me from l (o.holds me) ≡ Some t →
-    p ≡ moved (popped o from me l rest) me false t → Acted o p
-takes_acted o p from me l rest t way is e = record {
+pub takes_acting : (o p : Object) (from me : ℕ) (l : Slip) (rest : List Slip) (t : Turn) → from ≢ me → o.way from me ≡ l ∷ rest →
+    letter_turn me from l (o.holds me) ≡ Some t → p ≡ moved (popped o from me l rest) me false t → Acting o p
+takes_acting o p from me l rest t apart way is e = record {
   me = me;
   from = from;
   taken = l.note;
   tells = l.tells;
   turn = t;
-  moves = subst (λ x. Moves o x me from l.note t) (sym e) record {
-    left = λ n k. notes ((popped o from me l rest).way n k);
-    before = λ n k. popped_notes o from me l rest way n k;
-    after = λ n k. moved_notes (popped o from me l rest) me false t n k;
-    holds = λ n. holds_moved (popped o from me l rest) me false t n;
-  };
+  refers = false;
+  between = popped o from me l rest;
+  taking = Letter l rest way apart refl refl refl;
   acts = letter_acts me from l (o.holds me) t is;
+  is = e;
+}
+
+-- what a node has is as it was once a letter is taken
+pub taking_holds : (o : Object) (me from : ℕ) (taken : Option Note) (tells : Bool) (q : Object) → Taking o me from taken tells q → q.holds ≡ o.holds
+taking_holds o me from taken tells q (Nothing x y e) = ap (λ (z : Object). z.holds) e
+taking_holds o me from taken tells q (Letter l rest way apart x y e) = ap (λ (z : Object). z.holds) e
+
+acting_moves : (o p : Object) (me from : ℕ) (taken : Option Note) (tells : Bool) (t : Turn) (refers : Bool) (q : Object) → Taking o me from taken tells q → p ≡ moved q me refers t →
+    Moves o p me from taken t
+acting_moves o p me from taken tells t refers q (Nothing x y f) e = rw (e, f, x) record {
+  left = λ n k. notes (o.way n k);
+  before = λ n k. ap (λ (z : List Note). z ++ notes (o.way n k)) (sym (came-none from me n k));
+  after = λ n k. moved_notes o me refers t n k;
+  holds = λ n. holds_moved o me refers t n;
+}
+acting_moves o p me from taken tells t refers q (Letter l rest way apart x y f) e = rw (e, f) (subst (λ z. Moves o (moved (popped o from me l rest) me refers t) me from z t) x record {
+  left = λ n k. notes ((popped o from me l rest).way n k);
+  before = λ n k. popped_notes o from me l rest way n k;
+  after = λ n k. moved_notes (popped o from me l rest) me refers t n k;
+  holds = λ n. holds_moved (popped o from me l rest) me refers t n;
+})
+
+pub acting_acted : (o p : Object) → Acting o p → Acted o p
+acting_acted o p a = record {
+  me = a.me;
+  from = a.from;
+  taken = a.taken;
+  tells = a.tells;
+  turn = a.turn;
+  moves = acting_moves o p a.me a.from a.taken a.tells a.turn a.refers a.between a.taking a.is;
+  acts = a.acts;
 }
 
 pub makes_moves : (o p : Object) (me : ℕ) → p ≡ with_holding o me (Some made_share) → Moves o p me me None (silently made_share)
@@ -217,8 +268,8 @@ makes_moves o p me e = subst (λ x. Moves o x me me None (silently made_share)) 
 
 pub step_changes : (o p : Object) → Step o p → Changes o p
 step_changes o p (machine.Makes me nowhere e) = Makes me nowhere (makes_moves o p me e)
-step_changes o p (machine.Does me refers a h t has is e) = Turns (does_acted o p me refers a h t has is e)
-step_changes o p (machine.Takes from me l rest t apart way is e) = Turns (takes_acted o p from me l rest t way is e)
+step_changes o p (machine.Does me refers a h t has is e) = Turns (acting_acted o p (does_acting o p me refers a h t has is e))
+step_changes o p (machine.Takes from me l rest t apart way is e) = Turns (acting_acted o p (takes_acting o p from me l rest t apart way is e))
 step_changes o p (machine.Writes me to tells told e) =
     Turns (still_acted o p (λ n. ap (λ (q : Object). q.holds n) e) (λ n k. ap (λ (q : Object). notes (q.way n k)) e ∙ silent_notes o me to tells n k))
 step_changes o p (machine.Forgets me h has u e) = Forgets me h has u e
