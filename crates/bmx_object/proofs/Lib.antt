@@ -3,6 +3,7 @@ pub mod Each
 pub mod Acts
 pub mod Handlers
 pub mod Moves
+pub mod Roles
 pub mod Owners
 pub mod Times
 pub mod Pairs

@@ -13,7 +13,7 @@ use Rattle.bmx_object.specs.Machine.{Slip, Object, Step, Run, IsFirst, Absent, B
 use Rattle.bmx_object.specs.Machine as machine
 use Rattle.bmx_object.specs.Laws.{is_owner, owned_at, Seat, At, Moving, is_at, is_moving, IsOwned, HasOneSeat, OwnershipIsOne}
 use Rattle.bmx_object.proofs.Tallies.{tally, handover, notes, handovers_in-tally, Cases, Same, Apart, cases, same_true, eqb_true, swapped, put_at-here, put_at-apart, Both, Other, pair_cases}
-use Rattle.bmx_object.proofs.Acts.{Alters, TakesWanted, Reads, Writes, Joins, Frees, Readies, Acts, Rests, Hears, AltersTo, Wants, Answers, GrantsRead, HandsOver, Revokes, Arrives, Forwards, GetsRead, GetsWrite, ReturnsNone, ReturnsNow, ReturnsLater, GetsBack}
+use Rattle.bmx_object.proofs.Roles.{Stance, Absent, Owning, Under, stance, stance_as, Looks, Stays, Meets, Turns as Looking, Gains as Gaining, Hands as Handing, acts_look}
 use Rattle.bmx_object.proofs.Handlers.{none_is_not, some_is}
 use Rattle.bmx_object.proofs.Moves.{notes_to, sent, came, Moves, Acted, Changes, Makes, Turns, Forgets, step_changes, makes_moves, kept_run, sent-none, tally-came, came-here, tally-sent, came-nothing, sent-nothing, tally-before, tally-after, tally-send, nothing-send, asks-send, recalls-nothing}
 use Rattle.bmx_object.proofs.Each.{Each, EachWay, each_there, each_of, issue_each, popped_each}
@@ -26,23 +26,13 @@ pub data Owns (taken : Option Note) (h : Option Share) (t : Turn) : Type 0 where
       ((k : ℕ) → tally handover (notes_to k t.sends) ≡ (if to == k then 1 else 0)) → Owns taken h t
   Gains : owned_at t.after ≡ 1 → tally handover (option_to_list taken) ≡ 1 → ((k : ℕ) → tally handover (notes_to k t.sends) ≡ 0) → Owns taken h t
 
-pub role_kept : (me : ℕ) (copy : Bool) (p q : Part) → Alters me copy p q → q.role ≡ p.role
-role_kept me copy p q (TakesWanted m held want ready e) = ap (λ (x : Part). x.role) e
-role_kept me copy p q (Reads has held want e) = ap (λ (x : Part). x.role) e
-role_kept me copy p q (Writes role held readers e) = ap (λ (x : Part). x.role) e
-role_kept me copy p q (Joins role want e) = ap (λ (x : Part). x.role) e
-role_kept me copy p q (Frees m held due e) = ap (λ (x : Part). x.role) e
-role_kept me copy p q (Readies rest role readers queue e) = ap (λ (x : Part). x.role) e
-
-owns_same : (taken u : Option Note) (h g : Option Share) (t a : Turn) → taken ≡ u → h ≡ g → t ≡ a → Owns u g a → Owns taken h t
-owns_same taken u h g t a x e f o = rw (x, e, f) o
+abbrev is_owning : Stance → Bool
+is_owning Absent = false
+is_owning Owning = true
+is_owning (Under p) = false
 
 abbrev pub owned_as : Role → ℕ
 owned_as r = if is_owner r then 1 else 0
-
--- one note that brings nothing
-one : (k to : ℕ) (note : Note) → handover note ≡ 0 → tally handover (notes_to k (send to note ∷ [])) ≡ 0
-one k to note h = nothing-send handover k to note [] h refl
 
 pub write_sends_one : (k to : ℕ) (rest : List Ask) →
     tally handover (notes_to k (send to (Grants Write) ∷ map (λ (a : Ask). send to (Asks a.mode a.asker)) rest)) ≡ cond (to == k) 1 0
@@ -50,29 +40,24 @@ write_sends_one k to rest =
     tally-send handover k to (Grants Write) (map (λ (a : Ask). send to (Asks a.mode a.asker)) rest)
     ∙ omega (arith, asks-send handover (λ m asker. refl) k to rest)
 
-pub owns : (me from : ℕ) (taken : Option Note) (tells : Bool) (h : Option Share) (t : Turn) → Acts me from taken tells h t → Owns taken h t
-owns me from taken tells h t (Rests x f) = owns_same _ _ _ _ _ _ x refl f (Keeps refl refl (λ k. refl))
-owns me from taken tells h t (Hears e told x f) = owns_same _ _ _ _ _ _ x e f (Keeps refl refl (λ k. refl))
-owns me from taken tells h t (AltersTo b q e alters x f) = owns_same _ _ _ _ _ _ x e f (Keeps (ap owned_as (role_kept me b.copy b.part q alters)) refl (λ k. refl))
-owns me from taken tells h t (Wants b n parent e role held want x f) = owns_same _ _ _ _ _ _ x e f (Keeps refl refl (λ k. one k parent (Asks n me) refl))
-owns me from taken tells h t (Answers b owner held e holds due x f) = owns_same _ _ _ _ _ _ x e f (Keeps refl refl (λ k. one k owner Returns refl))
-owns me from taken tells h t (GrantsRead b asker rest e role queue test x f) = owns_same _ _ _ _ _ _ x e f (Keeps refl refl (λ k. one k asker _ refl))
-owns me from taken tells h t (HandsOver b asker rest e role readers queue other test x f) =
-    owns_same _ _ _ _ _ _ x e f (Hands asker (ap owned_as role) refl refl (λ k. write_sends_one k asker rest))
-owns me from taken tells h t (Revokes b asker rest e role queue waiting x f) =
-    owns_same _ _ _ _ _ _ x e f (Keeps refl refl (λ k. recalls-nothing handover refl k b.part.readers))
-owns me from taken tells h t (Arrives b n asker e role other x f) = owns_same _ _ _ _ _ _ x e f (Keeps refl refl (λ k. refl))
-owns me from taken tells h t (Forwards b n asker parent e role x f) = owns_same _ _ _ _ _ _ x e f (Keeps refl refl (λ k. one k parent (Asks n asker) refl))
-owns me from taken tells h t (GetsRead b parent e role want ready x f) = owns_same _ _ _ _ _ _ x e f (Keeps (sym (ap owned_as role)) refl (λ k. refl))
-owns me from taken tells h t (GetsWrite b parent e role want ready x f) = owns_same _ _ _ _ _ _ x e f (Gains refl refl (λ k. refl))
-owns me from taken tells h t (ReturnsNone j e c x f) = owns_same _ _ _ _ _ _ x e f (Keeps (none c) refl (λ k. one k from Returns refl))
+pub owned_stance : (h : Option Share) → owned_at h ≡ (if is_owning (stance h) then 1 else 0)
+owned_stance None = refl
+owned_stance (Some h) = by_role h.part.role
   where
-    none : (j ≡ None) ⊎ ((j ≡ Some (heard_share from)) × (tells ≡ true)) → owned_at j ≡ 0
-    none (inl z) = ap owned_at z
-    none (inr z) = ap owned_at z.0
-owns me from taken tells h t (ReturnsNow b parent e role due test x f) = owns_same _ _ _ _ _ _ x e f (Keeps refl refl (λ k. one k from Returns refl))
-owns me from taken tells h t (ReturnsLater b parent e role due copy test x f) = owns_same _ _ _ _ _ _ x e f (Keeps refl refl (λ k. refl))
-owns me from taken tells h t (GetsBack b e role waited x f) = owns_same _ _ _ _ _ _ x e f (Keeps refl refl (λ k. refl))
+    by_role : (r : Role) → owned_as r ≡ cond {A = ℕ} (is_owning (stance_as r)) 1 0
+    by_role Owner = refl
+    by_role (Parent p) = refl
+
+owned_by : (h : Option Share) (s : Stance) → stance h ≡ s → owned_at h ≡ cond {A = ℕ} (is_owning s) 1 0
+owned_by h s e = owned_stance h ∙ ap (λ z. cond {A = ℕ} (is_owning z) 1 0) e
+
+owns : (from : ℕ) (taken : Option Note) (tells : Bool) (h : Option Share) (t : Turn) → Looks from taken tells h t → Owns taken h t
+owns from taken tells h t (Stays e x l) = Keeps (owned_by t.after (stance h) e ∙ sym (owned_stance h)) x l
+owns from taken tells h t (Meets e f g x l) = Keeps (owned_by t.after (Under from) f ∙ sym (owned_by h Absent e)) x l
+owns from taken tells h t (Looking p e f x s) = Keeps (owned_by t.after (Under from) f ∙ sym (owned_by h (Under p) e)) (ap (λ n. tally handover (option_to_list n)) x) (λ k. ap (λ n. tally handover (notes_to k n)) s)
+owns from taken tells h t (Gaining p e f x s) = Gains (owned_by t.after Owning f) (ap (λ n. tally handover (option_to_list n)) x) (λ k. ap (λ n. tally handover (notes_to k n)) s)
+owns from taken tells h t (Handing to rest e f x s) =
+    Hands to (owned_by h Owning e) (owned_by t.after (Under to) f) (ap (λ n. tally handover (option_to_list n)) x) (λ k. ap (λ n. tally handover (notes_to k n)) s ∙ write_sends_one k to rest)
 
 -- ## where ownership is
 
@@ -288,7 +273,7 @@ seated_nowhere o p none (machine.Makes me nowhere e) = inr (At me, made o p me n
 
 seated_changes : (o p : Object) (s : Seat) → IsAt o s → Changes o p → IsSeated p
 seated_changes o p s at (Makes me none moves) = inr (At me, made o p me none moves)
-seated_changes o p s at (Turns a) = inr (owned_after o p a s at (owns a.me a.from a.taken a.tells (o.holds a.me) a.turn a.acts))
+seated_changes o p s at (Turns a) = inr (owned_after o p a s at (owns a.from a.taken a.tells (o.holds a.me) a.turn (acts_look a.me a.from a.taken a.tells (o.holds a.me) a.turn a.acts)))
 seated_changes o p s at (Forgets me h has u e) = subst IsSeated (sym e) (seated_without o me h has u s at)
 
 pub seated_step : (o p : Object) → IsSeated o → Step o p → IsSeated p
