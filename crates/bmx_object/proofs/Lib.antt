@@ -14,3 +14,4 @@ pub mod Shared
 pub mod Readers
 pub mod Requests
 pub mod Letters
+pub mod Parents

@@ -30,7 +30,7 @@ came from me taken n k = if me == k then (if from == n then option_to_list taken
 -- ## letters issued
 
 -- the note of a draft, on a way
-abbrev drafted : ℕ → Draft → ℕ → ℕ → List Note
+abbrev pub drafted : ℕ → Draft → ℕ → ℕ → List Note
 drafted me d n k = if me == n then (if d.to == k then option_to_list d.note else []) else []
 
 drafted-here : (me : ℕ) (d : Draft) → drafted me d me d.to ≡ option_to_list d.note
@@ -44,7 +44,7 @@ drafted-apart me d n k (inr h) = by_test (me == n) (d.to == k) (apart_false d.to
     by_test true u e = rw e refl
     by_test false u e = refl
 
-issue_notes : (o : Object) (me : ℕ) (d : Draft) (n k : ℕ) → notes ((issue o me d).way n k) ≡ notes (o.way n k) ++ drafted me d n k
+pub issue_notes : (o : Object) (me : ℕ) (d : Draft) (n k : ℕ) → notes ((issue o me d).way n k) ≡ notes (o.way n k) ++ drafted me d n k
 issue_notes o me d n k = elim (pair_cases me d.to n k) [
   | Both e f ↦ subst₂ (λ x y. notes ((issue o me d).way x y) ≡ notes (o.way x y) ++ drafted me d x y) (sym e) (sym f) here
   | Other h ↦ ap notes (put_at-apart o.way me d.to (o.way me d.to ++ numbered (o.issued me d.to + 1) d ∷ []) n k h) ∙ sym (append-nil (notes (o.way n k)))
@@ -119,7 +119,7 @@ came-apart from me taken n k (inl h) = by_test (me == k) (from == n) (apart_fals
     by_test true u e = rw e refl
     by_test false u e = refl
 
-popped_notes : (o : Object) (from me : ℕ) (l : Slip) (rest : List Slip) → o.way from me ≡ l ∷ rest → (n k : ℕ) →
+pub popped_notes : (o : Object) (from me : ℕ) (l : Slip) (rest : List Slip) → o.way from me ≡ l ∷ rest → (n k : ℕ) →
     notes (o.way n k) ≡ came from me l.note n k ++ notes ((popped o from me l rest).way n k)
 popped_notes o from me l rest way n k = elim (pair_cases from me n k) [
   | Both e f ↦ subst₂ (λ x y. notes (o.way x y) ≡ came from me l.note x y ++ notes ((popped o from me l rest).way x y)) (sym e) (sym f)
