@@ -15,3 +15,4 @@ pub mod Readers
 pub mod Requests
 pub mod Letters
 pub mod Parents
+pub mod Asked
