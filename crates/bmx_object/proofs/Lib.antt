@@ -16,3 +16,4 @@ pub mod Requests
 pub mod Letters
 pub mod Parents
 pub mod Asked
+pub mod Apart

@@ -237,7 +237,7 @@ pub taking_holds : (o : Object) (me from : ℕ) (taken : Option Note) (tells : B
 taking_holds o me from taken tells q (Nothing x y e) = ap (λ (z : Object). z.holds) e
 taking_holds o me from taken tells q (Letter l rest way apart x y e) = ap (λ (z : Object). z.holds) e
 
-acting_moves : (o p : Object) (me from : ℕ) (taken : Option Note) (tells : Bool) (t : Turn) (refers : Bool) (q : Object) → Taking o me from taken tells q → p ≡ moved q me refers t →
+pub acting_moves : (o p : Object) (me from : ℕ) (taken : Option Note) (tells : Bool) (t : Turn) (refers : Bool) (q : Object) → Taking o me from taken tells q → p ≡ moved q me refers t →
     Moves o p me from taken t
 acting_moves o p me from taken tells t refers q (Nothing x y f) e = rw (e, f, x) record {
   left = λ n k. notes (o.way n k);
