@@ -66,7 +66,7 @@ another : (me p : ℕ) (r : Role) → stance_as r ≢ Under me → r ≡ Parent 
 another me p r none e d = none (ap stance_as e ∙ ap (λ (z : ℕ). Under z) d)
 
 -- who takes a note, or is told of the object, takes it from another
-abbrev FromAnother : ℕ → ℕ → Option Note → Bool → Type 0
+abbrev pub FromAnother : ℕ → ℕ → Option Note → Bool → Type 0
 FromAnother me from taken tells = (is_some taken ≡ true) ⊎ (tells ≡ true) → from ≢ me
 
 alters_reads : (me : ℕ) (copy : Bool) (p q : Part) → Alters me copy p q → q.readers ≡ p.readers
@@ -214,7 +214,7 @@ apart_moves o p me from taken t h away a = record { parents = λ n. parents n (c
     ways n (Same e u) = h.after n n ∙ ap (λ (z : List Note). z ++ sent me t.sends n n) (left n) ∙ ap (λ (z : Bool). cond z (notes_to n t.sends) []) u ∙ ap (λ (x : ℕ). notes_to x t.sends) e ∙ away.sends
     ways n (Apart e u) = h.after n n ∙ ap (λ (z : List Note). z ++ sent me t.sends n n) (left n) ∙ ap (λ (z : Bool). cond z (notes_to n t.sends) []) u
 
-another_of : (o : Object) (me from : ℕ) (taken : Option Note) (tells : Bool) (q : Object) → Taking o me from taken tells q → FromAnother me from taken tells
+pub another_of : (o : Object) (me from : ℕ) (taken : Option Note) (tells : Bool) (q : Object) → Taking o me from taken tells q → FromAnother me from taken tells
 another_of o me from taken tells q (Nothing x y e) (inl z) = (let both : false ≡ true = sym (ap (λ (n : Option Note). is_some n) x) ∙ z in absurd cc)
 another_of o me from taken tells q (Nothing x y e) (inr z) = (let both : false ≡ true = sym y ∙ z in absurd cc)
 another_of o me from taken tells q (Letter l rest way apart x y e) z = apart

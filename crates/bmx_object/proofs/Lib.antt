@@ -17,3 +17,4 @@ pub mod Letters
 pub mod Parents
 pub mod Asked
 pub mod Apart
+pub mod Chains

@@ -111,7 +111,7 @@ came-none from me n k = by_test (me == k) (from == n)
 pub came-here : (from me : ℕ) (taken : Option Note) → came from me taken from me ≡ option_to_list taken
 came-here from me taken = rw (same_true me, same_true from) refl
 
-came-apart : (from me : ℕ) (taken : Option Note) (n k : ℕ) → (n ≢ from) ⊎ (k ≢ me) → came from me taken n k ≡ []
+pub came-apart : (from me : ℕ) (taken : Option Note) (n k : ℕ) → (n ≢ from) ⊎ (k ≢ me) → came from me taken n k ≡ []
 came-apart from me taken n k (inr h) = rw (apart_false me k (λ e. h (sym e))) refl
 came-apart from me taken n k (inl h) = by_test (me == k) (from == n) (apart_false from n (λ e. h (sym e)))
   where

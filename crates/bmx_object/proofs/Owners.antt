@@ -1,5 +1,5 @@
 -- One owner: each step keeps that ownership is at one place, or that the object is nowhere.
-use Rattle.std.proofs.Common.{◌≡◌, ◌≢◌, ◌⊎◌, inl, inr, ℕ, ◌+◌, arith, List, [], ◌∷◌, ◌++◌, map, refl, ap, sym, subst, subst₂, ◌∙◌, Bool, true, false, cond}
+use Rattle.std.proofs.Common.{◌≡◌, ◌≢◌, ◌⊎◌, inl, inr, ℕ, ◌+◌, ◌≤◌, arith, List, [], ◌∷◌, ◌++◌, map, refl, ap, sym, subst, subst₂, ◌∙◌, Bool, true, false, cond}
 use Rattle.std.specs.Prelude.{◌==◌, ◌&&◌, if◌then◌else◌, Option, Some, None}
 use Rattle.std.specs.Option.{option_to_list}
 use Rattle.bmx_types.specs.declared.numbers.Mode.TheVariants.{Write}
@@ -51,6 +51,17 @@ owned_stance (Some h) = by_role h.part.role
 owned_by : (h : Option Share) (s : Stance) → stance h ≡ s → owned_at h ≡ cond {A = ℕ} (is_owning s) 1 0
 owned_by h s e = owned_stance h ∙ ap (λ z. cond {A = ℕ} (is_owning z) 1 0) e
 
+pub owning_owned : (h : Option Share) → stance h ≡ Owning → owned_at h ≡ 1
+owning_owned h e = owned_by h Owning e
+
+pub owned_owning : (h : Option Share) → owned_at h ≡ 1 → stance h ≡ Owning
+owned_owning None e = absurd (omega (arith, e))
+owned_owning (Some b) e = by_role b.part.role e
+  where
+    by_role : (r : Role) → owned_as r ≡ 1 → stance_as r ≡ Owning
+    by_role Owner f = refl
+    by_role (Parent p) f = absurd (omega (arith, f))
+
 owns : (from : ℕ) (taken : Option Note) (tells : Bool) (h : Option Share) (t : Turn) → Looks from taken tells h t → Owns taken h t
 owns from taken tells h t (Stays e x l) = Keeps (owned_by t.after (stance h) e ∙ sym (owned_stance h)) x l
 owns from taken tells h t (Meets e f g x l) = Keeps (owned_by t.after (Under from) f ∙ sym (owned_by h Absent e)) x l
@@ -65,6 +76,20 @@ owns from taken tells h t (Handing to rest e f x s) =
 pub record IsAt (o : Object) (s : Seat) : Type 0 where
   pub nodes : (n : ℕ) → owned_at (o.holds n) ≡ (if is_at s n then 1 else 0)
   pub mail : (n k : ℕ) → tally handover (notes (o.way n k)) ≡ (if is_moving s n k then 1 else 0)
+
+abbrev pub IsSeated : Object → Type 0
+IsSeated o = IsNowhere o ⊎ ((s : Seat) × IsAt o s)
+
+pub silent_ways : (o : Object) → IsNowhere o → EachWay (λ n m. IsSilent) o.way
+silent_ways o h n m = each_of IsSilent (o.way n m) (h.untold n m)
+
+-- no note is on a way where the object is nowhere
+pub nothing_said : (o : Object) → IsNowhere o → (n k : ℕ) → notes (o.way n k) ≡ []
+nothing_said o h n k = none (o.way n k) (silent_ways o h n k)
+  where
+    none : (letters : List Slip) → Each IsSilent letters → notes letters ≡ []
+    none [] e = refl
+    none (l ∷ letters) e = rw (e.0.note, none letters e.1) refl
 
 -- what node n has after the act
 holds_after : (o p : Object) (me : ℕ) (after : Option Share) (n : ℕ) → p.holds n ≡ put o.holds me after n →
@@ -112,6 +137,20 @@ seat_moving o from me (Moving j k) at h = by_test (from == j) (me == k) refl ref
     by_test true true e f g = rw (eqb_true from j e, eqb_true me k f) refl
     by_test true false e f g = absurd (h g)
     by_test false u e f g = absurd (h g)
+
+-- where one handover is on its way no other is, and nobody owns it
+pub one_handover : (o : Object) (n k j l : ℕ) → IsSeated o → 1 ≤ tally handover (notes (o.way n k)) → 1 ≤ tally handover (notes (o.way j l)) → (n ≡ j) × (k ≡ l)
+one_handover o n k j l (inl none) a b = absurd (omega (arith, a, ap (tally handover) (nothing_said o none n k)))
+one_handover o n k j l (inr s) a b =
+    let same : Moving n k ≡ Moving j l =
+    sym (seat_moving o n k s.0 s.1 (λ z. absurd (omega (arith, a, z)))) ∙ seat_moving o j l s.0 s.1 (λ z. absurd (omega (arith, b, z))) in
+    (cc, cc)
+
+pub no_owner : {A : Type 0} (o : Object) (n k j : ℕ) → IsSeated o → 1 ≤ tally handover (notes (o.way n k)) → stance (o.holds j) ≡ Owning → A
+no_owner o n k j (inl none) a e = absurd (omega (arith, a, ap (tally handover) (nothing_said o none n k)))
+no_owner o n k j (inr s) a e =
+    let same : Moving n k ≡ At j = sym (seat_moving o n k s.0 s.1 (λ z. absurd (omega (arith, a, z)))) ∙ seat_at o j s.0 s.1 (owning_owned (o.holds j) e) in
+    absurd cc
 
 hands_seat : (o p : Object) (me from : ℕ) (taken : Option Note) (t : Turn) (to : ℕ) → Moves o p me from taken t → IsAt o (At me) →
     owned_at t.after ≡ 0 → tally handover (option_to_list taken) ≡ 0 → ((k : ℕ) → tally handover (notes_to k t.sends) ≡ (if to == k then 1 else 0)) → IsAt p (Moving me to)
@@ -179,20 +218,6 @@ owned_after o p a s at (Gains mine t none) =
     (At a.me, gains_seat o p a.me a.from a.taken a.turn a.moves here mine t none)
 
 -- ## what is kept
-
-abbrev pub IsSeated : Object → Type 0
-IsSeated o = IsNowhere o ⊎ ((s : Seat) × IsAt o s)
-
-pub silent_ways : (o : Object) → IsNowhere o → EachWay (λ n m. IsSilent) o.way
-silent_ways o h n m = each_of IsSilent (o.way n m) (h.untold n m)
-
--- no note is on a way where the object is nowhere
-pub nothing_said : (o : Object) → IsNowhere o → (n k : ℕ) → notes (o.way n k) ≡ []
-nothing_said o h n k = none (o.way n k) (silent_ways o h n k)
-  where
-    none : (letters : List Slip) → Each IsSilent letters → notes letters ≡ []
-    none [] e = refl
-    none (l ∷ letters) e = rw (e.0.note, none letters e.1) refl
 
 -- its maker owns it
 made : (o p : Object) (me : ℕ) → IsNowhere o → Moves o p me me None (silently made_share) → IsAt p (At me)
