@@ -18,3 +18,4 @@ pub mod Parents
 pub mod Asked
 pub mod Apart
 pub mod Chains
+pub mod Fitting
