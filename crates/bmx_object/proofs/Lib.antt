@@ -19,3 +19,4 @@ pub mod Asked
 pub mod Apart
 pub mod Chains
 pub mod Fitting
+pub mod Forgetting
