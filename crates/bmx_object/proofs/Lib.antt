@@ -1,5 +1,6 @@
 pub mod Tallies
 pub mod Each
+pub mod Traffic
 pub mod Acts
 pub mod Handlers
 pub mod Moves

@@ -1,0 +1,145 @@
+-- The traffic that tables speak of: whom each node looks to, the letters on their way with what they ask, give and
+-- bring, the entering records and the counts of letters; and how letters are numbered in it.
+use Rattle.std.proofs.Common.{◌≡◌, ◌≢◌, ◌⊎◌, inl, inr, ℕ, ◌+◌, ◌≤◌, arith, List, [], ◌∷◌, ◌++◌, refl, ap, sym, subst, subst₂, ◌∙◌, Bool, true, false, cond}
+use Rattle.std.specs.Prelude.{◌==◌, if◌then◌else◌, Option, Some, None}
+use Rattle.bmx_graph.specs.State.{put, put_at}
+use Rattle.bmx_object.specs.Machine.{Numbers, sent_in, got_in}
+use Rattle.bmx_object.proofs.Tallies.{put_at-here, put_at-apart, Both, Other, pair_cases}
+
+pub record Letter : Type 0 where
+  pub seq : ℕ
+  pub asks : Bool
+  pub gives : Bool
+  pub brings : Bool
+
+pub record Traffic : Type 0 where
+  pub looks : ℕ → ℕ → Bool
+  pub way : ℕ → ℕ → List Letter
+  pub entering : ℕ → ℕ → Option Numbers
+  pub issued : ℕ → ℕ → ℕ
+  pub taken : ℕ → ℕ → ℕ
+
+-- a letter to a node, before it has a number
+pub record Draft : Type 0 where
+  pub to : ℕ
+  pub asks : Bool
+  pub gives : Bool
+  pub brings : Bool
+
+abbrev pub numbered : ℕ → Draft → Letter
+numbered seq d = record { seq = seq; asks = d.asks; gives = d.gives; brings = d.brings }
+
+-- node me issues a letter, and all of some
+abbrev pub issue : Traffic → ℕ → Draft → Traffic
+issue o me d =
+    let seq : ℕ = o.issued me d.to + 1 in
+    record o {
+      way = put_at o.way me d.to (o.way me d.to ++ numbered seq d ∷ []);
+      entering = if d.gives then put_at o.entering me d.to (Some (sent_in seq (o.entering me d.to))) else o.entering;
+      issued = put_at o.issued me d.to seq;
+    }
+
+abbrev pub issue_all : Traffic → ℕ → List Draft → Traffic
+issue_all o me [] = o
+issue_all o me (d ∷ drafts) = issue_all (issue o me d) me drafts
+
+-- it takes the first letter from another
+abbrev pub taking : Traffic → ℕ → ℕ → Letter → List Letter → Traffic
+taking o from me l rest = record o {
+  way = put_at o.way from me rest;
+  entering = if l.brings then put_at o.entering me from (Some (got_in l.seq (o.entering me from))) else o.entering;
+  taken = put_at o.taken me from (o.taken me from + 1);
+}
+
+-- it looks to these from now on
+abbrev pub looking : Traffic → ℕ → (ℕ → Bool) → Traffic
+looking o me row = record o { looks = put o.looks me row }
+
+-- ## numbers
+
+-- letters are numbered from the one after k up to i
+abbrev pub Counted : ℕ → List Letter → ℕ → Type 0
+Counted k [] i = k ≡ i
+Counted k (l ∷ letters) i = (l.seq ≡ k + 1) × Counted (k + 1) letters i
+
+counted_more : (letters : List Letter) (k i : ℕ) (l : Letter) → Counted k letters i → l.seq ≡ i + 1 → Counted k (letters ++ l ∷ []) (i + 1)
+counted_more [] k i l h e = (omega (arith, h, e), omega (arith, h))
+counted_more (a ∷ letters) k i l h e = (h.0, counted_more letters (k + 1) i l h.1 e)
+
+-- the letters on their way follow those that were taken, and end with the last issued
+pub record IsCounted (o : Traffic) : Type 0 where
+  pub ways : (n m : ℕ) → Counted (o.taken m n) (o.way n m) (o.issued n m)
+
+pub issue_counted : (o : Traffic) (me : ℕ) (d : Draft) → IsCounted o → IsCounted (issue o me d)
+issue_counted o me d c = record {
+  ways = λ n m. elim (pair_cases me d.to n m) [
+    | Both e f ↦ subst₂ (λ x y. Counted (o.taken y x) ((issue o me d).way x y) ((issue o me d).issued x y)) (sym e) (sym f) here
+    | Other h ↦ subst₂ (λ w i. Counted (o.taken m n) w i) (sym (put_at-apart o.way me d.to _ n m h)) (sym (put_at-apart o.issued me d.to _ n m h)) (c.ways n m)
+  ];
+}
+  where
+    here : Counted (o.taken d.to me) ((issue o me d).way me d.to) ((issue o me d).issued me d.to)
+    here = subst₂ (λ w i. Counted (o.taken d.to me) w i) (sym (put_at-here o.way me d.to _)) (sym (put_at-here o.issued me d.to _))
+        (counted_more (o.way me d.to) (o.taken d.to me) (o.issued me d.to) (numbered (o.issued me d.to + 1) d) (c.ways me d.to) refl)
+
+turned : {A B : Type 0} → A ⊎ B → B ⊎ A
+turned (inl a) = inr a
+turned (inr b) = inl b
+
+pub taking_counted : (o : Traffic) (from me : ℕ) (l : Letter) (rest : List Letter) → o.way from me ≡ l ∷ rest → IsCounted o → IsCounted (taking o from me l rest)
+taking_counted o from me l rest way c = record {
+  ways = λ n m. elim (pair_cases from me n m) [
+    | Both e f ↦ subst₂ (λ x y. Counted ((taking o from me l rest).taken y x) ((taking o from me l rest).way x y) (o.issued x y)) (sym e) (sym f) here
+    | Other h ↦ subst₂ (λ t w. Counted t w (o.issued n m)) (sym (put_at-apart o.taken me from _ m n (turned h))) (sym (put_at-apart o.way from me rest n m h)) (c.ways n m)
+  ];
+}
+  where
+    first : Counted (o.taken me from) (l ∷ rest) (o.issued from me)
+    first = subst (λ w. Counted (o.taken me from) w (o.issued from me)) way (c.ways from me)
+
+    here : Counted ((taking o from me l rest).taken me from) ((taking o from me l rest).way from me) (o.issued from me)
+    here = subst₂ (λ t w. Counted t w (o.issued from me)) (sym (put_at-here o.taken me from _)) (sym (put_at-here o.way from me rest)) first.1
+
+-- ## records
+
+-- a record that grows keeps what a later letter keeps
+pub issue_entering : (Q : Option Numbers → Type 0) → ((seq : ℕ) (r : Option Numbers) → Q r → Q (Some (sent_in seq r))) →
+    (o : Traffic) (me : ℕ) (d : Draft) (n m : ℕ) → Q (o.entering n m) → Q ((issue o me d).entering n m)
+issue_entering Q more o me d n m h = by_test d.gives
+  where
+    r : Option Numbers
+    r = Some (sent_in (o.issued me d.to + 1) (o.entering me d.to))
+
+    by_test : (t : Bool) → Q ((cond t (put_at o.entering me d.to r) o.entering) n m)
+    by_test true = elim (pair_cases me d.to n m) [
+      | Both e f ↦ subst₂ (λ x y. Q (put_at o.entering me d.to r x y)) (sym e) (sym f)
+          (subst Q (sym (put_at-here o.entering me d.to r)) (more (o.issued me d.to + 1) (o.entering me d.to) (subst₂ (λ x y. Q (o.entering x y)) e f h)))
+      | Other c ↦ subst Q (sym (put_at-apart o.entering me d.to r n m c)) h
+    ]
+    by_test false = h
+
+pub taking_entering : (Q : Option Numbers → Type 0) → ((seq : ℕ) (r : Option Numbers) → Q r → Q (Some (got_in seq r))) →
+    (o : Traffic) (from me : ℕ) (l : Letter) (rest : List Letter) (n m : ℕ) → Q (o.entering n m) → Q ((taking o from me l rest).entering n m)
+taking_entering Q more o from me l rest n m h = by_test l.brings
+  where
+    r : Option Numbers
+    r = Some (got_in l.seq (o.entering me from))
+
+    by_test : (t : Bool) → Q ((cond t (put_at o.entering me from r) o.entering) n m)
+    by_test true = elim (pair_cases me from n m) [
+      | Both e f ↦ subst₂ (λ x y. Q (put_at o.entering me from r x y)) (sym e) (sym f)
+          (subst Q (sym (put_at-here o.entering me from r)) (more l.seq (o.entering me from) (subst₂ (λ x y. Q (o.entering x y)) e f h)))
+      | Other c ↦ subst Q (sym (put_at-apart o.entering me from r n m c)) h
+    ]
+    by_test false = h
+
+-- the record of a letter that gives the object, and of one that brings it over
+pub issue_here : (o : Traffic) (me : ℕ) (d : Draft) → d.gives ≡ true → (issue o me d).entering me d.to ≡ Some (sent_in (o.issued me d.to + 1) (o.entering me d.to))
+issue_here o me d g =
+    ap (λ (t : Bool). (cond t (put_at o.entering me d.to (Some (sent_in (o.issued me d.to + 1) (o.entering me d.to)))) o.entering) me d.to) g
+    ∙ put_at-here o.entering me d.to (Some (sent_in (o.issued me d.to + 1) (o.entering me d.to)))
+
+pub taking_here : (o : Traffic) (from me : ℕ) (l : Letter) (rest : List Letter) → l.brings ≡ true → (taking o from me l rest).entering me from ≡ Some (got_in l.seq (o.entering me from))
+taking_here o from me l rest b =
+    ap (λ (t : Bool). (cond t (put_at o.entering me from (Some (got_in l.seq (o.entering me from)))) o.entering) me from) b
+    ∙ put_at-here o.entering me from (Some (got_in l.seq (o.entering me from)))
