@@ -21,3 +21,4 @@ pub mod Apart
 pub mod Chains
 pub mod Fitting
 pub mod Forgetting
+pub mod Tables
