@@ -22,3 +22,4 @@ pub mod Chains
 pub mod Fitting
 pub mod Forgetting
 pub mod Tables
+pub mod Cleaning
