@@ -10,7 +10,7 @@ use Rattle.bmx_token.specs.declared.parts.Role.TheVariants.{Owner, Parent}
 use Rattle.bmx_token.specs.declared.parts.Part.{Part}
 use Rattle.bmx_token.specs.Nodes.{nodes_with, nodes_without}
 use Rattle.bmx_token.specs.Tokens.{is_write}
-use Rattle.bmx_token.specs.Turns.{Share, Note, Asks, Grants, Recalls, Returns, Send, send, Turn, silently, saying, with_token, with_copy, without_copy, heard_share}
+use Rattle.bmx_token.specs.Turns.{Share, Note, Asks, Grants, Recalls, Returns, send, Turn, silently, saying, with_token, with_copy, without_copy, heard_share}
 
 -- node me's token changes, and nothing is said or taken
 pub data Alters (me : ℕ) (copy : Bool) (p q : Part) : Type 0 where

@@ -1,27 +1,24 @@
 -- Nobody has to do with itself: no node is its own parent or reader, and no note is on a way from a node to itself.
-use Rattle.std.proofs.Common.{◌≡◌, ◌≢◌, ◌⊎◌, inl, inr, ℕ, ◌+◌, ◌≤◌, arith, zero, suc, List, [], ◌∷◌, ◌++◌, append-nil, map, refl, ap, sym, subst, ◌∙◌, Bool, true, false, cond}
-use Rattle.std.specs.Prelude.{◌==◌, ◌&&◌, is_some, Option, Some, None}
-use Rattle.std.specs.Option.{option_to_list}
-use Rattle.bmx_types.specs.declared.numbers.Mode.{Mode}
+use Rattle.std.proofs.Common.{◌≡◌, ◌≢◌, ◌⊎◌, inl, inr, ℕ, ◌+◌, arith, zero, suc, List, [], ◌∷◌, ◌++◌, map, refl, ap, sym, subst, ◌∙◌, Bool, true, false, cond}
+use Rattle.std.specs.Prelude.{◌==◌, is_some, Option, Some, None}
 use Rattle.bmx_types.specs.declared.numbers.Mode.TheVariants as mode
-use Rattle.bmx_graph.specs.State.{put}
 use Rattle.bmx_token.specs.declared.parts.Ask.{Ask}
 use Rattle.bmx_token.specs.declared.parts.Part.{Part}
 use Rattle.bmx_token.specs.declared.parts.Role.{Role}
 use Rattle.bmx_token.specs.declared.parts.Role.TheVariants.{Owner, Parent}
-use Rattle.bmx_token.specs.Turns.{Share, Note, Asks, Grants, Recalls, Returns, Send, send, Turn, silently, made_share, heard_share}
-use Rattle.bmx_object.specs.Machine.{Slip, Object, Step, Makes, Does, Takes, Writes, Forgets, Clears, Run, IsFirst, Absent as NotYet, Born, IsFirstElsewhere, Unknown, Heard, with_holding}
+use Rattle.bmx_token.specs.Turns.{Share, Note, Asks, Grants, Recalls, Returns, Send, send, Turn, made_share, heard_share}
+use Rattle.bmx_object.specs.Machine.{Object, Step, Makes, Does, Takes, Writes, Forgets, Clears, Run, IsFirst, Absent as NotYet, Born, IsFirstElsewhere, Unknown, Heard}
 use Rattle.bmx_object.specs.Laws.{owned_at}
-use Rattle.bmx_object.proofs.Tallies.{tally, recall, return, notes, Cases, Same, Apart, cases, same_true, apart_false}
+use Rattle.bmx_object.proofs.Tallies.{notes, Cases, Same, Apart, cases, same_true, apart_false}
 use Rattle.bmx_object.proofs.Times.{times, times_with-other, times_without-none}
 use Rattle.bmx_object.proofs.Acts.{Alters, TakesWanted, Reads, Writes as Writing, Joins, Frees, Readies, Acts, Rests, Hears, AltersTo, Wants, Answers, GrantsRead, HandsOver, Revokes, Arrives, Forwards, GetsRead, GetsWrite, ReturnsNone, ReturnsNow, ReturnsLater, GetsBack}
-use Rattle.bmx_object.proofs.Moves.{notes_to, sent, came, Moves, Taking, Nothing, Letter, Acting, Acted, Changes, does_acting, takes_acting, acting_moves, still_acted, step_changes, silent_notes, kept_object}
-use Rattle.bmx_object.proofs.Roles.{Absent, Owning, Under, stance, stance_as, under_is, not_absent, not_owning, role_kept}
-use Rattle.bmx_object.proofs.Owners.{owned_as, nothing_said}
-use Rattle.bmx_object.proofs.Sound.{IsSound, IsSoundIf}
+use Rattle.bmx_object.proofs.Moves.{notes_to, sent, came, Moves, Taking, Nothing, Letter, Acting, does_acting, takes_acting, acting_moves, silent_notes, kept_object}
+use Rattle.bmx_object.proofs.Roles.{Under, stance, stance_as, under_is, not_absent, not_owning, role_kept}
+use Rattle.bmx_object.proofs.Owners.{owned_as}
+use Rattle.bmx_object.proofs.Sound.{IsSoundIf}
 use Rattle.bmx_object.proofs.Views.{reads_of, waits_of, due_to, due_as}
 use Rattle.bmx_object.proofs.Shared.{IsShared, shared_run}
-use Rattle.bmx_object.proofs.Requests.{IsRequested, queued, queue_of, Spot, Unasked, Queued, IsAlone, stands, unwanting, wants_or_not, alone_elsewhere, same_mode, requested_run}
+use Rattle.bmx_object.proofs.Requests.{IsRequested, queued, queue_of, Spot, Unasked, Queued, IsAlone, stands, unwanting, wants_or_not, alone_elsewhere, requested_run}
 
 pub record IsApart (o : Object) : Type 0 where
   pub parents : (n : ℕ) → stance (o.holds n) ≢ Under n

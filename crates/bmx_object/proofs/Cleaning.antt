@@ -1,22 +1,21 @@
 -- Runs with tables: whatever tables are lost, late or taken more than once, what they clear nothing needs, so that the
 -- object's steps are a run of its machine.
-use Rattle.std.proofs.Common.{◌≡◌, ◌≢◌, ◌⊎◌, inl, inr, ℕ, ◌+◌, ◌≤◌, zero, suc, arith, List, [], ◌∷◌, ◌++◌, map, refl, ap, sym, subst, subst₂, ◌∙◌, Bool, true, false, cond}
-use Rattle.std.specs.Prelude.{◌==◌, is_some, Option, Some, None, Contains}
+use Rattle.std.proofs.Common.{◌≡◌, ◌⊎◌, inl, inr, ℕ, ◌+◌, ◌≤◌, arith, List, [], ◌∷◌, ◌++◌, map, refl, ap, sym, subst, subst₂, ◌∙◌, Bool, true, false, cond}
+use Rattle.std.specs.Prelude.{◌==◌, Option, Some, None, Contains}
 use Rattle.bmx_types.specs.declared.numbers.Mode.TheVariants as mode
-use Rattle.bmx_graph.specs.State.{put, put_at}
 use Rattle.bmx_token.specs.declared.parts.Ask.{Ask}
 use Rattle.bmx_token.specs.declared.parts.Role.{Role}
 use Rattle.bmx_token.specs.declared.parts.Role.TheVariants.{Owner, Parent}
 use Rattle.bmx_token.specs.Turns.{Share, Note, Asks, Grants, Send, send, Turn, made_share}
 use Rattle.bmx_object.specs.Machine.{Slip, Numbers, Object, Step, Run, IsFirst, IsUnneededRecord, is_ask, gives, asks, brings, draft, with_holding, issue, issue_all, moved, popped}
 use Rattle.bmx_object.specs.Machine as machine
-use Rattle.bmx_object.specs.Tables.{Table, Tabled, looks_as, looks_to, IsPlain, MayForget, MayClear, TableStep, Moves, Forgets, Tabulates, Clears, TableRun, Stays, Goes, untabled}
+use Rattle.bmx_object.specs.Tables.{Table, Tabled, looks_as, looks_to, IsPlain, MayClear, TableStep, Moves, Forgets, Tabulates, Clears, TableRun, Stays, Goes, untabled}
 use Rattle.bmx_object.proofs.Tallies.{tally, handover, same_true, eqb_true}
 use Rattle.bmx_object.proofs.Traffic.{Letter, Traffic, Counted}
 use Rattle.bmx_object.proofs.Traffic as traffic
-use Rattle.bmx_object.proofs.Each.{Each, EachSend, each_there}
+use Rattle.bmx_object.proofs.Each.{Each, each_there}
 use Rattle.bmx_object.proofs.Moves.{notes_to, Taking, Nothing, Letter as First, Acting, does_acting, takes_acting}
-use Rattle.bmx_object.proofs.Roles.{stance, stance_as, Under, Owning, under_is, not_owning, Looks, Stays as Keeps, Meets, Turns, Gains, Hands, acts_look}
+use Rattle.bmx_object.proofs.Roles.{stance, stance_as, Under, under_is, not_owning, Looks, Stays as Keeps, Meets, Turns, Gains, Hands, acts_look}
 use Rattle.bmx_object.proofs.Owners.{write_sends_one}
 use Rattle.bmx_object.proofs.Letters.{letter_of, draft_of, traffic_of, map-append, traffic-issue, traffic-popped, traffic-holding, IsCounted, taking_counted, counted_run, IsIn, Recorded, IsRecorded, recorded_run, untouched}
 use Rattle.bmx_object.proofs.Readers.{one_or_more}

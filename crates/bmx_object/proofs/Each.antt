@@ -1,5 +1,5 @@
 -- What holds of each letter on its way, as letters are issued and taken.
-use Rattle.std.proofs.Common.{◌≡◌, ◌≢◌, ◌⊎◌, inl, inr, ℕ, ◌+◌, List, [], ◌∷◌, ◌++◌, map, Bool, refl, ap, sym, subst, subst₂, ◌∙◌}
+use Rattle.std.proofs.Common.{◌≡◌, ℕ, ◌+◌, List, [], ◌∷◌, ◌++◌, map, Bool, refl, ap, sym, subst, subst₂}
 use Rattle.bmx_token.specs.Turns.{Send, Turn}
 use Rattle.bmx_object.specs.Machine.{Slip, Draft, Object, draft, numbered, with_holding, issue, issue_all, moved, popped}
 use Rattle.bmx_object.proofs.Tallies.{put_at-here, put_at-apart, Both, Other, pair_cases}

@@ -1,5 +1,5 @@
 -- One owner: each step keeps that ownership is at one place, or that the object is nowhere.
-use Rattle.std.proofs.Common.{◌≡◌, ◌≢◌, ◌⊎◌, inl, inr, ℕ, ◌+◌, ◌≤◌, arith, List, [], ◌∷◌, ◌++◌, map, refl, ap, sym, subst, subst₂, ◌∙◌, Bool, true, false, cond}
+use Rattle.std.proofs.Common.{◌≡◌, ◌≢◌, ◌⊎◌, inl, inr, ℕ, ◌+◌, ◌≤◌, arith, List, [], ◌∷◌, map, refl, ap, sym, subst, ◌∙◌, Bool, true, false, cond}
 use Rattle.std.specs.Prelude.{◌==◌, ◌&&◌, if◌then◌else◌, Option, Some, None}
 use Rattle.std.specs.Option.{option_to_list}
 use Rattle.bmx_types.specs.declared.numbers.Mode.TheVariants.{Write}
@@ -7,15 +7,14 @@ use Rattle.bmx_graph.specs.State.{put, put_at}
 use Rattle.bmx_token.specs.declared.parts.Ask.{Ask}
 use Rattle.bmx_token.specs.declared.parts.Role.{Role}
 use Rattle.bmx_token.specs.declared.parts.Role.TheVariants.{Owner, Parent}
-use Rattle.bmx_token.specs.declared.parts.Part.{Part}
-use Rattle.bmx_token.specs.Turns.{Share, Note, Asks, Grants, Recalls, Returns, Send, send, Turn, turn_of, silently, made_share, heard_share}
+use Rattle.bmx_token.specs.Turns.{Share, Note, Asks, Grants, send, Turn, silently, made_share}
 use Rattle.bmx_object.specs.Machine.{Slip, Object, Step, Run, IsFirst, Absent, Born, IsFirstElsewhere, Unknown, Heard, IsSilent, IsNowhere, IsUnneeded, with_holding, issue, moved, popped, letter_turn}
 use Rattle.bmx_object.specs.Machine as machine
 use Rattle.bmx_object.specs.Laws.{is_owner, owned_at, Seat, At, Moving, is_at, is_moving, IsOwned, HasOneSeat, OwnershipIsOne}
-use Rattle.bmx_object.proofs.Tallies.{tally, handover, notes, handovers_in-tally, Cases, Same, Apart, cases, same_true, eqb_true, swapped, put_at-here, put_at-apart, Both, Other, pair_cases}
+use Rattle.bmx_object.proofs.Tallies.{tally, handover, notes, handovers_in-tally, Cases, Same, Apart, cases, eqb_true, swapped}
 use Rattle.bmx_object.proofs.Roles.{Stance, Absent, Owning, Under, stance, stance_as, Looks, Stays, Meets, Turns as Looking, Gains as Gaining, Hands as Handing, acts_look}
-use Rattle.bmx_object.proofs.Handlers.{none_is_not, some_is}
-use Rattle.bmx_object.proofs.Moves.{notes_to, sent, came, Moves, Acted, Changes, Makes, Turns, Forgets, step_changes, makes_moves, kept_run, sent-none, tally-came, came-here, tally-sent, came-nothing, sent-nothing, tally-before, tally-after, tally-send, nothing-send, asks-send, recalls-nothing}
+use Rattle.bmx_object.proofs.Handlers.{some_is}
+use Rattle.bmx_object.proofs.Moves.{notes_to, sent, came, Moves, Acted, Changes, Makes, Turns, Forgets, step_changes, makes_moves, kept_run, tally-came, came-here, tally-sent, came-nothing, sent-nothing, tally-before, tally-after, tally-send, asks-send}
 use Rattle.bmx_object.proofs.Each.{Each, EachWay, each_there, each_of, issue_each, popped_each}
 
 -- ## what an act does with ownership

@@ -1,5 +1,5 @@
 -- The owner's readers: who has a copy beside it, or is to get one, is among them.
-use Rattle.std.proofs.Common.{◌≡◌, ◌⊎◌, inl, inr, ℕ, ◌+◌, ◌≤◌, arith, List, [], ◌∷◌, zero, suc, refl, ap, sym, subst, ◌∙◌, Bool, true, false, cond}
+use Rattle.std.proofs.Common.{◌≡◌, ◌⊎◌, inl, inr, ℕ, ◌+◌, ◌≤◌, arith, List, [], ◌∷◌, zero, suc, refl, ap, ◌∙◌, Bool, true, false, cond}
 use Rattle.std.specs.Prelude.{if◌then◌else◌, Option, Some, None, Contains}
 use Rattle.std.specs.Option.{option_to_list}
 use Rattle.bmx_types.specs.declared.numbers.Mode.TheVariants.{Read}

@@ -6,7 +6,6 @@ use Rattle.bmx_types.specs.declared.numbers.Mode.{Mode}
 use Rattle.bmx_types.specs.declared.numbers.Mode.TheVariants.{Read, Write}
 use Rattle.bmx_token.specs.declared.parts.Role.{Role}
 use Rattle.bmx_token.specs.declared.parts.Role.TheVariants.{Owner, Parent}
-use Rattle.bmx_graph.specs.State.{put}
 use Rattle.bmx_token.specs.Turns.{Share, Note, Asks, Grants, Recalls, Returns, Turn, silently, made_share, heard_share}
 use Rattle.bmx_object.specs.Machine.{Slip, Object, Run, IsFirst, Absent, Born, IsFirstElsewhere, Unknown, Heard, IsUnneeded, with_holding, gives}
 use Rattle.bmx_object.specs.Laws.{owned_at, Seat, At, TokensExclude}

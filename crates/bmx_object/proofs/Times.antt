@@ -1,5 +1,5 @@
 -- How often a node stands in a list of nodes.
-use Rattle.std.proofs.Common.{◌≡◌, ◌≢◌, ℕ, ◌+◌, ◌≤◌, ◌<◌, arith, List, [], ◌∷◌, zero, suc, add-one, refl, ap, sym, subst, ◌∙◌, Bool, true, false, cond}
+use Rattle.std.proofs.Common.{◌≡◌, ◌≢◌, ℕ, ◌+◌, ◌≤◌, ◌<◌, arith, List, [], ◌∷◌, zero, suc, add-one, refl, ap, subst, ◌∙◌, Bool, true, false, cond}
 use Rattle.std.specs.Prelude.{◌==◌, not, nat_lt, if◌then◌else◌, slice_index}
 use Rattle.std.specs.List.Sorted.{IsStrictlyIncreasing}
 use Rattle.bmx_token.specs.Nodes.{nodes_with, nodes_without}
