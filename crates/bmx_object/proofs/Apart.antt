@@ -8,7 +8,7 @@ use Rattle.bmx_token.specs.declared.parts.Role.{Role}
 use Rattle.bmx_token.specs.declared.parts.Role.TheVariants.{Owner, Parent}
 use Rattle.bmx_token.specs.Turns.{Share, Note, Asks, Grants, Recalls, Returns, Send, send, Turn, made_share, heard_share}
 use Rattle.bmx_object.specs.Machine.{Object, Step, Makes, Does, Takes, Writes, Forgets, Clears, Run, IsFirst, Absent as NotYet, Born, IsFirstElsewhere, Unknown, Heard}
-use Rattle.bmx_object.specs.Laws.{owned_at}
+use Rattle.bmx_object.specs.Laws.{owned_at, queue_at}
 use Rattle.bmx_object.proofs.Tallies.{notes, Cases, Same, Apart, cases, same_true, apart_false}
 use Rattle.bmx_object.proofs.Times.{times, times_with-other, times_without-none}
 use Rattle.bmx_object.proofs.Acts.{Alters, TakesWanted, Reads, Writes as Writing, Joins, Frees, Readies, Acts, Rests, Hears, AltersTo, Wants, Answers, GrantsRead, HandsOver, Revokes, Arrives, Forwards, GetsRead, GetsWrite, ReturnsNone, ReturnsNow, ReturnsLater, GetsBack}
@@ -18,7 +18,7 @@ use Rattle.bmx_object.proofs.Owners.{owned_as}
 use Rattle.bmx_object.proofs.Sound.{IsSoundIf}
 use Rattle.bmx_object.proofs.Views.{reads_of, waits_of, due_to, due_as}
 use Rattle.bmx_object.proofs.Shared.{IsShared, shared_run}
-use Rattle.bmx_object.proofs.Requests.{IsRequested, queued, queue_of, Spot, Unasked, Queued, IsAlone, stands, unwanting, wants_or_not, alone_elsewhere, requested_run}
+use Rattle.bmx_object.proofs.Requests.{IsRequested, queued, Spot, Unasked, Queued, IsAlone, stands, unwanting, wants_or_not, alone_elsewhere, requested_run}
 
 pub record IsApart (o : Object) : Type 0 where
   pub parents : (n : ℕ) → stance (o.holds n) ≢ Under n
@@ -31,7 +31,7 @@ pub record IsApart (o : Object) : Type 0 where
 record IsOwn (me : ℕ) (h : Option Share) : Type 0 where
   parent : stance h ≢ Under me
   reader : times me (reads_of h) ≡ 0
-  asker : queued mode.Read me (queue_of h) ≡ 0
+  asker : queued mode.Read me (queue_at h) ≡ 0
   due : due_to me h ≡ 0
 
 -- and after an act
@@ -154,24 +154,24 @@ acts_away me from taken tells h t (GetsBack b e role waited x f) away s0 =
 -- ## each step
 
 -- nobody's read is asked where it is at home
-no_own_read : (o : Object) (n : ℕ) → IsRequested o → queued mode.Read n (queue_of (o.holds n)) ≡ 0
+no_own_read : (o : Object) (n : ℕ) → IsRequested o → queued mode.Read n (queue_at (o.holds n)) ≡ 0
 no_own_read o n r = by_owner (o.holds n) refl
   where
     s : (s : Spot) × IsAlone (stands o mode.Read n) s
     s = r.spots mode.Read n
 
-    by_number : (k : ℕ) → queued mode.Read n (queue_of (o.holds n)) ≡ k → owned_at (o.holds n) ≡ 1 → queued mode.Read n (queue_of (o.holds n)) ≡ 0
+    by_number : (k : ℕ) → queued mode.Read n (queue_at (o.holds n)) ≡ k → owned_at (o.holds n) ≡ 1 → queued mode.Read n (queue_at (o.holds n)) ≡ 0
     by_number zero e own = e
     by_number (suc k) e own =
         let none : unwanting mode.Read (o.holds n) ≡ 0 = alone_elsewhere (stands o mode.Read n) s.0 (Queued n) Unasked s.1 (omega (arith, e)) refl in
         absurd (omega (arith, none, wants_or_not mode.Read (o.holds n), (r.nodes n).no_read own))
 
-    by_owner : (h : Option Share) → o.holds n ≡ h → queued mode.Read n (queue_of (o.holds n)) ≡ 0
-    by_owner None e = ap (λ z. queued mode.Read n (queue_of z)) e
+    by_owner : (h : Option Share) → o.holds n ≡ h → queued mode.Read n (queue_at (o.holds n)) ≡ 0
+    by_owner None e = ap (λ z. queued mode.Read n (queue_at z)) e
     by_owner (Some b) e = by_role b.part.role refl
       where
-        by_role : (role : Role) → b.part.role ≡ role → queued mode.Read n (queue_of (o.holds n)) ≡ 0
-        by_role Owner f = by_number (queued mode.Read n (queue_of (o.holds n))) refl (ap owned_at e ∙ ap owned_as f)
+        by_role : (role : Role) → b.part.role ≡ role → queued mode.Read n (queue_at (o.holds n)) ≡ 0
+        by_role Owner f = by_number (queued mode.Read n (queue_at (o.holds n))) refl (ap owned_at e ∙ ap owned_as f)
         by_role (Parent p) f = ap (queued mode.Read n) ((r.nodes n).empty (ap owned_at e ∙ ap owned_as f))
 
 own_of : (o : Object) (n : ℕ) → IsRequested o → IsShared o → IsApart o → IsOwn n (o.holds n)
