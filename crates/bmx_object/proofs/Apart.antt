@@ -154,7 +154,7 @@ acts_away me from taken tells h t (GetsBack b e role waited x f) away s0 =
 -- ## each step
 
 -- nobody's read is asked where it is at home
-no_own_read : (o : Object) (n : ℕ) → IsRequested o → queued mode.Read n (queue_at (o.holds n)) ≡ 0
+pub no_own_read : (o : Object) (n : ℕ) → IsRequested o → queued mode.Read n (queue_at (o.holds n)) ≡ 0
 no_own_read o n r = by_owner (o.holds n) refl
   where
     s : (s : Spot) × IsAlone (stands o mode.Read n) s

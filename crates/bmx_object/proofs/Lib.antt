@@ -23,3 +23,5 @@ pub mod Fitting
 pub mod Forgetting
 pub mod Tables
 pub mod Cleaning
+pub mod Short
+pub mod Stated

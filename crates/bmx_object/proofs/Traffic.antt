@@ -1,7 +1,7 @@
 -- The traffic that tables speak of: whom each node looks to, the letters on their way with what they ask, give and
 -- bring, the entering records and the counts of letters; and how letters are numbered in it.
-use Rattle.std.proofs.Common.{◌≡◌, ◌⊎◌, inl, inr, ℕ, ◌+◌, arith, List, [], ◌∷◌, ◌++◌, refl, ap, sym, subst, subst₂, ◌∙◌, Bool, true, false, cond}
-use Rattle.std.specs.Prelude.{if◌then◌else◌, Option, Some}
+use Rattle.std.proofs.Common.{◌≡◌, ◌⊎◌, inl, inr, ℕ, ◌+◌, ◌≤◌, arith, List, [], ◌∷◌, ◌++◌, refl, ap, sym, subst, subst₂, ◌∙◌, Bool, true, false, cond}
+use Rattle.std.specs.Prelude.{if◌then◌else◌, max, Option, Some, None}
 use Rattle.bmx_graph.specs.State.{put, put_at}
 use Rattle.bmx_object.specs.Machine.{Numbers, sent_in, got_in}
 use Rattle.bmx_object.proofs.Tallies.{put_at-here, put_at-apart, Both, Other, pair_cases}
@@ -143,3 +143,69 @@ pub taking_here : (o : Traffic) (from me : ℕ) (l : Letter) (rest : List Letter
 taking_here o from me l rest b =
     ap (λ (t : Bool). (cond t (put_at o.entering me from (Some (got_in l.seq (o.entering me from)))) o.entering) me from) b
     ∙ put_at-here o.entering me from (Some (got_in l.seq (o.entering me from)))
+
+-- a record is within what was issued and taken
+abbrev pub Bounded : Option Numbers → ℕ → ℕ → Type 0
+Bounded None i t = Unit {0}
+Bounded (Some r) i t = (r.sent ≤ i) × (r.got ≤ t)
+
+pub record IsBounded (o : Traffic) : Type 0 where
+  pub records : (n m : ℕ) → Bounded (o.entering n m) (o.issued n m) (o.taken n m)
+
+bounded_more : (r : Option Numbers) (i j t u : ℕ) → i ≤ j → t ≤ u → Bounded r i t → Bounded r j u
+bounded_more None i j t u h k b = tt
+bounded_more (Some r) i j t u h k b = (omega (arith, b.0, h), omega (arith, b.1, k))
+
+bounded_sent : (r : Option Numbers) (i t : ℕ) → Bounded r i t → Bounded (Some (sent_in (i + 1) r)) (i + 1) t
+bounded_sent None i t b = (omega arith, omega arith)
+bounded_sent (Some r) i t b = (omega (arith, b.0), b.1)
+
+bounded_got : (r : Option Numbers) (i t : ℕ) → Bounded r i t → Bounded (Some (got_in (t + 1) r)) i (t + 1)
+bounded_got None i t b = (omega arith, omega arith)
+bounded_got (Some r) i t b = (b.0, omega (arith, b.1))
+
+pub issue_bounded : (o : Traffic) (me : ℕ) (d : Draft) → IsBounded o → IsBounded (issue o me d)
+issue_bounded o me d b = record { records = λ n m. by_test n m d.gives }
+  where
+    seq : ℕ
+    seq = o.issued me d.to + 1
+
+    more : (n m : ℕ) → o.issued n m ≤ put_at o.issued me d.to seq n m
+    more n m = elim (pair_cases me d.to n m) [
+      | Both e f ↦ subst₂ (λ x y. o.issued x y ≤ put_at o.issued me d.to seq x y) (sym e) (sym f) (omega (arith, put_at-here o.issued me d.to seq))
+      | Other c ↦ omega (arith, put_at-apart o.issued me d.to seq n m c)
+    ]
+
+    by_test : (n m : ℕ) (t : Bool) → Bounded ((cond t (put_at o.entering me d.to (Some (sent_in seq (o.entering me d.to)))) o.entering) n m) (put_at o.issued me d.to seq n m) (o.taken n m)
+    by_test n m false = bounded_more (o.entering n m) _ _ _ _ (more n m) (omega arith) (b.records n m)
+    by_test n m true = elim (pair_cases me d.to n m) [
+      | Both e f ↦ subst₂ (λ x y. Bounded (put_at o.entering me d.to (Some (sent_in seq (o.entering me d.to))) x y) (put_at o.issued me d.to seq x y) (o.taken x y)) (sym e) (sym f)
+          (subst₂ (λ r i. Bounded r i (o.taken me d.to)) (sym (put_at-here o.entering me d.to _)) (sym (put_at-here o.issued me d.to seq)) (bounded_sent (o.entering me d.to) (o.issued me d.to) (o.taken me d.to) (b.records me d.to)))
+      | Other c ↦ subst (λ r. Bounded r (put_at o.issued me d.to seq n m) (o.taken n m)) (sym (put_at-apart o.entering me d.to _ n m c))
+          (bounded_more (o.entering n m) _ _ _ _ (more n m) (omega arith) (b.records n m))
+    ]
+
+pub taking_bounded : (o : Traffic) (from me : ℕ) (l : Letter) (rest : List Letter) → o.way from me ≡ l ∷ rest → IsCounted o → IsBounded o → IsBounded (taking o from me l rest)
+taking_bounded o from me l rest way c b = record { records = λ n m. by_test n m l.brings }
+  where
+    now : ℕ
+    now = o.taken me from + 1
+
+    first : l.seq ≡ o.taken me from + 1
+    first = (subst (λ w. Counted (o.taken me from) w (o.issued from me)) way (c.ways from me)).0
+
+    more : (n m : ℕ) → o.taken n m ≤ put_at o.taken me from now n m
+    more n m = elim (pair_cases me from n m) [
+      | Both e f ↦ subst₂ (λ x y. o.taken x y ≤ put_at o.taken me from now x y) (sym e) (sym f) (omega (arith, put_at-here o.taken me from now))
+      | Other d ↦ omega (arith, put_at-apart o.taken me from now n m d)
+    ]
+
+    by_test : (n m : ℕ) (t : Bool) → Bounded ((cond t (put_at o.entering me from (Some (got_in l.seq (o.entering me from)))) o.entering) n m) (o.issued n m) (put_at o.taken me from now n m)
+    by_test n m false = bounded_more (o.entering n m) _ _ _ _ (omega arith) (more n m) (b.records n m)
+    by_test n m true = elim (pair_cases me from n m) [
+      | Both e f ↦ subst₂ (λ x y. Bounded (put_at o.entering me from (Some (got_in l.seq (o.entering me from))) x y) (o.issued x y) (put_at o.taken me from now x y)) (sym e) (sym f)
+          (subst₂ (λ r t. Bounded r (o.issued me from) t) (sym (put_at-here o.entering me from _)) (sym (put_at-here o.taken me from now))
+          (subst (λ k. Bounded (Some (got_in k (o.entering me from))) (o.issued me from) (o.taken me from + 1)) (sym first) (bounded_got (o.entering me from) (o.issued me from) (o.taken me from) (b.records me from))))
+      | Other d ↦ subst (λ r. Bounded r (o.issued n m) (put_at o.taken me from now n m)) (sym (put_at-apart o.entering me from _ n m d))
+          (bounded_more (o.entering n m) _ _ _ _ (omega arith) (more n m) (b.records n m))
+    ]
