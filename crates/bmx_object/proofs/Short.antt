@@ -1,8 +1,8 @@
 -- Chains are short: a walk along parents that ends passes no node twice once what lies between is left out, so that it
 -- has fewer steps than there are nodes.
-use Rattle.std.proofs.Common.{◌≡◌, ◌≢◌, ◌⊎◌, inl, inr, ℕ, ◌+◌, ◌≤◌, ◌<◌, zero, suc, arith, List, [], ◌∷◌, length, refl, ap, sym, subst, ◌∙◌, Bool, true, false, cond}
-use Rattle.std.specs.Prelude.{◌==◌, not, Option, Some, None}
-use Rattle.bmx_token.specs.declared.parts.Role.TheVariants.{Owner, Parent}
+use Rattle.std.proofs.Common.{◌≡◌, ◌≢◌, ◌⊎◌, inl, inr, ℕ, ◌+◌, ◌≤◌, ◌<◌, zero, suc, arith, List, [], ◌∷◌, length, refl, ap, sym, subst, Bool, true, false, cond}
+use Rattle.std.specs.Prelude.{◌==◌, not, Some}
+use Rattle.bmx_token.specs.declared.parts.Role.TheVariants.{Parent}
 use Rattle.bmx_token.specs.Nodes.{nodes_without}
 use Rattle.bmx_token.specs.Turns.{Share}
 use Rattle.bmx_object.specs.Machine.{Object}

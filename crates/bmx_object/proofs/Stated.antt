@@ -1,5 +1,5 @@
 -- The laws in their public words: what the invariants say of shares, letters and counts.
-use Rattle.std.proofs.Common.{◌≡◌, ◌≢◌, ◌⊎◌, inl, inr, ℕ, ◌+◌, ◌≤◌, ◌<◌, zero, suc, arith, List, [], ◌∷◌, ◌++◌, refl, ap, ap₂, sym, subst, ◌∙◌, Bool, true, false, cond}
+use Rattle.std.proofs.Common.{◌≡◌, ◌⊎◌, inl, inr, ℕ, ◌+◌, ◌≤◌, ◌<◌, zero, suc, arith, List, [], ◌∷◌, ◌++◌, refl, ap, ap₂, sym, subst, ◌∙◌, Bool, true, false, cond}
 use Rattle.std.specs.Prelude.{◌==◌, ◌&&◌, ◌||◌, is_some, Option, Some, None, IsSome, Contains, count_by}
 use Rattle.std.specs.Option.{option_map_or, option_to_list}
 use Rattle.std.specs.List.{list_any}
@@ -9,9 +9,8 @@ use Rattle.bmx_types.specs.declared.numbers.Mode.TheVariants as mode
 use Rattle.bmx_token.specs.declared.parts.Ask.{Ask}
 use Rattle.bmx_token.specs.declared.parts.Role.{Role}
 use Rattle.bmx_token.specs.declared.parts.Role.TheVariants.{Owner, Parent}
-use Rattle.bmx_token.specs.Turns.{Share, Note, Asks, Grants, Recalls, Returns, Turn}
-use Rattle.bmx_object.specs.Machine.{Slip, Numbers, Object, Run, IsFirst, brings, asks, gives, letter_turn}
-use Rattle.bmx_object.specs.Tables.{Tabled, TableRun, MayForget, MayClear, untabled}
+use Rattle.bmx_token.specs.Turns.{Share, Note, Asks, Grants, Recalls, Returns}
+use Rattle.bmx_object.specs.Machine.{Slip, Numbers, Object, Run, IsFirst, brings, gives}
 use Rattle.bmx_object.specs.Laws as law
 use Rattle.bmx_object.specs.Laws.{same_mode, is_request_of, is_grant_of, is_recall, is_return, is_due, owes, count_notes, queue_at, standing, IsWaiting, IsPlaced, WantsArePlaced, EachWantIsPlaced, answers_owed, waits_for, EachOwesOneAnswer, NoLetterIsStray, NobodyAsksItself, IsBrought, MayBeAsked, WhoIsAskedAnswers, ParentAnswers, ParentsLeadToTheOwner, GiftsAreRecorded, IdleIsUnneeded, ClearedIsUnneeded, TablesKeepTheLaws}
 use Rattle.bmx_object.proofs.Tallies.{tally, tally-append, notes, recall, return, handover, Cases, Same, Apart, cases, same_true, swapped}
@@ -19,11 +18,11 @@ use Rattle.bmx_object.proofs.Traffic.{Bounded}
 use Rattle.bmx_object.proofs.Each.{Each, each_there}
 use Rattle.bmx_object.proofs.Times.{times, times-once}
 use Rattle.bmx_object.proofs.Roles.{Stance, Absent, stance, stance_as, Under, Owning, role_under}
-use Rattle.bmx_object.proofs.Sound.{IsSound, IsSoundIf}
+use Rattle.bmx_object.proofs.Sound.{IsSoundIf}
 use Rattle.bmx_object.proofs.Views.{reads_of, waits_of, due_to, due_as}
 use Rattle.bmx_object.proofs.Shared.{IsShared, shared_run}
 use Rattle.bmx_object.proofs.Readers.{one_or_more}
-use Rattle.bmx_object.proofs.Requests.{IsRequested, ask, granting, queued, Spot, Unasked, OnWay, Queued, Granted, IsAlone, same_spot, stands, unwanting, unwanting_as, wanting, wanting_as, wants_or_not, requested_run}
+use Rattle.bmx_object.proofs.Requests.{IsRequested, queued, Spot, Unasked, OnWay, Queued, Granted, IsAlone, same_spot, stands, unwanting, unwanting_as, wants_or_not, requested_run}
 use Rattle.bmx_object.proofs.Letters.{IsIn, Recorded, NoGift, Knows, recorded_run, giving_run, bounded_run}
 use Rattle.bmx_object.proofs.Parents.{AnswersFor, IsPointed, pointed_run, granted_wants, over_there}
 use Rattle.bmx_object.proofs.Asked.{some_brings, fits_there, over_brings, has_record, NoAsk, asked_run}

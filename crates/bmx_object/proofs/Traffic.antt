@@ -1,7 +1,7 @@
 -- The traffic that tables speak of: whom each node looks to, the letters on their way with what they ask, give and
 -- bring, the entering records and the counts of letters; and how letters are numbered in it.
 use Rattle.std.proofs.Common.{◌≡◌, ◌⊎◌, inl, inr, ℕ, ◌+◌, ◌≤◌, arith, List, [], ◌∷◌, ◌++◌, refl, ap, sym, subst, subst₂, ◌∙◌, Bool, true, false, cond}
-use Rattle.std.specs.Prelude.{if◌then◌else◌, max, Option, Some, None}
+use Rattle.std.specs.Prelude.{if◌then◌else◌, Option, Some, None}
 use Rattle.bmx_graph.specs.State.{put, put_at}
 use Rattle.bmx_object.specs.Machine.{Numbers, sent_in, got_in}
 use Rattle.bmx_object.proofs.Tallies.{put_at-here, put_at-apart, Both, Other, pair_cases}
