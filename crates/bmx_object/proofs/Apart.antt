@@ -10,6 +10,7 @@ use Rattle.bmx_token.specs.Turns.{Share, Note, Asks, Grants, Recalls, Returns, S
 use Rattle.bmx_object.specs.Machine.{Object, Step, Makes, Does, Takes, Writes, Forgets, Clears, Run, IsFirst, Absent as NotYet, Born, IsFirstElsewhere, Unknown, Heard}
 use Rattle.bmx_object.specs.Laws.{owned_at, queue_at}
 use Rattle.bmx_object.proofs.Tallies.{notes, Cases, Same, Apart, cases, same_true, apart_false}
+use Rattle.bmx_object.proofs.First.{untouched, first_holds}
 use Rattle.bmx_object.proofs.Times.{times, times_with-other, times_without-none}
 use Rattle.bmx_object.proofs.Acts.{Alters, TakesWanted, Reads, Writes as Writing, Joins, Frees, Readies, Acts, Rests, Hears, AltersTo, Wants, Answers, GrantsRead, HandsOver, Revokes, Arrives, Forwards, GetsRead, GetsWrite, ReturnsNone, ReturnsNow, ReturnsLater, GetsBack}
 use Rattle.bmx_object.proofs.Moves.{notes_to, sent, came, Moves, Taking, Nothing, Letter, Acting, does_acting, takes_acting, acting_moves, silent_notes, kept_object}
@@ -253,28 +254,11 @@ apart_step o p r s a (Forgets me h has u e) = subst IsApart (sym e) record { par
 apart_step o p r s a (Clears me other u e) = same_apart o p (λ n. ap (λ (q : Object). q.holds n) e) (λ n k. ap (λ (q : Object). notes (q.way n k)) e) a
 
 first_apart : (o : Object) → IsFirst o → IsApart o
-first_apart o (NotYet u holds) = record {
-  parents = λ n z. not_absent z (ap stance (holds n));
-  readers = λ n. ap (λ z. times n (reads_of z)) (holds n);
-  ways = λ n. ap notes (u.way n n);
-}
-first_apart o (Born u born) = record { parents = λ n. parents n (cases n 0); readers = λ n. readers n (cases n 0); ways = λ n. ap notes (u.way n n) }
+first_apart o first = record { parents = λ n. (fresh n).0; readers = λ n. (fresh n).1; ways = λ n. ap notes ((untouched o first).way n n) }
   where
-    parents : (n : ℕ) → Cases n 0 → stance (o.holds n) ≢ Under n
-    parents n (Same e t) z = not_owning z (ap stance (ap o.holds e ∙ born.owner))
-    parents n (Apart e t) z = by_first (born.others n e)
-      where
-        by_first : IsFirstElsewhere (o.holds n) → ⊥
-        by_first (Unknown f) = not_absent z (ap stance f)
-        by_first (Heard f) = e (sym (under_is 0 n (sym (ap stance f) ∙ z)))
-
-    readers : (n : ℕ) → Cases n 0 → times n (reads_of (o.holds n)) ≡ 0
-    readers n (Same e t) = ap (λ z. times n (reads_of z)) (ap o.holds e ∙ born.owner)
-    readers n (Apart e t) = by_first (born.others n e)
-      where
-        by_first : IsFirstElsewhere (o.holds n) → times n (reads_of (o.holds n)) ≡ 0
-        by_first (Unknown f) = ap (λ z. times n (reads_of z)) f
-        by_first (Heard f) = ap (λ z. times n (reads_of z)) f
+    fresh : (n : ℕ) → (stance (o.holds n) ≢ Under n) × (times n (reads_of (o.holds n)) ≡ 0)
+    fresh = first_holds (λ n h. (stance h ≢ Under n) × (times n (reads_of h) ≡ 0))
+        (λ n. (λ z. not_absent z refl, refl)) (λ z. not_owning z refl, refl) (λ n d. (λ z. d (sym (under_is 0 n z)), refl)) o first
 
 pub apart_run : (o p : Object) → IsFirst o → Run o p → IsApart p
 apart_run o p first run =

@@ -17,7 +17,8 @@ use Rattle.bmx_object.proofs.Each.{Each, each_there}
 use Rattle.bmx_object.proofs.Moves.{notes_to, Taking, Nothing, Letter as First, Acting, does_acting, takes_acting}
 use Rattle.bmx_object.proofs.Roles.{stance, stance_as, Under, under_is, not_owning, Looks, Stays as Keeps, Meets, Turns, Gains, Hands, acts_look}
 use Rattle.bmx_object.proofs.Owners.{write_sends_one}
-use Rattle.bmx_object.proofs.Letters.{letter_of, draft_of, traffic_of, map-append, traffic-issue, traffic-popped, traffic-holding, IsCounted, taking_counted, counted_run, IsIn, Recorded, IsRecorded, recorded_run, untouched}
+use Rattle.bmx_object.proofs.First.{untouched}
+use Rattle.bmx_object.proofs.Letters.{letter_of, draft_of, traffic_of, map-append, traffic-issue, traffic-popped, traffic-holding, IsCounted, taking_counted, counted_run, IsIn, Recorded, IsRecorded, recorded_run}
 use Rattle.bmx_object.proofs.Readers.{one_or_more}
 use Rattle.bmx_object.proofs.Asked.{AskThose, rest_those, Asking, AsksThose, AsksTaker, acts_ask}
 use Rattle.bmx_object.proofs.Forgetting.{unneeded}

@@ -1,4 +1,5 @@
 pub mod Tallies
+pub mod First
 pub mod Each
 pub mod Traffic
 pub mod Acts

@@ -10,6 +10,7 @@ use Rattle.bmx_token.specs.Turns.{Share, Note, Asks, Grants, Recalls, Returns, T
 use Rattle.bmx_object.specs.Machine.{Slip, Object, Run, IsFirst, Absent, Born, IsFirstElsewhere, Unknown, Heard, IsUnneeded, with_holding, gives}
 use Rattle.bmx_object.specs.Laws.{owned_at, Seat, At, TokensExclude}
 use Rattle.bmx_object.proofs.Tallies.{tally, tally-append, read_grant, recall, return, notes, behind, behind-append, behind_no_recall, behind_no_grant, Cases, Same, Apart, cases, same_true}
+use Rattle.bmx_object.proofs.First.{untouched, first_holds}
 use Rattle.bmx_object.proofs.Each.{Each, each_of}
 use Rattle.bmx_object.proofs.Moves.{notes_to, sent, came, Moves, Acted, Changes, Makes, Turns, Forgets, kept_changes, tally-before, tally-after}
 use Rattle.bmx_object.proofs.Owners.{IsSeated, IsAt, owned_as, seat_at, seated_run, no_share}
@@ -227,6 +228,19 @@ shared_kept o p s (Forgets me h has u e) = subst IsShared (sym e) (shared_withou
 
 -- ## at first
 
+-- nobody waits, has a copy from another, or owes one
+record IsFresh (h : Option Share) : Type 0 where
+  sound : IsSoundIf h
+  waits : (k : ℕ) → times k (waits_of h) ≡ 0
+  copy : (n : ℕ) → copy_from n h ≡ 0
+  due : (n : ℕ) → due_to n h ≡ 0
+
+fresh : (o : Object) → IsFirst o → (n : ℕ) → IsFresh (o.holds n)
+fresh = first_holds (λ n h. IsFresh h)
+    (λ n. record { sound = tt; waits = λ k. refl; copy = λ n. refl; due = λ n. refl })
+    record { sound = sound_when_made; waits = λ k. refl; copy = λ n. refl; due = λ n. refl }
+    (λ n d. record { sound = sound_when_heard 0; waits = λ k. refl; copy = λ n. refl; due = λ n. refl })
+
 fine_first : (r q g c b t p d : ℕ) → q ≡ 0 → g ≡ 0 → c ≡ 0 → b ≡ 0 → t ≡ 0 → p ≡ 0 → d ≡ 0 → IsFine r q g c b t p d
 fine_first r q g c b t p d q0 g0 c0 b0 t0 p0 d0 = record {
   granted = omega arith;
@@ -238,51 +252,16 @@ fine_first r q g c b t p d q0 g0 c0 b0 t0 p0 d0 = record {
   silent = omega arith;
 }
 
--- what a node has at first: nothing, an object that it owns, or one that it heard of
-data IsFresh (h : Option Share) : Type 0 where
-  Nowhere : h ≡ None → IsFresh h
-  Owned : h ≡ Some made_share → IsFresh h
-  Known : h ≡ Some (heard_share 0) → IsFresh h
-
-fresh_sound : (h : Option Share) → IsFresh h → IsSoundIf h
-fresh_sound h (Nowhere e) = subst IsSoundIf (sym e) tt
-fresh_sound h (Owned e) = subst IsSoundIf (sym e) sound_when_made
-fresh_sound h (Known e) = subst IsSoundIf (sym e) (sound_when_heard 0)
-
-fresh_copy : (n : ℕ) (h : Option Share) → IsFresh h → copy_from n h ≡ 0
-fresh_copy n h (Nowhere e) = ap (copy_from n) e
-fresh_copy n h (Owned e) = ap (copy_from n) e
-fresh_copy n h (Known e) = ap (copy_from n) e
-
-fresh_waits : (k : ℕ) (h : Option Share) → IsFresh h → times k (waits_of h) ≡ 0
-fresh_waits k h (Nowhere e) = ap (λ o. times k (waits_of o)) e
-fresh_waits k h (Owned e) = ap (λ o. times k (waits_of o)) e
-fresh_waits k h (Known e) = ap (λ o. times k (waits_of o)) e
-
-fresh_due : (n : ℕ) (h : Option Share) → IsFresh h → due_to n h ≡ 0
-fresh_due n h (Nowhere e) = ap (due_to n) e
-fresh_due n h (Owned e) = ap (due_to n) e
-fresh_due n h (Known e) = ap (due_to n) e
-
-shared_fresh : (w : Object) → ((n k : ℕ) → notes (w.way n k) ≡ []) → ((n : ℕ) → IsFresh (w.holds n)) → IsShared w
-shared_fresh w way fresh = record {
-  sound = λ n. fresh_sound (w.holds n) (fresh n);
+shared_first : (o : Object) → IsFirst o → IsShared o
+shared_first o first = record {
+  sound = λ n. (fresh o first n).sound;
   pairs = λ n k.
-      fine_first _ _ _ _ _ _ _ _ (fresh_waits k (w.holds n) (fresh n)) (ap (tally read_grant) (way n k)) (ap (tally recall) (way n k)) (ap behind (way n k)) (ap (tally return) (way k n))
-      (fresh_copy n (w.holds k) (fresh k)) (fresh_due n (w.holds k) (fresh k));
+      fine_first _ _ _ _ _ _ _ _ ((fresh o first n).waits k) (ap (tally read_grant) (way n k)) (ap (tally recall) (way n k)) (ap behind (way n k)) (ap (tally return) (way k n))
+      ((fresh o first k).copy n) ((fresh o first k).due n);
 }
-
-pub shared_first : (o : Object) → IsFirst o → IsShared o
-shared_first o (Absent first holds) = shared_fresh o (λ n k. ap notes (first.way n k)) (λ n. Nowhere (holds n))
-shared_first o (Born first born) = shared_fresh o (λ n k. ap notes (first.way n k)) (λ n. by_node n (cases n 0))
   where
-    elsewhere : (h : Option Share) → IsFirstElsewhere h → IsFresh h
-    elsewhere h (Unknown e) = Nowhere e
-    elsewhere h (Heard e) = Known e
-
-    by_node : (n : ℕ) → Cases n 0 → IsFresh (o.holds n)
-    by_node n (Same e t) = Owned (ap o.holds e ∙ born.owner)
-    by_node n (Apart e t) = elsewhere (o.holds n) (born.others n e)
+    way : (n k : ℕ) → notes (o.way n k) ≡ []
+    way n k = ap notes ((untouched o first).way n k)
 
 pub shared_run : (o p : Object) → IsFirst o → Run o p → IsShared p
 shared_run o p first run = kept_changes IsShared shared_kept o p (shared_first o first) run

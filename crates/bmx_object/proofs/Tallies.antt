@@ -1,5 +1,5 @@
 -- Counts of notes on their way, and tests of numbers.
-use Rattle.std.proofs.Common.{◌≡◌, ◌≢◌, ◌⊎◌, inl, inr, ℕ, ◌+◌, ◌*◌, ◌≤◌, arith, List, [], ◌∷◌, ◌++◌, append_assoc, refl, ap, ap₂, sym, ◌∙◌, Bool, true, false, cond}
+use Rattle.std.proofs.Common.{◌≡◌, ◌≢◌, ◌⊎◌, inl, inr, ℕ, ◌+◌, ◌*◌, ◌≤◌, arith, List, [], ◌∷◌, ◌++◌, append_assoc, refl, ap, ap₂, sym, subst₂, ◌∙◌, Bool, true, false, cond}
 use Rattle.std.specs.Prelude.{◌==◌, if◌then◌else◌, Option, Some, None}
 use Rattle.std.specs.Option.{option_to_list}
 use Rattle.std.proofs.lemmas.Bool.Decides.{nat_tests}
@@ -73,6 +73,24 @@ put_at-apart f n m a j k (inr h) = elim (cases j n) [
   | Same e t ↦ rw (t, apart_false m k (λ e. h (sym e))) (ap (λ (x : ℕ). f x k) (sym e))
   | Apart e t ↦ rw t refl
 ]
+
+-- of a function changed at a number, or a pair: what holds of the new value there, and of the old ones elsewhere
+pub put-all : {A : Type 0} (P : ℕ → A → Type 0) (f : ℕ → A) (n : ℕ) (a : A) → P n a → ((k : ℕ) → k ≢ n → P k (f k)) → (k : ℕ) → P k (put f n a k)
+put-all P f n a here there k = elim (cases k n) [
+  | Same e t ↦ rw (t, e) here
+  | Apart e t ↦ rw t (there k e)
+]
+
+-- of two functions changed at a pair
+pub put_at-both : {A B : Type 0} (P : ℕ → ℕ → A → B → Type 0) (f : ℕ → ℕ → A) (g : ℕ → ℕ → B) (n m : ℕ) (a : A) (b : B) → P n m a b →
+    ((j k : ℕ) → (j ≢ n) ⊎ (k ≢ m) → P j k (f j k) (g j k)) → (j k : ℕ) → P j k (put_at f n m a j k) (put_at g n m b j k)
+put_at-both P f g n m a b here there j k = elim (pair_cases n m j k) [
+  | Both e h ↦ subst₂ (λ x y. P x y (put_at f n m a x y) (put_at g n m b x y)) (sym e) (sym h) (subst₂ (P n m) (sym (put_at-here f n m a)) (sym (put_at-here g n m b)) here)
+  | Other h ↦ subst₂ (P j k) (sym (put_at-apart f n m a j k h)) (sym (put_at-apart g n m b j k h)) (there j k h)
+]
+
+pub put_at-all : {A : Type 0} (P : ℕ → ℕ → A → Type 0) (f : ℕ → ℕ → A) (n m : ℕ) (a : A) → P n m a → ((j k : ℕ) → (j ≢ n) ⊎ (k ≢ m) → P j k (f j k)) → (j k : ℕ) → P j k (put_at f n m a j k)
+put_at-all P f n m a here there = put_at-both (λ j k x y. P j k x) f f n m a a here there
 
 -- ## notes
 
