@@ -8,7 +8,7 @@ use Rattle.bmx_token.specs.declared.parts.Ask.{Ask}
 use Rattle.bmx_token.specs.Turns.{Share, Note, Asks, Recalls, Send, send, Turn, Act, turn_of, made_share, silently}
 use Rattle.bmx_object.specs.Machine.{Slip, Draft, Object, Step, Run, Stays, Goes, IsNowhere, IsUnneeded, draft, numbered, with_holding, issue, issue_all, moved, popped, letter_turn}
 use Rattle.bmx_object.specs.Machine as machine
-use Rattle.bmx_object.proofs.Tallies.{tally, tally-append, notes, notes-append, Same, Apart, cases, same_true, apart_false, put_at-here, put_at-apart, Both, Other, pair_cases}
+use Rattle.bmx_object.proofs.Tallies.{tally, tally-append, notes, notes-append, Same, Apart, cases, same_true, apart_false, put_at-all, put_at-here, put_at-apart, Both, Other, pair_cases}
 use Rattle.bmx_object.proofs.Acts.{Acts, Rests}
 use Rattle.bmx_object.proofs.Handlers.{turn_acts, letter_acts}
 
@@ -45,15 +45,11 @@ drafted-apart me d n k (inr h) = by_test (me == n) (d.to == k) (apart_false d.to
     by_test false u e = refl
 
 pub issue_notes : (o : Object) (me : ℕ) (d : Draft) (n k : ℕ) → notes ((issue o me d).way n k) ≡ notes (o.way n k) ++ drafted me d n k
-issue_notes o me d n k = elim (pair_cases me d.to n k) [
-  | Both e f ↦ subst₂ (λ x y. notes ((issue o me d).way x y) ≡ notes (o.way x y) ++ drafted me d x y) (sym e) (sym f) here
-  | Other h ↦ ap notes (put_at-apart o.way me d.to (o.way me d.to ++ numbered (o.issued me d.to + 1) d ∷ []) n k h) ∙ sym (append-nil (notes (o.way n k)))
-      ∙ ap (λ (x : List Note). notes (o.way n k) ++ x) (sym (drafted-apart me d n k h))
-]
+issue_notes o me d n k = put_at-all (λ x y w. notes w ≡ notes (o.way x y) ++ drafted me d x y) o.way me d.to _ here
+    (λ x y h. sym (append-nil (notes (o.way x y))) ∙ ap (λ (z : List Note). notes (o.way x y) ++ z) (sym (drafted-apart me d x y h))) n k
   where
-    here : notes ((issue o me d).way me d.to) ≡ notes (o.way me d.to) ++ drafted me d me d.to
-    here = ap notes (put_at-here o.way me d.to (o.way me d.to ++ numbered (o.issued me d.to + 1) d ∷ []))
-        ∙ notes-append (o.way me d.to) (numbered (o.issued me d.to + 1) d ∷ [])
+    here : notes (o.way me d.to ++ numbered (o.issued me d.to + 1) d ∷ []) ≡ notes (o.way me d.to) ++ drafted me d me d.to
+    here = notes-append (o.way me d.to) (numbered (o.issued me d.to + 1) d ∷ [])
         ∙ ap (λ (x : List Note). notes (o.way me d.to) ++ x) (append-nil (option_to_list d.note) ∙ sym (drafted-here me d))
 
 pub issue_all_holds : (o : Object) (me : ℕ) (drafts : List Draft) → (issue_all o me drafts).holds ≡ o.holds
@@ -121,12 +117,9 @@ came-apart from me taken n k (inl h) = by_test (me == k) (from == n) (apart_fals
 
 pub popped_notes : (o : Object) (from me : ℕ) (l : Slip) (rest : List Slip) → o.way from me ≡ l ∷ rest → (n k : ℕ) →
     notes (o.way n k) ≡ came from me l.note n k ++ notes ((popped o from me l rest).way n k)
-popped_notes o from me l rest way n k = elim (pair_cases from me n k) [
-  | Both e f ↦ subst₂ (λ x y. notes (o.way x y) ≡ came from me l.note x y ++ notes ((popped o from me l rest).way x y)) (sym e) (sym f)
-      (ap notes way ∙ sym (ap (λ (x : List Note). x ++ notes ((popped o from me l rest).way from me)) (came-here from me l.note)
-      ∙ ap (λ (x : List Slip). option_to_list l.note ++ notes x) (put_at-here o.way from me rest)))
-  | Other h ↦ sym (ap (λ (x : List Note). x ++ notes ((popped o from me l rest).way n k)) (came-apart from me l.note n k h) ∙ ap notes (put_at-apart o.way from me rest n k h))
-]
+popped_notes o from me l rest way n k = put_at-all (λ x y w. notes (o.way x y) ≡ came from me l.note x y ++ notes w) o.way from me rest
+    (ap notes way ∙ ap (λ (x : List Note). x ++ notes rest) (sym (came-here from me l.note)))
+    (λ x y h. ap (λ (z : List Note). z ++ notes (o.way x y)) (sym (came-apart from me l.note x y h))) n k
 
 -- ## what a step does to shares and ways
 

@@ -4,7 +4,7 @@ use Rattle.std.proofs.Common.{◌≡◌, ◌⊎◌, inl, inr, ℕ, ◌+◌, ◌�
 use Rattle.std.specs.Prelude.{if◌then◌else◌, Option, Some, None}
 use Rattle.bmx_graph.specs.State.{put, put_at}
 use Rattle.bmx_object.specs.Machine.{Numbers, sent_in, got_in}
-use Rattle.bmx_object.proofs.Tallies.{put_at-here, put_at-apart, Both, Other, pair_cases}
+use Rattle.bmx_object.proofs.Tallies.{put_at-here, put_at-apart, put_at-all, put_at-both, Both, Other, pair_cases}
 
 pub record Letter : Type 0 where
   pub seq : ℕ
@@ -72,15 +72,9 @@ pub record IsCounted (o : Traffic) : Type 0 where
 
 pub issue_counted : (o : Traffic) (me : ℕ) (d : Draft) → IsCounted o → IsCounted (issue o me d)
 issue_counted o me d c = record {
-  ways = λ n m. elim (pair_cases me d.to n m) [
-    | Both e f ↦ subst₂ (λ x y. Counted (o.taken y x) ((issue o me d).way x y) ((issue o me d).issued x y)) (sym e) (sym f) here
-    | Other h ↦ subst₂ (λ w i. Counted (o.taken m n) w i) (sym (put_at-apart o.way me d.to _ n m h)) (sym (put_at-apart o.issued me d.to _ n m h)) (c.ways n m)
-  ];
+  ways = put_at-both (λ n m w i. Counted (o.taken m n) w i) o.way o.issued me d.to _ _
+      (counted_more (o.way me d.to) (o.taken d.to me) (o.issued me d.to) (numbered (o.issued me d.to + 1) d) (c.ways me d.to) refl) (λ n m h. c.ways n m);
 }
-  where
-    here : Counted (o.taken d.to me) ((issue o me d).way me d.to) ((issue o me d).issued me d.to)
-    here = subst₂ (λ w i. Counted (o.taken d.to me) w i) (sym (put_at-here o.way me d.to _)) (sym (put_at-here o.issued me d.to _))
-        (counted_more (o.way me d.to) (o.taken d.to me) (o.issued me d.to) (numbered (o.issued me d.to + 1) d) (c.ways me d.to) refl)
 
 turned : {A B : Type 0} → A ⊎ B → B ⊎ A
 turned (inl a) = inr a
@@ -107,30 +101,16 @@ pub issue_entering : (Q : Option Numbers → Type 0) → ((seq : ℕ) (r : Optio
     (o : Traffic) (me : ℕ) (d : Draft) (n m : ℕ) → Q (o.entering n m) → Q ((issue o me d).entering n m)
 issue_entering Q more o me d n m h = by_test d.gives
   where
-    r : Option Numbers
-    r = Some (sent_in (o.issued me d.to + 1) (o.entering me d.to))
-
-    by_test : (t : Bool) → Q ((cond t (put_at o.entering me d.to r) o.entering) n m)
-    by_test true = elim (pair_cases me d.to n m) [
-      | Both e f ↦ subst₂ (λ x y. Q (put_at o.entering me d.to r x y)) (sym e) (sym f)
-          (subst Q (sym (put_at-here o.entering me d.to r)) (more (o.issued me d.to + 1) (o.entering me d.to) (subst₂ (λ x y. Q (o.entering x y)) e f h)))
-      | Other c ↦ subst Q (sym (put_at-apart o.entering me d.to r n m c)) h
-    ]
+    by_test : (t : Bool) → Q ((cond t (put_at o.entering me d.to (Some (sent_in (o.issued me d.to + 1) (o.entering me d.to)))) o.entering) n m)
+    by_test true = put_at-all (λ j k r. Q (o.entering j k) → Q r) o.entering me d.to _ (more (o.issued me d.to + 1) (o.entering me d.to)) (λ j k c x. x) n m h
     by_test false = h
 
 pub taking_entering : (Q : Option Numbers → Type 0) → ((seq : ℕ) (r : Option Numbers) → Q r → Q (Some (got_in seq r))) →
     (o : Traffic) (from me : ℕ) (l : Letter) (rest : List Letter) (n m : ℕ) → Q (o.entering n m) → Q ((taking o from me l rest).entering n m)
 taking_entering Q more o from me l rest n m h = by_test l.brings
   where
-    r : Option Numbers
-    r = Some (got_in l.seq (o.entering me from))
-
-    by_test : (t : Bool) → Q ((cond t (put_at o.entering me from r) o.entering) n m)
-    by_test true = elim (pair_cases me from n m) [
-      | Both e f ↦ subst₂ (λ x y. Q (put_at o.entering me from r x y)) (sym e) (sym f)
-          (subst Q (sym (put_at-here o.entering me from r)) (more l.seq (o.entering me from) (subst₂ (λ x y. Q (o.entering x y)) e f h)))
-      | Other c ↦ subst Q (sym (put_at-apart o.entering me from r n m c)) h
-    ]
+    by_test : (t : Bool) → Q ((cond t (put_at o.entering me from (Some (got_in l.seq (o.entering me from)))) o.entering) n m)
+    by_test true = put_at-all (λ j k r. Q (o.entering j k) → Q r) o.entering me from _ (more l.seq (o.entering me from)) (λ j k c x. x) n m h
     by_test false = h
 
 -- the record of a letter that gives the object, and of one that brings it over
@@ -170,42 +150,20 @@ issue_bounded o me d b = record { records = λ n m. by_test n m d.gives }
     seq : ℕ
     seq = o.issued me d.to + 1
 
-    more : (n m : ℕ) → o.issued n m ≤ put_at o.issued me d.to seq n m
-    more n m = elim (pair_cases me d.to n m) [
-      | Both e f ↦ subst₂ (λ x y. o.issued x y ≤ put_at o.issued me d.to seq x y) (sym e) (sym f) (omega (arith, put_at-here o.issued me d.to seq))
-      | Other c ↦ omega (arith, put_at-apart o.issued me d.to seq n m c)
-    ]
-
     by_test : (n m : ℕ) (t : Bool) → Bounded ((cond t (put_at o.entering me d.to (Some (sent_in seq (o.entering me d.to)))) o.entering) n m) (put_at o.issued me d.to seq n m) (o.taken n m)
-    by_test n m false = bounded_more (o.entering n m) _ _ _ _ (more n m) (omega arith) (b.records n m)
-    by_test n m true = elim (pair_cases me d.to n m) [
-      | Both e f ↦ subst₂ (λ x y. Bounded (put_at o.entering me d.to (Some (sent_in seq (o.entering me d.to))) x y) (put_at o.issued me d.to seq x y) (o.taken x y)) (sym e) (sym f)
-          (subst₂ (λ r i. Bounded r i (o.taken me d.to)) (sym (put_at-here o.entering me d.to _)) (sym (put_at-here o.issued me d.to seq)) (bounded_sent (o.entering me d.to) (o.issued me d.to) (o.taken me d.to) (b.records me d.to)))
-      | Other c ↦ subst (λ r. Bounded r (put_at o.issued me d.to seq n m) (o.taken n m)) (sym (put_at-apart o.entering me d.to _ n m c))
-          (bounded_more (o.entering n m) _ _ _ _ (more n m) (omega arith) (b.records n m))
-    ]
+    by_test n m false = put_at-all (λ j k i. Bounded (o.entering j k) i (o.taken j k)) o.issued me d.to seq
+        (bounded_more (o.entering me d.to) _ _ _ _ (omega arith) (omega arith) (b.records me d.to)) (λ j k c. b.records j k) n m
+    by_test n m true = put_at-both (λ j k r i. Bounded r i (o.taken j k)) o.entering o.issued me d.to _ seq
+        (bounded_sent (o.entering me d.to) (o.issued me d.to) (o.taken me d.to) (b.records me d.to)) (λ j k c. b.records j k) n m
 
 pub taking_bounded : (o : Traffic) (from me : ℕ) (l : Letter) (rest : List Letter) → o.way from me ≡ l ∷ rest → IsCounted o → IsBounded o → IsBounded (taking o from me l rest)
 taking_bounded o from me l rest way c b = record { records = λ n m. by_test n m l.brings }
   where
-    now : ℕ
-    now = o.taken me from + 1
-
     first : l.seq ≡ o.taken me from + 1
     first = (subst (λ w. Counted (o.taken me from) w (o.issued from me)) way (c.ways from me)).0
 
-    more : (n m : ℕ) → o.taken n m ≤ put_at o.taken me from now n m
-    more n m = elim (pair_cases me from n m) [
-      | Both e f ↦ subst₂ (λ x y. o.taken x y ≤ put_at o.taken me from now x y) (sym e) (sym f) (omega (arith, put_at-here o.taken me from now))
-      | Other d ↦ omega (arith, put_at-apart o.taken me from now n m d)
-    ]
-
-    by_test : (n m : ℕ) (t : Bool) → Bounded ((cond t (put_at o.entering me from (Some (got_in l.seq (o.entering me from)))) o.entering) n m) (o.issued n m) (put_at o.taken me from now n m)
-    by_test n m false = bounded_more (o.entering n m) _ _ _ _ (omega arith) (more n m) (b.records n m)
-    by_test n m true = elim (pair_cases me from n m) [
-      | Both e f ↦ subst₂ (λ x y. Bounded (put_at o.entering me from (Some (got_in l.seq (o.entering me from))) x y) (o.issued x y) (put_at o.taken me from now x y)) (sym e) (sym f)
-          (subst₂ (λ r t. Bounded r (o.issued me from) t) (sym (put_at-here o.entering me from _)) (sym (put_at-here o.taken me from now))
-          (subst (λ k. Bounded (Some (got_in k (o.entering me from))) (o.issued me from) (o.taken me from + 1)) (sym first) (bounded_got (o.entering me from) (o.issued me from) (o.taken me from) (b.records me from))))
-      | Other d ↦ subst (λ r. Bounded r (o.issued n m) (put_at o.taken me from now n m)) (sym (put_at-apart o.entering me from _ n m d))
-          (bounded_more (o.entering n m) _ _ _ _ (omega arith) (more n m) (b.records n m))
-    ]
+    by_test : (n m : ℕ) (t : Bool) → Bounded ((cond t (put_at o.entering me from (Some (got_in l.seq (o.entering me from)))) o.entering) n m) (o.issued n m) (put_at o.taken me from (o.taken me from + 1) n m)
+    by_test n m false = put_at-all (λ j k t. Bounded (o.entering j k) (o.issued j k) t) o.taken me from _
+        (bounded_more (o.entering me from) _ _ _ _ (omega arith) (omega arith) (b.records me from)) (λ j k d. b.records j k) n m
+    by_test n m true = put_at-both (λ j k r t. Bounded r (o.issued j k) t) o.entering o.taken me from _ _
+        (rw first (bounded_got (o.entering me from) (o.issued me from) (o.taken me from) (b.records me from))) (λ j k d. b.records j k) n m
