@@ -91,19 +91,19 @@ taken_tabled o me from taken tells q ts (Nothing x y e) t = subst (λ z. IsTable
 taken_tabled o me from taken tells q ts (First l rest way apart x y e) t = subst (λ z. IsTabled (traffic_of z) ts) (sym e)
     (rw (traffic-popped o from me l rest) (taking_tabled (traffic_of o) from me (letter_of l) (map letter_of rest) ts (ap (map letter_of) way) t))
 
-taken_safe : (o : Object) (me from : ℕ) (taken : Option Note) (tells : Bool) (q : Object) → Taking o me from taken tells q → (ts : List Table) (n m : ℕ) → IsSafe (traffic_of o) ts n m → IsSafe (traffic_of q) ts n m
-taken_safe o me from taken tells q (Nothing x y e) ts n m h = subst (λ z. IsSafe (traffic_of z) ts n m) (sym e) h
-taken_safe o me from taken tells q (First l rest way apart x y e) ts n m h = subst (λ z. IsSafe (traffic_of z) ts n m) (sym e)
-    (rw (traffic-popped o from me l rest) (taking_safe (traffic_of o) from me (letter_of l) (map letter_of rest) (ap (map letter_of) way) ts n m h))
+taken_safe : (o : Object) (me from : ℕ) (taken : Option Note) (tells : Bool) (q : Object) → Taking o me from taken tells q → (ts : List Table) (n m : ℕ) → IsSafe (traffic_of o) ts n m None → IsSafe (traffic_of q) ts n m None
+taken_safe o me from taken tells q (Nothing x y e) ts n m h = subst (λ z. IsSafe (traffic_of z) ts n m None) (sym e) h
+taken_safe o me from taken tells q (First l rest way apart x y e) ts n m h = subst (λ z. IsSafe (traffic_of z) ts n m None) (sym e)
+    (rw (traffic-popped o from me l rest) (taking_safe (traffic_of o) from me (letter_of l) (map letter_of rest) (ap (map letter_of) way) ts n m None h))
 
 -- who gave the object in the letter that is taken
 given_safe : (o : Object) (me from : ℕ) (taken : Option Note) (tells : Bool) (q : Object) (ts : ℕ → ℕ → List Table) → Taking o me from taken tells q → IsCounted o → IsRecorded o →
-    IsTabled (traffic_of o) ts → gives taken tells ≡ true → IsSafe (traffic_of o) (ts me from) from me
+    IsTabled (traffic_of o) ts → gives taken tells ≡ true → IsSafe (traffic_of o) (ts me from) from me None
 given_safe o me from taken tells q ts (Nothing x y e) c r t given = (let both : false ≡ true = sym (subst₂ (λ n u. gives n u ≡ false) (sym x) (sym y) refl) ∙ given in absurd cc)
 given_safe o me from taken tells q ts (First l rest way apart x y e) c r t given = by_record (o.entering from me) refl
     ((subst (Each (Recorded (o.entering from me))) way (r.ways from me)).0 (subst₂ (λ n u. gives n u ≡ true) (sym x) (sym y) given))
   where
-    by_record : (z : Option Numbers) → o.entering from me ≡ z → IsIn z l.seq → IsSafe (traffic_of o) (ts me from) from me
+    by_record : (z : Option Numbers) → o.entering from me ≡ z → IsIn z l.seq → IsSafe (traffic_of o) (ts me from) from me None
     by_record None f h = absurd h
     by_record (Some z) f h = giver_safe (traffic_of o) from me (letter_of l) (map letter_of rest) ts (ap (map letter_of) way) c t.within z f h
 
@@ -117,7 +117,7 @@ acting_tabled o p ts a c r t = subst (λ z. IsTabled (traffic_of z) ts) (sym a.i
 
     -- nodes that are safe to look to
     Safe : ℕ → Type 0
-    Safe n = IsSafe (traffic_of q) (ts a.me n) n a.me
+    Safe n = IsSafe (traffic_of q) (ts a.me n) n a.me None
 
     up : (n : ℕ) → stance (o.holds a.me) ≡ Under n → Safe n
     up n e = taken_safe o a.me a.from a.taken a.tells q a.taking (ts a.me n) n a.me (t.parents a.me n (under_looks (o.holds a.me) n e))
@@ -161,7 +161,7 @@ plain_tabled o p ts c r t (machine.Does me refers a h u has is e) plain = acting
 plain_tabled o p ts c r t (machine.Takes from me l rest u apart way is e) plain = acting_tabled o p ts (takes_acting o p from me l rest u apart way is e) c r t
 plain_tabled o p ts c r t (machine.Writes me to tells told e) plain = subst (λ z. IsTabled (traffic_of z) ts) (sym e) (rw (traffic-issue o me d) record {
   within = issue_within (traffic_of o) me (draft_of d) ts t.within;
-  parents = λ m n f. issue_safe (traffic_of o) me (draft_of d) (ts m n) n m (t.parents m n f);
+  parents = λ m n f. issue_safe (traffic_of o) me (draft_of d) (ts m n) n m None (t.parents m n f);
   requests = issue_requests (traffic_of o) me (draft_of d) ts c (λ x. absurd cc) t.requests;
 })
   where
@@ -184,7 +184,7 @@ clears_unneeded s n m may c rec t = record { no_child = no_child; no_gift = no_g
     no_child : (k : Share) → o.holds m ≡ Some k → k.part.role ≡ Parent n →
         (l : Slip) × (before : List Slip) × (after : List Slip) × (o.way m n ≡ before ++ l ∷ after) × (brings l ≡ true)
     no_child k e f =
-        let v : Over (traffic_of o) (s.tables m n) n m =
+        let v : Over (traffic_of o) (s.tables m n) n m None =
         clears_over (traffic_of o) s.tables n m may.table may.numbers there may.unlisted may.has may.sent may.got t (under_looks (o.holds m) n (ap stance e ∙ ap stance_as f)) in
         brought_there (o.way m n) v.grant_letter v.there v.brings_it
 
@@ -214,7 +214,7 @@ clears_unneeded s n m may c rec t = record { no_child = no_child; no_gift = no_g
 first_tabled : (o : Object) → IsFirst o → IsTabled (traffic_of o) (λ m n. [])
 first_tabled o first = record {
   within = λ m n x i. absurd i;
-  parents = λ m n e. inr (λ x i u. absurd i);
+  parents = λ m n e. inr (λ x i u b. absurd i);
   requests = λ m n l i a. absurd (subst (λ w. In l (map letter_of w)) ((untouched o first).way m n) i);
 }
 
