@@ -7,7 +7,7 @@ use Rattle.bmx_token.specs.declared.parts.Part.{Part}
 use Rattle.bmx_token.specs.declared.parts.Role.{Role}
 use Rattle.bmx_token.specs.declared.parts.Role.TheVariants.{Owner, Parent}
 use Rattle.bmx_token.specs.Turns.{Share, Note, Asks, Grants, Recalls, Returns, Send, send, Turn, made_share, heard_share}
-use Rattle.bmx_object.specs.Machine.{Object, Step, Makes, Does, Takes, Writes, Forgets, Clears, Run, IsFirst, Absent as NotYet, Born, IsFirstElsewhere, Unknown, Heard}
+use Rattle.bmx_object.specs.Machine.{Object, Step, Makes, Does, Takes, Writes, Forgets, Clears, Run, IsFirst}
 use Rattle.bmx_object.specs.Laws.{owned_at, queue_at}
 use Rattle.bmx_object.proofs.Tallies.{notes, Cases, Same, Apart, cases, same_true, apart_false}
 use Rattle.bmx_object.proofs.First.{untouched, first_holds}

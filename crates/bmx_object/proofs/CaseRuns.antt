@@ -2,13 +2,14 @@
 use Rattle.std.proofs.Common.{◌≡◌, ◌≢◌, ℕ, arith, refl, ap, sym, subst, Bool, true, false, cond, List, [], ◌∷◌}
 use Rattle.std.specs.Prelude.{◌==◌, ◌&&◌, Option, Some, None}
 use Rattle.std.proofs.lemmas.Bool.{eqb-false}
-use Rattle.bmx_types.specs.declared.numbers.Mode.TheVariants.{Write}
-use Rattle.bmx_token.specs.Turns.{Share, Grants, Act, Turn, turn_of, made_share, heard_share}
+use Rattle.bmx_types.specs.declared.numbers.Mode.TheVariants.{Read, Write}
+use Rattle.bmx_token.specs.Turns.{Share, Grants, Acquires, Act, Turn, turn_of, made_share, heard_share}
 use Rattle.bmx_object.specs.Machine.{Slip, Object, Does, Takes, Run, Stays, Goes, IsFirst, Born, IsFirstElsewhere, Unknown, Heard, IsFirstRecord, Numbers, no_numbers, popped, letter_turn}
 use Rattle.bmx_object.specs.Tables.{MayClear}
-use Rattle.bmx_object.specs.Laws.{Gave, Leads, Here, On}
+use Rattle.bmx_object.specs.Laws.{WantsArePlaced, Gave, Leads, Here, On}
 use Rattle.bmx_object.proofs.Tallies.{eqb_true}
-use Rattle.bmx_object.specs.Cases.{Next, Do, Take, after_turn, did, took, next, after, first_holds, opening, letter, handed_over, the_taker_waits, table_of_the_owner, tabled}
+use Rattle.bmx_object.proofs.Stated.{each_want_is_placed}
+use Rattle.bmx_object.specs.Cases.{Next, Do, Take, after_turn, did, took, next, after, first_holds, opening, letter, asked, handed_over, the_taker_waits, table_of_the_owner, tabled}
 
 -- what comes next is a step of the machine, or nothing
 did_runs : (o p : Object) → Run o p → (me : ℕ) (a : Act) (h : Option Share) → p.holds me ≡ h → Run o (did p me a h)
@@ -71,6 +72,10 @@ opens = Born
     recorded n true u e = (let both : true ≡ false = ap copies e in absurd cc)
     recorded n false true e = refl
     recorded n false false e = absurd cc
+
+-- so each law holds of them, as that each want stands at one spot where node 1 has asked
+its_want_is_placed : WantsArePlaced asked
+its_want_is_placed = each_want_is_placed opening asked opens (nexts_run opening (Do 1 (Acquires Read) ∷ []))
 
 -- the taker of ownership leads to its giver
 the_taker_leads : Leads handed_over 1 1

@@ -1,5 +1,5 @@
 -- What holds where a store opens.
-use Rattle.std.proofs.Common.{◌≡◌, ◌≢◌, ℕ, ap, sym, subst, ◌∙◌}
+use Rattle.std.proofs.Common.{◌≢◌, ℕ, sym, subst}
 use Rattle.std.specs.Prelude.{Option, Some, None}
 use Rattle.bmx_token.specs.Turns.{Share, made_share, heard_share}
 use Rattle.bmx_object.specs.Machine.{Object, IsFirst, Absent, Born, IsFirstElsewhere, Unknown, Heard, IsUntouched}

@@ -9,7 +9,6 @@ pub mod Roles
 pub mod Owners
 pub mod Times
 pub mod Pairs
-pub mod CaseRuns
 pub mod Sound
 pub mod Views
 pub mod Shared
@@ -26,3 +25,4 @@ pub mod Tables
 pub mod Cleaning
 pub mod Short
 pub mod Stated
+pub mod CaseRuns

@@ -1,5 +1,5 @@
 -- A step of the object as one act of one node: what is left on each way, and what is put behind it.
-use Rattle.std.proofs.Common.{◌≡◌, ◌≢◌, ◌⊎◌, inl, inr, ℕ, ◌+◌, arith, List, [], ◌∷◌, ◌++◌, append_assoc, append-nil, map, refl, ap, sym, subst, subst₂, ◌∙◌, Bool, true, false, cond}
+use Rattle.std.proofs.Common.{◌≡◌, ◌≢◌, ◌⊎◌, inl, inr, ℕ, ◌+◌, arith, List, [], ◌∷◌, ◌++◌, append_assoc, append-nil, map, refl, ap, sym, subst, ◌∙◌, Bool, true, false, cond}
 use Rattle.std.specs.Prelude.{◌==◌, if◌then◌else◌, Option, Some, None}
 use Rattle.std.specs.Option.{option_to_list}
 use Rattle.bmx_types.specs.declared.numbers.Mode.{Mode}
@@ -8,7 +8,7 @@ use Rattle.bmx_token.specs.declared.parts.Ask.{Ask}
 use Rattle.bmx_token.specs.Turns.{Share, Note, Asks, Recalls, Send, send, Turn, Act, turn_of, made_share, silently}
 use Rattle.bmx_object.specs.Machine.{Slip, Draft, Object, Step, Run, Stays, Goes, IsNowhere, IsUnneeded, draft, numbered, with_holding, issue, issue_all, moved, popped, letter_turn}
 use Rattle.bmx_object.specs.Machine as machine
-use Rattle.bmx_object.proofs.Tallies.{tally, tally-append, notes, notes-append, Same, Apart, cases, same_true, apart_false, put_at-all, put_at-here, put_at-apart, Both, Other, pair_cases}
+use Rattle.bmx_object.proofs.Tallies.{tally, tally-append, notes, notes-append, Same, Apart, cases, same_true, apart_false, put_at-all}
 use Rattle.bmx_object.proofs.Acts.{Acts, Rests}
 use Rattle.bmx_object.proofs.Handlers.{turn_acts, letter_acts}
 

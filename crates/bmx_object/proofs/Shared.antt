@@ -6,8 +6,9 @@ use Rattle.bmx_types.specs.declared.numbers.Mode.{Mode}
 use Rattle.bmx_types.specs.declared.numbers.Mode.TheVariants.{Read, Write}
 use Rattle.bmx_token.specs.declared.parts.Role.{Role}
 use Rattle.bmx_token.specs.declared.parts.Role.TheVariants.{Owner, Parent}
-use Rattle.bmx_token.specs.Turns.{Share, Note, Asks, Grants, Recalls, Returns, Turn, silently, made_share, heard_share}
-use Rattle.bmx_object.specs.Machine.{Slip, Object, Run, IsFirst, Absent, Born, IsFirstElsewhere, Unknown, Heard, IsUnneeded, with_holding, gives}
+use Rattle.bmx_graph.specs.State.{put}
+use Rattle.bmx_token.specs.Turns.{Share, Note, Asks, Grants, Recalls, Returns, Turn, silently, made_share}
+use Rattle.bmx_object.specs.Machine.{Slip, Object, Run, IsFirst, IsUnneeded, with_holding, gives}
 use Rattle.bmx_object.specs.Laws.{owned_at, Seat, At, TokensExclude}
 use Rattle.bmx_object.proofs.Tallies.{tally, tally-append, read_grant, recall, return, notes, behind, behind-append, behind_no_recall, behind_no_grant, Cases, Same, Apart, cases, same_true}
 use Rattle.bmx_object.proofs.First.{untouched, first_holds}
@@ -69,49 +70,31 @@ holds_here w v me from taken m h n t = h.holds n ∙ ap (λ (u : Bool). cond u m
 holds_there : (w v : Object) (me from : ℕ) (taken : Option Note) (m : Turn) → Moves w v me from taken m → (n : ℕ) → (me == n) ≡ false → v.holds n ≡ w.holds n
 holds_there w v me from taken m h n t = h.holds n ∙ ap (λ (u : Bool). cond u m.after (w.holds n)) t
 
+-- what holds of the one who acts and of each that doesn't, by what it has, sends and takes
+side : (P : Option Share → Option Share → List Note → List Note → Type 0) → ((h : Option Share) → P h h [] []) →
+    (w v : Object) (me from : ℕ) (taken : Option Note) (m : Turn) → Moves w v me from taken m → (n k : ℕ) →
+    P (w.holds me) m.after (notes_to k m.sends) (taken_of from taken k) → P (w.holds n) (v.holds n) (sent me m.sends n k) (came from me taken k n)
+side P rest w v me from taken m h n k given = rw (h.holds n) (by_case (cases n me))
+  where
+    by_case : Cases n me → P (w.holds n) (put w.holds me m.after n) (sent me m.sends n k) (came from me taken k n)
+    by_case (Same e t) = rw (t, e) given
+    by_case (Apart e t) = rw t (rest (w.holds n))
+
 owner_at : (F : ℕ → ℕ → ℕ → ℕ → ℕ → ℕ → ℕ → Type 0) → ((r q : ℕ) → F r q r q 0 0 0) →
-    (w v : Object) (me from : ℕ) (taken : Option Note) (m : Turn) → Moves w v me from taken m →
-    ((x : ℕ) → AsOwner F from taken (w.holds me) m x) → (n k : ℕ) →
+    (w v : Object) (me from : ℕ) (taken : Option Note) (m : Turn) → Moves w v me from taken m → ((x : ℕ) → AsOwner F from taken (w.holds me) m x) → (n k : ℕ) →
     F (times k (reads_of (w.holds n))) (times k (waits_of (w.holds n))) (times k (reads_of (v.holds n))) (times k (waits_of (v.holds n)))
     (tally read_grant (sent me m.sends n k)) (tally recall (sent me m.sends n k)) (tally return (came from me taken k n))
-owner_at F rest w v me from taken m h given n k = by_case (cases n me)
-  where
-    by_case : Cases n me →
-        F (times k (reads_of (w.holds n))) (times k (waits_of (w.holds n))) (times k (reads_of (v.holds n))) (times k (waits_of (v.holds n)))
-        (tally read_grant (sent me m.sends n k)) (tally recall (sent me m.sends n k)) (tally return (came from me taken k n))
-    by_case (Same e t) =
-        let after : v.holds n ≡ m.after = holds_here w v me from taken m h n t in
-        let before : w.holds n ≡ w.holds me = ap w.holds e in
-        let out : sent me m.sends n k ≡ notes_to k m.sends = ap (λ (u : Bool). cond u (notes_to k m.sends) []) t in
-        let into : came from me taken k n ≡ taken_of from taken k = ap (λ (u : Bool). cond u (taken_of from taken k) []) t in
-        rw (after, before, out, into) (given k)
-    by_case (Apart e t) =
-        let after : v.holds n ≡ w.holds n = holds_there w v me from taken m h n t in
-        let out : sent me m.sends n k ≡ [] = ap (λ (u : Bool). cond u (notes_to k m.sends) []) t in
-        let into : came from me taken k n ≡ [] = ap (λ (u : Bool). cond u (taken_of from taken k) []) t in
-        rw (after, out, into) (rest (times k (reads_of (w.holds n))) (times k (waits_of (w.holds n))))
+owner_at F rest w v me from taken m h given n k =
+    side (λ h g out into. F (times k (reads_of h)) (times k (waits_of h)) (times k (reads_of g)) (times k (waits_of g)) (tally read_grant out) (tally recall out) (tally return into))
+    (λ h. rest (times k (reads_of h)) (times k (waits_of h))) w v me from taken m h n k (given k)
 
 reader_at : (F : ℕ → ℕ → ℕ → ℕ → ℕ → ℕ → ℕ → Type 0) → ((r q : ℕ) → F r q r q 0 0 0) →
-    (w v : Object) (me from : ℕ) (taken : Option Note) (m : Turn) → Moves w v me from taken m →
-    ((x : ℕ) → AsReader F from taken (w.holds me) m x) → (n k : ℕ) →
+    (w v : Object) (me from : ℕ) (taken : Option Note) (m : Turn) → Moves w v me from taken m → ((x : ℕ) → AsReader F from taken (w.holds me) m x) → (n k : ℕ) →
     F (copy_from n (w.holds k)) (due_to n (w.holds k)) (copy_from n (v.holds k)) (due_to n (v.holds k))
     (tally read_grant (came from me taken n k)) (tally recall (came from me taken n k)) (tally return (sent me m.sends k n))
-reader_at F rest w v me from taken m h given n k = by_case (cases k me)
-  where
-    by_case : Cases k me →
-        F (copy_from n (w.holds k)) (due_to n (w.holds k)) (copy_from n (v.holds k)) (due_to n (v.holds k))
-        (tally read_grant (came from me taken n k)) (tally recall (came from me taken n k)) (tally return (sent me m.sends k n))
-    by_case (Same e t) =
-        let after : v.holds k ≡ m.after = holds_here w v me from taken m h k t in
-        let before : w.holds k ≡ w.holds me = ap w.holds e in
-        let out : sent me m.sends k n ≡ notes_to n m.sends = ap (λ (u : Bool). cond u (notes_to n m.sends) []) t in
-        let into : came from me taken n k ≡ taken_of from taken n = ap (λ (u : Bool). cond u (taken_of from taken n) []) t in
-        rw (after, before, out, into) (given n)
-    by_case (Apart e t) =
-        let after : v.holds k ≡ w.holds k = holds_there w v me from taken m h k t in
-        let out : sent me m.sends k n ≡ [] = ap (λ (u : Bool). cond u (notes_to n m.sends) []) t in
-        let into : came from me taken n k ≡ [] = ap (λ (u : Bool). cond u (taken_of from taken n) []) t in
-        rw (after, out, into) (rest (copy_from n (w.holds k)) (due_to n (w.holds k)))
+reader_at F rest w v me from taken m h given n k =
+    side (λ h g out into. F (copy_from n h) (due_to n h) (copy_from n g) (due_to n g) (tally read_grant into) (tally recall into) (tally return out))
+    (λ h. rest (copy_from n h) (due_to n h)) w v me from taken m h k n (given n)
 
 owner_still : (r q : ℕ) → OwnerRests r q r q 0 0 0
 owner_still r q = record { more = omega arith; same = refl; no_grant = refl; no_recall = refl; no_return = refl }
