@@ -18,7 +18,7 @@ use Rattle.bmx_object.proofs.Moves.{notes_to, Taking, Nothing, Letter as First, 
 use Rattle.bmx_object.proofs.Roles.{stance, stance_as, Under, under_is, not_owning, Looks, Stays as Keeps, Meets, Turns, Gains, Hands, acts_look}
 use Rattle.bmx_object.proofs.Owners.{write_sends_one}
 use Rattle.bmx_object.proofs.First.{untouched}
-use Rattle.bmx_object.proofs.Letters.{letter_of, draft_of, traffic_of, map-append, traffic-issue, traffic-popped, traffic-holding, IsCounted, taking_counted, counted_run, IsIn, Recorded, IsRecorded, recorded_run}
+use Rattle.bmx_object.proofs.Letters.{letter_of, draft_of, traffic_of, map-append, traffic-issue, traffic-popped, traffic-holding, IsCounted, IsIn, Recorded, IsOrderly, taking_orderly, orderly_run}
 use Rattle.bmx_object.proofs.Readers.{one_or_more}
 use Rattle.bmx_object.proofs.Asked.{AskThose, rest_those, Asking, AsksThose, AsksTaker, acts_ask}
 use Rattle.bmx_object.proofs.Forgetting.{unneeded}
@@ -97,19 +97,19 @@ taken_safe o me from taken tells q (First l rest way apart x y e) ts n m h = sub
     (rw (traffic-popped o from me l rest) (taking_safe (traffic_of o) from me (letter_of l) (map letter_of rest) (ap (map letter_of) way) ts n m None h))
 
 -- who gave the object in the letter that is taken
-given_safe : (o : Object) (me from : ℕ) (taken : Option Note) (tells : Bool) (q : Object) (ts : ℕ → ℕ → List Table) → Taking o me from taken tells q → IsCounted o → IsRecorded o →
+given_safe : (o : Object) (me from : ℕ) (taken : Option Note) (tells : Bool) (q : Object) (ts : ℕ → ℕ → List Table) → Taking o me from taken tells q → IsOrderly o →
     IsTabled (traffic_of o) ts → gives taken tells ≡ true → IsSafe (traffic_of o) (ts me from) from me None
-given_safe o me from taken tells q ts (Nothing x y e) c r t given = (let both : false ≡ true = sym (subst₂ (λ n u. gives n u ≡ false) (sym x) (sym y) refl) ∙ given in absurd cc)
-given_safe o me from taken tells q ts (First l rest way apart x y e) c r t given = by_record (o.entering from me) refl
-    ((subst (Each (Recorded (o.entering from me))) way (r.ways from me)).0 (subst₂ (λ n u. gives n u ≡ true) (sym x) (sym y) given))
+given_safe o me from taken tells q ts (Nothing x y e) g t given = (let both : false ≡ true = sym (subst₂ (λ n u. gives n u ≡ false) (sym x) (sym y) refl) ∙ given in absurd cc)
+given_safe o me from taken tells q ts (First l rest way apart x y e) g t given = by_record (o.entering from me) refl
+    ((subst (Each (Recorded (o.entering from me))) way (g.recorded.ways from me)).0 (subst₂ (λ n u. gives n u ≡ true) (sym x) (sym y) given))
   where
     by_record : (z : Option Numbers) → o.entering from me ≡ z → IsIn z l.seq → IsSafe (traffic_of o) (ts me from) from me None
     by_record None f h = absurd h
-    by_record (Some z) f h = giver_safe (traffic_of o) from me (letter_of l) (map letter_of rest) ts (ap (map letter_of) way) c t.within z f h
+    by_record (Some z) f h = giver_safe (traffic_of o) from me (letter_of l) (map letter_of rest) ts (ap (map letter_of) way) g.counted t.within z f h
 
-acting_tabled : (o p : Object) (ts : ℕ → ℕ → List Table) → Acting o p → IsCounted o → IsRecorded o → IsTabled (traffic_of o) ts → IsTabled (traffic_of p) ts
-acting_tabled o p ts a c r t = subst (λ z. IsTabled (traffic_of z) ts) (sym a.is) (rw (traffic-moved q a.me a.refers a.turn)
-    (turned_tabled (traffic_of q) a.me (looks_to a.turn.after) (drafts_of a.refers a.turn.sends) ts (taking_counted o a.me a.from a.taken a.tells q a.taking c)
+acting_tabled : (o p : Object) (ts : ℕ → ℕ → List Table) → Acting o p → IsOrderly o → IsTabled (traffic_of o) ts → IsTabled (traffic_of p) ts
+acting_tabled o p ts a g t = subst (λ z. IsTabled (traffic_of z) ts) (sym a.is) (rw (traffic-moved q a.me a.refers a.turn)
+    (turned_tabled (traffic_of q) a.me (looks_to a.turn.after) (drafts_of a.refers a.turn.sends) ts (taking_orderly o a.me a.from a.taken a.tells q a.taking g).counted
     (taken_tabled o a.me a.from a.taken a.tells q ts a.taking t) (by_looks (acts_look a.me a.from a.taken a.tells (o.holds a.me) a.turn a.acts))))
   where
     q : Object
@@ -123,7 +123,7 @@ acting_tabled o p ts a c r t = subst (λ z. IsTabled (traffic_of z) ts) (sym a.i
     up n e = taken_safe o a.me a.from a.taken a.tells q a.taking (ts a.me n) n a.me (t.parents a.me n (under_looks (o.holds a.me) n e))
 
     giver : gives a.taken a.tells ≡ true → Safe a.from
-    giver g = taken_safe o a.me a.from a.taken a.tells q a.taking (ts a.me a.from) a.from a.me (given_safe o a.me a.from a.taken a.tells q ts a.taking c r t g)
+    giver given = taken_safe o a.me a.from a.taken a.tells q a.taking (ts a.me a.from) a.from a.me (given_safe o a.me a.from a.taken a.tells q ts a.taking g t given)
 
     -- a turn that hands nothing over
     those : ((k : ℕ) → tally handover (notes_to k a.turn.sends) ≡ 0) → tables.AskThose Safe (drafts_of a.refers a.turn.sends)
@@ -155,25 +155,25 @@ unlooking_tabled : (o : Object) (me : ℕ) (h : Option Share) (ts : ℕ → ℕ 
 unlooking_tabled o me h ts none c t = rw (traffic-holding o me h)
     (turned_tabled (traffic_of o) me (looks_to h) [] ts c t (Safely (λ n e. (let both : true ≡ false = sym e ∙ none n in absurd cc)) tt))
 
-plain_tabled : (o p : Object) (ts : ℕ → ℕ → List Table) → IsCounted o → IsRecorded o → IsTabled (traffic_of o) ts → (step : Step o p) → IsPlain step → IsTabled (traffic_of p) ts
-plain_tabled o p ts c r t (machine.Makes me nowhere e) plain = subst (λ z. IsTabled (traffic_of z) ts) (sym e) (unlooking_tabled o me (Some made_share) ts (λ n. refl) c t)
-plain_tabled o p ts c r t (machine.Does me refers a h u has is e) plain = acting_tabled o p ts (does_acting o p me refers a h u has is e) c r t
-plain_tabled o p ts c r t (machine.Takes from me l rest u apart way is e) plain = acting_tabled o p ts (takes_acting o p from me l rest u apart way is e) c r t
-plain_tabled o p ts c r t (machine.Writes me to tells told e) plain = subst (λ z. IsTabled (traffic_of z) ts) (sym e) (rw (traffic-issue o me d) record {
+plain_tabled : (o p : Object) (ts : ℕ → ℕ → List Table) → IsOrderly o → IsTabled (traffic_of o) ts → (step : Step o p) → IsPlain step → IsTabled (traffic_of p) ts
+plain_tabled o p ts g t (machine.Makes me nowhere e) plain = subst (λ z. IsTabled (traffic_of z) ts) (sym e) (unlooking_tabled o me (Some made_share) ts (λ n. refl) g.counted t)
+plain_tabled o p ts g t (machine.Does me refers a h u has is e) plain = acting_tabled o p ts (does_acting o p me refers a h u has is e) g t
+plain_tabled o p ts g t (machine.Takes from me l rest u apart way is e) plain = acting_tabled o p ts (takes_acting o p from me l rest u apart way is e) g t
+plain_tabled o p ts g t (machine.Writes me to tells told e) plain = subst (λ z. IsTabled (traffic_of z) ts) (sym e) (rw (traffic-issue o me d) record {
   within = issue_within (traffic_of o) me (draft_of d) ts t.within;
   parents = λ m n f. issue_safe (traffic_of o) me (draft_of d) (ts m n) n m None (t.parents m n f);
-  requests = issue_requests (traffic_of o) me (draft_of d) ts c (λ x. absurd cc) t.requests;
+  requests = issue_requests (traffic_of o) me (draft_of d) ts g.counted (λ x. absurd cc) t.requests;
 })
   where
     d : machine.Draft
     d = record { to = to; note = None; tells = tells }
-plain_tabled o p ts c r t (machine.Forgets me h has u e) plain = absurd plain
-plain_tabled o p ts c r t (machine.Clears me other u e) plain = absurd plain
+plain_tabled o p ts g t (machine.Forgets me h has u e) plain = absurd plain
+plain_tabled o p ts g t (machine.Clears me other u e) plain = absurd plain
 
 -- ## what the cleaner's test says
 
-pub clears_unneeded : (s : Tabled) (n m : ℕ) → MayClear s n m → IsCounted s.object → IsRecorded s.object → IsTabled (traffic_of s.object) s.tables → IsUnneededRecord s.object n m
-clears_unneeded s n m may c rec t = record { no_child = no_child; no_gift = no_gift; no_ask = no_ask }
+pub clears_unneeded : (s : Tabled) (n m : ℕ) → MayClear s n m → IsOrderly s.object → IsTabled (traffic_of s.object) s.tables → IsUnneededRecord s.object n m
+clears_unneeded s n m may orderly t = record { no_child = no_child; no_gift = no_gift; no_ask = no_ask }
   where
     o : Object
     o = s.object
@@ -197,15 +197,15 @@ clears_unneeded s n m may c rec t = record { no_child = no_child; no_gift = no_g
         by_test : (b : Bool) → gives l.note l.tells ≡ b → gives l.note l.tells ≡ false
         by_test false f = f
         by_test true f =
-            let sent_it : l.seq ≤ may.numbers.sent = subst (λ q. IsIn q l.seq) may.has (each_there (Recorded (o.entering n m)) (o.way n m) (rec.ways n m) l before after e f) in
-            let late : o.taken m n + 1 ≤ l.seq = above (o.taken m n) (o.issued n m) (map letter_of (o.way n m)) (letter_of l) (c.ways n m) inside in
+            let sent_it : l.seq ≤ may.numbers.sent = subst (λ q. IsIn q l.seq) may.has (each_there (Recorded (o.entering n m)) (o.way n m) (orderly.recorded.ways n m) l before after e f) in
+            let late : o.taken m n + 1 ≤ l.seq = above (o.taken m n) (o.issued n m) (map letter_of (o.way n m)) (letter_of l) (orderly.counted.ways n m) inside in
             absurd (omega (arith, sent_it, late, may.sent, (t.within m n may.table there).1))
 
     no_ask : (l : Slip) (before after : List Slip) → o.way m n ≡ before ++ l ∷ after → asks l ≡ true →
         (g : Slip) × (front : List Slip) × (back : List Slip) × (before ≡ front ++ g ∷ back) × (brings g ≡ true)
     no_ask l before after e a =
         let x : (g : Letter) × In g (map letter_of before) × (g.brings ≡ true) =
-        clears_front (traffic_of o) s.tables n m may.table may.numbers there may.unlisted may.has may.taken may.sent may.got c t (letter_of l) (map letter_of before) (map letter_of after)
+        clears_front (traffic_of o) s.tables n m may.table may.numbers there may.unlisted may.has may.taken may.sent may.got orderly.counted t (letter_of l) (map letter_of before) (map letter_of after)
         (split_map (o.way m n) l before after e) a in
         brought_there before x.0 x.1 x.2
 
@@ -222,21 +222,21 @@ first_tabled o first = record {
 table_step : (o : Object) (s t : Tabled) → IsFirst o → Run o s.object → IsTabled (traffic_of s.object) s.tables → TableStep s t → Run o t.object × IsTabled (traffic_of t.object) t.tables
 table_step o s t first run tabled (Moves step plain e) = (
   Run.Goes run step,
-  subst (IsTabled (traffic_of t.object)) (sym e) (plain_tabled s.object t.object s.tables (counted_run o s.object first run) (recorded_run o s.object first run) tabled step plain),
+  subst (IsTabled (traffic_of t.object)) (sym e) (plain_tabled s.object t.object s.tables (orderly_run o s.object first run) tabled step plain),
 )
 table_step o s t first run tabled (Forgets me h may e f) = (
   Run.Goes run (Step.Forgets me h may.has (unneeded o s.object first run me h may.has may.idle may.no_record) e),
-  subst₂ (λ p ts. IsTabled (traffic_of p) ts) (sym e) (sym f) (unlooking_tabled s.object me None s.tables (λ n. refl) (counted_run o s.object first run) tabled),
+  subst₂ (λ p ts. IsTabled (traffic_of p) ts) (sym e) (sym f) (unlooking_tabled s.object me None s.tables (λ n. refl) (orderly_run o s.object first run).counted tabled),
 )
 table_step o s t first run tabled (Tabulates m n e f) = (
   subst (Run o) (sym e) run,
-  subst₂ (λ p ts. IsTabled (traffic_of p) ts) (sym e) (sym f) (tabulated (traffic_of s.object) s.tables m n (counted_run o s.object first run) tabled),
+  subst₂ (λ p ts. IsTabled (traffic_of p) ts) (sym e) (sym f) (tabulated (traffic_of s.object) s.tables m n (orderly_run o s.object first run).counted tabled),
 )
 table_step o s t first run tabled (Clears n m may e f) =
-    let c : IsCounted s.object = counted_run o s.object first run in (
-      Run.Goes run (Step.Clears n m (clears_unneeded s n m may c (recorded_run o s.object first run) tabled) e),
+    let g : IsOrderly s.object = orderly_run o s.object first run in (
+      Run.Goes run (Step.Clears n m (clears_unneeded s n m may g tabled) e),
       subst₂ (λ p ts. IsTabled (traffic_of p) ts) (sym e) (sym f)
-          (cleared_tabled (traffic_of s.object) s.tables n m may.table may.numbers (contains_in may.table (s.tables m n) may.made) may.unlisted may.has may.taken may.sent may.got c tabled),
+          (cleared_tabled (traffic_of s.object) s.tables n m may.table may.numbers (contains_in may.table (s.tables m n) may.made) may.unlisted may.has may.taken may.sent may.got g.counted tabled),
     )
 
 -- whatever steps are taken with tables, however late and often tables are taken, the object's are a run of its machine
@@ -250,4 +250,4 @@ table_run o t first (Goes {t = u} run step) =
 pub cleaned_unneeded : (o : Object) (s : Tabled) → IsFirst o → TableRun (untabled o) s → (n m : ℕ) → MayClear s n m → IsUnneededRecord s.object n m
 cleaned_unneeded o s first run n m may =
     let x : Run o s.object × IsTabled (traffic_of s.object) s.tables = table_run o s first run in
-    clears_unneeded s n m may (counted_run o s.object first x.0) (recorded_run o s.object first x.0) x.1
+    clears_unneeded s n m may (orderly_run o s.object first x.0) x.1

@@ -23,7 +23,7 @@ use Rattle.bmx_object.proofs.Views.{reads_of, waits_of, due_to, due_as}
 use Rattle.bmx_object.proofs.Shared.{IsShared, shared_run}
 use Rattle.bmx_object.proofs.Readers.{one_or_more}
 use Rattle.bmx_object.proofs.Requests.{IsRequested, queued, Spot, Unasked, OnWay, Queued, Granted, IsAlone, same_spot, stands, unwanting, unwanting_as, wants_or_not, requested_run}
-use Rattle.bmx_object.proofs.Letters.{IsIn, Recorded, NoGift, Knows, recorded_run, giving_run, bounded_run}
+use Rattle.bmx_object.proofs.Letters.{IsIn, Recorded, NoGift, Knows, orderly_run, giving_run}
 use Rattle.bmx_object.proofs.Parents.{AnswersFor, IsPointed, pointed_run, granted_wants, over_there}
 use Rattle.bmx_object.proofs.Asked.{some_brings, fits_there, over_brings, has_record, NoAsk, asked_run}
 use Rattle.bmx_object.proofs.Apart.{IsApart, no_own_read, apart_run}
@@ -330,7 +330,7 @@ each_contains P (k ∷ letters) l h c = by_place (one_or_more k letters l c) (ea
 
 pub gifts_are_recorded : GiftsAreRecorded
 gifts_are_recorded o p first run = record {
-  gifts = λ n m l c g. gift n m l c g (in_some (p.entering n m) l.seq (each_contains (Recorded (p.entering n m)) (p.way n m) l ((recorded_run o p first run).ways n m) c g));
+  gifts = λ n m l c g. gift n m l c g (in_some (p.entering n m) l.seq (each_contains (Recorded (p.entering n m)) (p.way n m) l ((orderly_run o p first run).recorded.ways n m) c g));
   within = within;
 }
   where
@@ -343,7 +343,7 @@ gifts_are_recorded o p first run = record {
     gift n m l c g x = (knows n m l c g ((giving_run o p first run).ways n m), x.0, x.1, x.2)
 
     within : (n m : ℕ) (r : Numbers) → p.entering n m ≡ Some r → (r.sent ≤ p.issued n m) × (r.got ≤ p.taken n m)
-    within n m r e = subst (λ x. Bounded x (p.issued n m) (p.taken n m)) e ((bounded_run o p first run).records n m)
+    within n m r e = subst (λ x. Bounded x (p.issued n m) (p.taken n m)) e ((orderly_run o p first run).bounded.records n m)
 
 -- ## what nothing needs
 
