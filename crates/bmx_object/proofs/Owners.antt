@@ -1,155 +1,172 @@
--- One owner: each turn of the world keeps that ownership is at one place, or that the object is nowhere.
-use Rattle.std.proofs.Common.{◌≡◌, ◌≢◌, ◌⊎◌, inl, inr, ℕ, ◌+◌, arith, List, [], ◌∷◌, ◌++◌, map, replicate, refl, ap, sym, subst, ◌∙◌, Bool, true, false, cond}
+-- One owner: each step keeps that ownership is at one place, or that the object is nowhere.
+use Rattle.std.proofs.Common.{◌≡◌, ◌≢◌, ◌⊎◌, inl, inr, ℕ, ◌+◌, ◌≤◌, arith, List, [], ◌∷◌, map, refl, ap, sym, subst, ◌∙◌, Bool, true, false, cond}
 use Rattle.std.specs.Prelude.{◌==◌, ◌&&◌, if◌then◌else◌, Option, Some, None}
-use Rattle.bmx_types.specs.declared.numbers.Mode.TheVariants.{Read, Write}
+use Rattle.std.specs.Option.{option_to_list}
+use Rattle.bmx_types.specs.declared.numbers.Mode.TheVariants.{Write}
+use Rattle.bmx_graph.specs.State.{put, put_at}
 use Rattle.bmx_token.specs.declared.parts.Ask.{Ask}
 use Rattle.bmx_token.specs.declared.parts.Role.{Role}
 use Rattle.bmx_token.specs.declared.parts.Role.TheVariants.{Owner, Parent}
-use Rattle.bmx_token.specs.declared.parts.Part.{Part}
-use Rattle.bmx_object.specs.Machine.{Note, Asks, Returns, Tells, send, Holding, Object, Move, Run, IsFirst, Absent, Born, IsFirstElsewhere, Unknown, Heard, made_holding, grant, at_one}
+use Rattle.bmx_token.specs.Turns.{Share, Note, Asks, Grants, send, Turn, silently, made_share}
+use Rattle.bmx_object.specs.Machine.{Slip, Object, Step, Run, IsFirst, Absent, Born, IsFirstElsewhere, Unknown, Heard, IsSilent, IsNowhere, IsUnneeded, with_holding, issue, moved, popped, letter_turn}
+use Rattle.bmx_object.specs.Machine as machine
 use Rattle.bmx_object.specs.Laws.{is_owner, owned_at, Seat, At, Moving, is_at, is_moving, IsOwned, HasOneSeat, OwnershipIsOne}
-use Rattle.bmx_object.proofs.Tallies.{tally, handover, weighs_nothing, tells_weigh_nothing, handovers_in-tally, Cases, Same, Apart, cases, same_true, eqb_true, flat}
-use Rattle.bmx_object.proofs.Flat.{World, seen, notes_to, sent, after_move, without, IsEmpty, IsSpare, Turn}
-use Rattle.bmx_object.proofs.Runs.{IsKept, kept_run, nowhere_of, sent-none}
-use Rattle.bmx_object.proofs.Acts.{Alters, TakesWanted, Reads, Wants, OwnerWrites, Queues, Frees, Readies, Acts, Rests, Hears, AltersTo, Answers, GrantsRead, HandsOver, Revokes, GetsRead, GetsWrite, ReturnsNone, ReturnsNow, ReturnsLater, GetsBack}
-use Rattle.bmx_object.proofs.Handlers.{tally-send, nothing-send}
-use Rattle.bmx_object.proofs.Moves.{came, Moves, Acted, does_acted, takes_acted, writes_acted, tally-came, tally-sent, came-nothing, sent-nothing, tally-before, tally-after, asks-send, recalls-nothing}
+use Rattle.bmx_object.proofs.Tallies.{tally, handover, notes, handovers_in-tally, Cases, Same, Apart, cases, eqb_true, swapped}
+use Rattle.bmx_object.proofs.Roles.{Stance, Absent, Owning, Under, stance, stance_as, Looks, Stays, Meets, Turns as Looking, Gains as Gaining, Hands as Handing, acts_look}
+use Rattle.bmx_object.proofs.Handlers.{some_is}
+use Rattle.bmx_object.proofs.Moves.{notes_to, sent, came, Moves, Acted, Changes, Makes, Turns, Forgets, step_changes, makes_moves, kept_run, tally-came, came-here, tally-sent, came-nothing, sent-nothing, tally-before, tally-after, tally-send, asks-send}
+use Rattle.bmx_object.proofs.Each.{Each, EachWay, each_there, each_of, issue_each, popped_each}
 
 -- ## what an act does with ownership
 
-pub data Owns (taken : List Note) (h : Option Holding) (m : Move) : Type 0 where
-  Keeps : owned_at m.after ≡ owned_at h → tally handover taken ≡ 0 → ((k : ℕ) → tally handover (notes_to k m.sends) ≡ 0) → Owns taken h m
-  Hands : (to : ℕ) → owned_at h ≡ 1 → owned_at m.after ≡ 0 → tally handover taken ≡ 0 →
-      ((k : ℕ) → tally handover (notes_to k m.sends) ≡ (if k == to then 1 else 0)) → Owns taken h m
-  Gains : owned_at m.after ≡ 1 → tally handover taken ≡ 1 → ((k : ℕ) → tally handover (notes_to k m.sends) ≡ 0) → Owns taken h m
+pub data Owns (taken : Option Note) (h : Option Share) (t : Turn) : Type 0 where
+  Keeps : owned_at t.after ≡ owned_at h → tally handover (option_to_list taken) ≡ 0 → ((k : ℕ) → tally handover (notes_to k t.sends) ≡ 0) → Owns taken h t
+  Hands : (to : ℕ) → owned_at h ≡ 1 → owned_at t.after ≡ 0 → tally handover (option_to_list taken) ≡ 0 →
+      ((k : ℕ) → tally handover (notes_to k t.sends) ≡ (if to == k then 1 else 0)) → Owns taken h t
+  Gains : owned_at t.after ≡ 1 → tally handover (option_to_list taken) ≡ 1 → ((k : ℕ) → tally handover (notes_to k t.sends) ≡ 0) → Owns taken h t
 
-pub role_kept : (copy : Bool) (p q : Part) → Alters copy p q → q.role ≡ p.role
-role_kept copy p q (TakesWanted m held want ready e) = ap (λ (x : Part). x.role) e
-role_kept copy p q (Reads has held want e) = ap (λ (x : Part). x.role) e
-role_kept copy p q (Wants m parent role held want e) = ap (λ (x : Part). x.role) e
-role_kept copy p q (OwnerWrites role held readers e) = ap (λ (x : Part). x.role) e
-role_kept copy p q (Queues want a role e) = ap (λ (x : Part). x.role) e
-role_kept copy p q (Frees m held due e) = ap (λ (x : Part). x.role) e
-role_kept copy p q (Readies rest role readers e) = ap (λ (x : Part). x.role) e
-
-owns_same : (taken u : List Note) (h g : Option Holding) (m a : Move) → taken ≡ u → h ≡ g → m ≡ a → Owns u g a → Owns taken h m
-owns_same taken u h g m a t e f o = rw (t, e, f) o
+abbrev is_owning : Stance → Bool
+is_owning Absent = false
+is_owning Owning = true
+is_owning (Under p) = false
 
 abbrev pub owned_as : Role → ℕ
 owned_as r = if is_owner r then 1 else 0
 
-one_send : (k to : ℕ) (note : Note) → handover note ≡ 0 → tally handover (notes_to k (send to (note ∷ []) ∷ [])) ≡ 0
-one_send k to note h = nothing-send handover k to (note ∷ []) [] (omega arith) refl
+pub write_sends_one : (k to : ℕ) (rest : List Ask) →
+    tally handover (notes_to k (send to (Grants Write) ∷ map (λ (a : Ask). send to (Asks a.mode a.asker)) rest)) ≡ cond (to == k) 1 0
+write_sends_one k to rest =
+    tally-send handover k to (Grants Write) (map (λ (a : Ask). send to (Asks a.mode a.asker)) rest)
+    ∙ omega (arith, asks-send handover (λ m asker. refl) k to rest)
 
-read_sends_none : (k to selves : ℕ) → tally handover (notes_to k (send to (grant Read selves) ∷ [])) ≡ 0
-read_sends_none k to selves = nothing-send handover k to (grant Read selves) [] (omega (arith, tells_weigh_nothing handover refl selves)) refl
-
-pub write_sends_one : (k to selves : ℕ) (rest : List Ask) →
-    tally handover (notes_to k (send to (grant Write selves) ∷ map (λ (a : Ask). send to (Asks a.mode a.asker ∷ [])) rest)) ≡ cond (k == to) 1 0
-write_sends_one k to selves rest =
-    tally-send handover k to (grant Write selves) (map (λ (a : Ask). send to (Asks a.mode a.asker ∷ [])) rest) ∙ by_test (k == to)
+pub owned_stance : (h : Option Share) → owned_at h ≡ (if is_owning (stance h) then 1 else 0)
+owned_stance None = refl
+owned_stance (Some h) = by_role h.part.role
   where
-    one : tally handover (grant Write selves) ≡ 1
-    one = omega (arith, tells_weigh_nothing handover refl selves)
+    by_role : (r : Role) → owned_as r ≡ cond {A = ℕ} (is_owning (stance_as r)) 1 0
+    by_role Owner = refl
+    by_role (Parent p) = refl
 
-    by_test : (t : Bool) →
-        cond t (tally handover (grant Write selves)) 0 + tally handover (notes_to k (map (λ (a : Ask). send to (Asks a.mode a.asker ∷ [])) rest)) ≡ cond t 1 0
-    by_test true = omega (arith, one, asks-send handover (λ m asker. refl) k to rest)
-    by_test false = omega (arith, asks-send handover (λ m asker. refl) k to rest)
+owned_by : (h : Option Share) (s : Stance) → stance h ≡ s → owned_at h ≡ cond {A = ℕ} (is_owning s) 1 0
+owned_by h s e = owned_stance h ∙ ap (λ z. cond {A = ℕ} (is_owning z) 1 0) e
 
-pub owns : (from : ℕ) (taken : List Note) (h : Option Holding) (m : Move) → Acts from taken h m → Owns taken h m
-owns from taken h m (Rests after t l) =
-    Keeps (ap owned_at after) (weighs_nothing taken t).handovers (λ k. (weighs_nothing (notes_to k m.sends) (l k)).handovers)
-owns from taken h m (Hears e after t l) =
-    Keeps (ap owned_at after ∙ sym (ap owned_at e)) (weighs_nothing taken t).handovers (λ k. (weighs_nothing (notes_to k m.sends) (l k)).handovers)
-owns from taken h m (AltersTo b q e alters after t l) =
-    Keeps (ap owned_at after ∙ ap owned_as (role_kept b.copy b.part q alters) ∙ sym (ap owned_at e))
-    (weighs_nothing taken t).handovers (λ k. (weighs_nothing (notes_to k m.sends) (l k)).handovers)
-owns from taken h m (Answers b owner held e x y t f) = owns_same _ _ _ _ _ _ t e f (Keeps refl refl (λ k. one_send k owner Returns refl))
-owns from taken h m (GrantsRead b asker selves rest e role queue test t f) =
-    owns_same _ _ _ _ _ _ t e f (Keeps refl refl (λ k. read_sends_none k asker selves))
-owns from taken h m (HandsOver b asker selves rest e role readers test t f) =
-    owns_same _ _ _ _ _ _ t e f (Hands asker (ap owned_as role) refl refl (λ k. write_sends_one k asker selves rest))
-owns from taken h m (Revokes b asker rest e role queue waiting t f) =
-    owns_same _ _ _ _ _ _ t e f (Keeps refl refl (λ k. recalls-nothing handover refl k b.part.readers))
-owns from taken h m (GetsRead b parent e role want ready t f) =
-    owns_same _ _ _ _ _ _ t e f (Keeps (sym (ap owned_as role)) refl (λ k. refl))
-owns from taken h m (GetsWrite b parent e role want ready t f) = owns_same _ _ _ _ _ _ t e f (Gains refl refl (λ k. refl))
-owns from taken h m (ReturnsNone e t f) = owns_same _ _ _ _ _ _ t e f (Keeps refl refl (λ k. one_send k from Returns refl))
-owns from taken h m (ReturnsNow b parent e role due test t f) =
-    owns_same _ _ _ _ _ _ t e f (Keeps refl refl (λ k. one_send k from Returns refl))
-owns from taken h m (ReturnsLater b parent e role due copy test t f) = owns_same _ _ _ _ _ _ t e f (Keeps refl refl (λ k. refl))
-owns from taken h m (GetsBack b e role waited t f) = owns_same _ _ _ _ _ _ t e f (Keeps refl refl (λ k. refl))
+pub owning_owned : (h : Option Share) → stance h ≡ Owning → owned_at h ≡ 1
+owning_owned h e = owned_by h Owning e
+
+pub owned_owning : (h : Option Share) → owned_at h ≡ 1 → stance h ≡ Owning
+owned_owning None e = absurd (omega (arith, e))
+owned_owning (Some b) e = by_role b.part.role e
+  where
+    by_role : (r : Role) → owned_as r ≡ 1 → stance_as r ≡ Owning
+    by_role Owner f = refl
+    by_role (Parent p) f = absurd (omega (arith, f))
+
+owns : (from : ℕ) (taken : Option Note) (tells : Bool) (h : Option Share) (t : Turn) → Looks from taken tells h t → Owns taken h t
+owns from taken tells h t (Stays e x l) = Keeps (owned_by t.after (stance h) e ∙ sym (owned_stance h)) x l
+owns from taken tells h t (Meets e f g x l) = Keeps (owned_by t.after (Under from) f ∙ sym (owned_by h Absent e)) x l
+owns from taken tells h t (Looking p e f x s) = Keeps (owned_by t.after (Under from) f ∙ sym (owned_by h (Under p) e)) (ap (λ n. tally handover (option_to_list n)) x) (λ k. ap (λ n. tally handover (notes_to k n)) s)
+owns from taken tells h t (Gaining p e f x s) = Gains (owned_by t.after Owning f) (ap (λ n. tally handover (option_to_list n)) x) (λ k. ap (λ n. tally handover (notes_to k n)) s)
+owns from taken tells h t (Handing to rest e f x s) =
+    Hands to (owned_by h Owning e) (owned_by t.after (Under to) f) (ap (λ n. tally handover (option_to_list n)) x) (λ k. ap (λ n. tally handover (notes_to k n)) s ∙ write_sends_one k to rest)
 
 -- ## where ownership is
 
--- IsOwned, of a flat world
-pub record IsAt (w : World) (s : Seat) : Type 0 where
-  pub nodes : (n : ℕ) → owned_at (w.holds n) ≡ (if is_at s n then 1 else 0)
-  pub mail : (n k : ℕ) → tally handover (w.mail n k) ≡ (if is_moving s n k then 1 else 0)
+-- IsOwned, by the notes
+pub record IsAt (o : Object) (s : Seat) : Type 0 where
+  pub nodes : (n : ℕ) → owned_at (o.holds n) ≡ (if is_at s n then 1 else 0)
+  pub mail : (n k : ℕ) → tally handover (notes (o.way n k)) ≡ (if is_moving s n k then 1 else 0)
+
+abbrev pub IsSeated : Object → Type 0
+IsSeated o = IsNowhere o ⊎ ((s : Seat) × IsAt o s)
+
+pub silent_ways : (o : Object) → IsNowhere o → EachWay (λ n m. IsSilent) o.way
+silent_ways o h n m = each_of IsSilent (o.way n m) (h.untold n m)
+
+-- no note is on a way where the object is nowhere
+pub nothing_said : (o : Object) → IsNowhere o → (n k : ℕ) → notes (o.way n k) ≡ []
+nothing_said o h n k = none (o.way n k) (silent_ways o h n k)
+  where
+    none : (letters : List Slip) → Each IsSilent letters → notes letters ≡ []
+    none [] e = refl
+    none (l ∷ letters) e = rw (e.0.note, none letters e.1) refl
 
 -- what node n has after the act
-holds_after : (w v : World) (me : ℕ) (after : Option Holding) (n : ℕ) → v.holds n ≡ at_one w.holds me after n →
-    owned_at (v.holds n) ≡ cond (n == me) (owned_at after) (owned_at (w.holds n))
-holds_after w v me after n e = ap owned_at e ∙ by_test (n == me)
+holds_after : (o p : Object) (me : ℕ) (after : Option Share) (n : ℕ) → p.holds n ≡ put o.holds me after n →
+    owned_at (p.holds n) ≡ cond (me == n) (owned_at after) (owned_at (o.holds n))
+holds_after o p me after n e = ap owned_at e ∙ by_test (me == n)
   where
-    by_test : (t : Bool) → owned_at (cond t after (w.holds n)) ≡ cond t (owned_at after) (owned_at (w.holds n))
+    by_test : (t : Bool) → owned_at (cond t after (o.holds n)) ≡ cond t (owned_at after) (owned_at (o.holds n))
     by_test true = refl
     by_test false = refl
 
-keeps_seat : (w v : World) (me from : ℕ) (taken : List Note) (m : Move) (s : Seat) → Moves w v me from taken m → IsAt w s →
-    owned_at m.after ≡ owned_at (w.holds me) → tally handover taken ≡ 0 → ((k : ℕ) → tally handover (notes_to k m.sends) ≡ 0) → IsAt v s
-keeps_seat w v me from taken m s moves at same t none = record {
-  nodes = λ n. holds_after w v me m.after n (moves.holds n) ∙ by_node n (cases n me) ∙ at.nodes n;
+keeps_seat : (o p : Object) (me from : ℕ) (taken : Option Note) (t : Turn) (s : Seat) → Moves o p me from taken t → IsAt o s →
+    owned_at t.after ≡ owned_at (o.holds me) → tally handover (option_to_list taken) ≡ 0 → ((k : ℕ) → tally handover (notes_to k t.sends) ≡ 0) → IsAt p s
+keeps_seat o p me from taken t s moves at same x none = record {
+  nodes = λ n. holds_after o p me t.after n (moves.holds n) ∙ by_node n (cases n me) ∙ at.nodes n;
   mail = λ n k. omega (
     arith,
-    tally-before handover w v me from taken m moves n k,
-    tally-after handover w v me from taken m moves n k,
-    came-nothing handover from me taken n k t,
-    sent-nothing handover me m.sends n k (none k),
+    tally-before handover o p me from taken t moves n k,
+    tally-after handover o p me from taken t moves n k,
+    came-nothing handover from me taken n k x,
+    sent-nothing handover me t.sends n k (none k),
     at.mail n k,
   );
 }
   where
-    by_node : (n : ℕ) → Cases n me → cond (n == me) (owned_at m.after) (owned_at (w.holds n)) ≡ owned_at (w.holds n)
-    by_node n (Same e u) = rw u (same ∙ ap (λ (x : ℕ). owned_at (w.holds x)) (sym e))
+    by_node : (n : ℕ) → Cases n me → cond (me == n) (owned_at t.after) (owned_at (o.holds n)) ≡ owned_at (o.holds n)
+    by_node n (Same e u) = rw u (same ∙ ap (λ (x : ℕ). owned_at (o.holds x)) (sym e))
     by_node n (Apart e u) = rw u refl
 
 one_not_zero : {A : Type 0} (x : ℕ) → x ≡ 1 → x ≡ 0 → A
 one_not_zero x h z = absurd (omega arith)
 
-pub seat_at : (w : World) (me : ℕ) (s : Seat) → IsAt w s → owned_at (w.holds me) ≡ 1 → s ≡ At me
-seat_at w me (At n) at h = by_test (me == n) refl (sym (at.nodes me) ∙ h)
+pub seat_at : (o : Object) (me : ℕ) (s : Seat) → IsAt o s → owned_at (o.holds me) ≡ 1 → s ≡ At me
+seat_at o me (At n) at h = by_test (me == n) refl (sym (at.nodes me) ∙ h)
   where
     by_test : (t : Bool) → (me == n) ≡ t → cond {A = ℕ} t 1 0 ≡ 1 → At n ≡ At me
     by_test true e f = ap (λ (x : ℕ). At x) (sym (eqb_true me n e))
     by_test false e f = one_not_zero 0 f refl
-seat_at w me (Moving j k) at h = one_not_zero (owned_at (w.holds me)) h (at.nodes me)
+seat_at o me (Moving j k) at h = one_not_zero (owned_at (o.holds me)) h (at.nodes me)
 
-seat_moving : (w : World) (from me : ℕ) (s : Seat) → IsAt w s → tally handover (w.mail from me) ≢ 0 → s ≡ Moving from me
-seat_moving w from me (At n) at h = absurd (h (at.mail from me))
-seat_moving w from me (Moving j k) at h = by_test (from == j) (me == k) refl refl (at.mail from me)
+pub seat_moving : (o : Object) (from me : ℕ) (s : Seat) → IsAt o s → tally handover (notes (o.way from me)) ≢ 0 → s ≡ Moving from me
+seat_moving o from me (At n) at h = absurd (h (at.mail from me))
+seat_moving o from me (Moving j k) at h = by_test (from == j) (me == k) refl refl (at.mail from me)
   where
-    by_test : (t u : Bool) → (from == j) ≡ t → (me == k) ≡ u → tally handover (w.mail from me) ≡ cond (t && u) 1 0 → Moving j k ≡ Moving from me
+    by_test : (t u : Bool) → (from == j) ≡ t → (me == k) ≡ u → tally handover (notes (o.way from me)) ≡ cond (t && u) 1 0 → Moving j k ≡ Moving from me
     by_test true true e f g = rw (eqb_true from j e, eqb_true me k f) refl
     by_test true false e f g = absurd (h g)
     by_test false u e f g = absurd (h g)
 
-hands_seat : (w v : World) (me from : ℕ) (taken : List Note) (m : Move) (to : ℕ) → Moves w v me from taken m → IsAt w (At me) →
-    owned_at m.after ≡ 0 → tally handover taken ≡ 0 → ((k : ℕ) → tally handover (notes_to k m.sends) ≡ (if k == to then 1 else 0)) → IsAt v (Moving me to)
-hands_seat w v me from taken m to moves at gone t one = record {
-  nodes = λ n. holds_after w v me m.after n (moves.holds n) ∙ by_node (n == me) (at.nodes n);
+-- where one handover is on its way no other is, and nobody owns it
+pub one_handover : (o : Object) (n k j l : ℕ) → IsSeated o → 1 ≤ tally handover (notes (o.way n k)) → 1 ≤ tally handover (notes (o.way j l)) → (n ≡ j) × (k ≡ l)
+one_handover o n k j l (inl none) a b = absurd (omega (arith, a, ap (tally handover) (nothing_said o none n k)))
+one_handover o n k j l (inr s) a b =
+    let same : Moving n k ≡ Moving j l =
+    sym (seat_moving o n k s.0 s.1 (λ z. absurd (omega (arith, a, z)))) ∙ seat_moving o j l s.0 s.1 (λ z. absurd (omega (arith, b, z))) in
+    (cc, cc)
+
+pub no_owner : {A : Type 0} (o : Object) (n k j : ℕ) → IsSeated o → 1 ≤ tally handover (notes (o.way n k)) → stance (o.holds j) ≡ Owning → A
+no_owner o n k j (inl none) a e = absurd (omega (arith, a, ap (tally handover) (nothing_said o none n k)))
+no_owner o n k j (inr s) a e =
+    let same : Moving n k ≡ At j = sym (seat_moving o n k s.0 s.1 (λ z. absurd (omega (arith, a, z)))) ∙ seat_at o j s.0 s.1 (owning_owned (o.holds j) e) in
+    absurd cc
+
+hands_seat : (o p : Object) (me from : ℕ) (taken : Option Note) (t : Turn) (to : ℕ) → Moves o p me from taken t → IsAt o (At me) →
+    owned_at t.after ≡ 0 → tally handover (option_to_list taken) ≡ 0 → ((k : ℕ) → tally handover (notes_to k t.sends) ≡ (if to == k then 1 else 0)) → IsAt p (Moving me to)
+hands_seat o p me from taken t to moves at gone x one = record {
+  nodes = λ n. holds_after o p me t.after n (moves.holds n) ∙ by_node (me == n) (at.nodes n ∙ ap (λ (z : Bool). cond {A = ℕ} z 1 0) (swapped n me));
   mail = λ n k.
-      let before : tally handover (w.mail n k) ≡ tally handover (came from me taken n k) + tally handover (moves.left n k) =
-      tally-before handover w v me from taken m moves n k in
-      let none : tally handover (w.mail n k) ≡ 0 = at.mail n k in
+      let before : tally handover (notes (o.way n k)) ≡ tally handover (came from me taken n k) + tally handover (moves.left n k) =
+      tally-before handover o p me from taken t moves n k in
+      let none : tally handover (notes (o.way n k)) ≡ 0 = at.mail n k in
       let left : tally handover (moves.left n k) ≡ 0 = omega (arith, before, none) in
-      let new : tally handover (sent me m.sends n k) ≡ cond ((n == me) && (k == to)) 1 0 =
-      tally-sent handover me m.sends n k ∙ ap (λ (x : ℕ). cond (n == me) x 0) (one k) ∙ by_pair (n == me) (k == to) in
-      tally-after handover w v me from taken m moves n k ∙ plus left new;
+      let new : tally handover (sent me t.sends n k) ≡ cond ((n == me) && (k == to)) 1 0 =
+      tally-sent handover me t.sends n k ∙ ap (λ (x : ℕ). cond (me == n) x 0) (one k) ∙ by_pair (me == n) (to == k)
+      ∙ ap (λ (z : Bool). cond {A = ℕ} (z && (to == k)) 1 0) (swapped me n) ∙ ap (λ (z : Bool). cond {A = ℕ} ((n == me) && z) 1 0) (swapped to k) in
+      tally-after handover o p me from taken t moves n k ∙ plus left new;
 }
   where
-    by_node : {x : ℕ} (u : Bool) → x ≡ cond u 1 0 → cond u (owned_at m.after) x ≡ 0
+    by_node : {x : ℕ} (u : Bool) → x ≡ cond u 1 0 → cond u (owned_at t.after) x ≡ 0
     by_node true e = gone
     by_node false e = e
 
@@ -160,143 +177,162 @@ hands_seat w v me from taken m to moves at gone t one = record {
     plus : {x y z : ℕ} → x ≡ 0 → y ≡ z → x + y ≡ z
     plus p q = omega arith
 
-gains_seat : (w v : World) (me from : ℕ) (taken : List Note) (m : Move) → Moves w v me from taken m → IsAt w (Moving from me) →
-    owned_at m.after ≡ 1 → tally handover taken ≡ 1 → ((k : ℕ) → tally handover (notes_to k m.sends) ≡ 0) → IsAt v (At me)
-gains_seat w v me from taken m moves at here t none = record {
-  nodes = λ n. holds_after w v me m.after n (moves.holds n) ∙ by_node (n == me) (at.nodes n);
+gains_seat : (o p : Object) (me from : ℕ) (taken : Option Note) (t : Turn) → Moves o p me from taken t → IsAt o (Moving from me) →
+    owned_at t.after ≡ 1 → tally handover (option_to_list taken) ≡ 1 → ((k : ℕ) → tally handover (notes_to k t.sends) ≡ 0) → IsAt p (At me)
+gains_seat o p me from taken t moves at here x none = record {
+  nodes = λ n. holds_after o p me t.after n (moves.holds n) ∙ by_node (me == n) (at.nodes n) ∙ ap (λ (z : Bool). cond {A = ℕ} z 1 0) (swapped me n);
   mail = λ n k.
-      let before : tally handover (w.mail n k) ≡ tally handover (came from me taken n k) + tally handover (moves.left n k) =
-      tally-before handover w v me from taken m moves n k in
-      let all : cond (k == me) (cond (n == from) (tally handover taken) 0) 0 + tally handover (moves.left n k) ≡ cond ((n == from) && (k == me)) 1 0 =
-      ap (λ (x : ℕ). x + tally handover (moves.left n k)) (sym (tally-came handover from me taken n k)) ∙ sym before ∙ at.mail n k in
-      omega (arith, tally-after handover w v me from taken m moves n k, by_pair (n == from) (k == me) all, sent-nothing handover me m.sends n k (none k));
+      let before : tally handover (notes (o.way n k)) ≡ tally handover (came from me taken n k) + tally handover (moves.left n k) =
+      tally-before handover o p me from taken t moves n k in
+      let all : cond (me == k) (cond (from == n) (tally handover (option_to_list taken)) 0) 0 + tally handover (moves.left n k) ≡ cond ((from == n) && (me == k)) 1 0 =
+      ap (λ (x : ℕ). x + tally handover (moves.left n k)) (sym (tally-came handover from me taken n k)) ∙ sym before ∙ at.mail n k
+      ∙ ap (λ (z : Bool). cond {A = ℕ} (z && (k == me)) 1 0) (swapped n from) ∙ ap (λ (z : Bool). cond {A = ℕ} ((from == n) && z) 1 0) (swapped k me) in
+      omega (arith, tally-after handover o p me from taken t moves n k, by_pair (from == n) (me == k) all, sent-nothing handover me t.sends n k (none k));
 }
   where
-    by_node : {x : ℕ} (u : Bool) → x ≡ 0 → cond u (owned_at m.after) x ≡ cond u 1 0
+    by_node : {x : ℕ} (u : Bool) → x ≡ 0 → cond u (owned_at t.after) x ≡ cond u 1 0
     by_node true e = here
     by_node false e = e
 
-    by_pair : {x : ℕ} (u y : Bool) → cond y (cond u (tally handover taken) 0) 0 + x ≡ cond (u && y) 1 0 → x ≡ 0
-    by_pair true true e = omega (arith, t, e)
+    by_pair : {y : ℕ} (u w : Bool) → cond w (cond u (tally handover (option_to_list taken)) 0) 0 + y ≡ cond (u && w) 1 0 → y ≡ 0
+    by_pair true true e = omega (arith, x, e)
     by_pair true false e = omega (arith, e)
     by_pair false true e = omega (arith, e)
     by_pair false false e = omega (arith, e)
 
 -- ownership is at one place after an act
-abbrev SomeSeat : World → Type 0
-SomeSeat w = (s : Seat) × IsAt w s
+abbrev SomeSeat : Object → Type 0
+SomeSeat o = (s : Seat) × IsAt o s
 
-owned_after : (w v : World) (a : Acted w v) (s : Seat) → IsAt w s → Owns a.taken (w.holds a.me) a.move → SomeSeat v
-owned_after w v a s at (Keeps same t none) = (s, keeps_seat w v a.me a.from a.taken a.move s a.moves at same t none)
-owned_after w v a s at (Hands to mine gone t one) =
-    let here : IsAt w (At a.me) = subst (λ x. IsAt w x) (seat_at w a.me s at mine) at in
-    (Moving a.me to, hands_seat w v a.me a.from a.taken a.move to a.moves here gone t one)
-owned_after w v a s at (Gains mine t none) =
-    let came_to : tally handover (came a.from a.me a.taken a.from a.me) ≡ 1 =
-    tally-came handover a.from a.me a.taken a.from a.me ∙ rw (same_true a.me, same_true a.from) t in
-    let some : tally handover (w.mail a.from a.me) ≢ 0 =
-    λ z. absurd (omega (arith, tally-before handover w v a.me a.from a.taken a.move a.moves a.from a.me, came_to, z)) in
-    let here : IsAt w (Moving a.from a.me) = subst (λ x. IsAt w x) (seat_moving w a.from a.me s at some) at in
-    (At a.me, gains_seat w v a.me a.from a.taken a.move a.moves here mine t none)
+owned_after : (o p : Object) (a : Acted o p) (s : Seat) → IsAt o s → Owns a.taken (o.holds a.me) a.turn → SomeSeat p
+owned_after o p a s at (Keeps same t none) = (s, keeps_seat o p a.me a.from a.taken a.turn s a.moves at same t none)
+owned_after o p a s at (Hands to mine gone t one) =
+    let here : IsAt o (At a.me) = subst (λ x. IsAt o x) (seat_at o a.me s at mine) at in
+    (Moving a.me to, hands_seat o p a.me a.from a.taken a.turn to a.moves here gone t one)
+owned_after o p a s at (Gains mine t none) =
+    let came_to : tally handover (came a.from a.me a.taken a.from a.me) ≡ 1 = ap (tally handover) (came-here a.from a.me a.taken) ∙ t in
+    let some : tally handover (notes (o.way a.from a.me)) ≢ 0 =
+    λ z. absurd (omega (arith, tally-before handover o p a.me a.from a.taken a.turn a.moves a.from a.me, came_to, z)) in
+    let here : IsAt o (Moving a.from a.me) = subst (λ x. IsAt o x) (seat_moving o a.from a.me s at some) at in
+    (At a.me, gains_seat o p a.me a.from a.taken a.turn a.moves here mine t none)
 
 -- ## what is kept
 
-abbrev pub IsSeated : World → Type 0
-IsSeated w = IsEmpty w ⊎ ((s : Seat) × IsAt w s)
-
-seated_after : (w v : World) → Acted w v → (s : Seat) × IsAt w s → IsSeated v
-seated_after w v a at = inr (owned_after w v a at.0 at.1 (owns a.from a.taken (w.holds a.me) a.move a.acts))
-
 -- its maker owns it
-made : (w v : World) (me : ℕ) → IsEmpty w → v ≡ after_move w me record { after = Some made_holding; sends = [] } → IsSeated v
-made w v me none e = inr (
-  At me,
-  subst (λ x. IsAt x (At me)) (sym e) record {
-    nodes = λ n. by_node (w.holds n) (n == me) (ap owned_at (none.unknown n));
-    mail = λ n k. ap (λ (x : List Note). tally handover (x ++ sent me [] n k)) (none.untold n k) ∙ ap (λ (x : List Note). tally handover x) (sent-none me n k);
-  },
-)
+made : (o p : Object) (me : ℕ) → IsNowhere o → Moves o p me me None (silently made_share) → IsAt p (At me)
+made o p me none moves = record {
+  nodes = λ n. holds_after o p me (Some made_share) n (moves.holds n) ∙ by_node (me == n) (ap owned_at (none.unknown n)) ∙ ap (λ (z : Bool). cond {A = ℕ} z 1 0) (swapped me n);
+  mail = λ n k. omega (
+    arith,
+    tally-before handover o p me me None (silently made_share) moves n k,
+    tally-after handover o p me me None (silently made_share) moves n k,
+    sent-nothing handover me [] n k refl,
+    ap (tally handover) (nothing_said o none n k),
+  );
+}
   where
-    by_node : (h : Option Holding) (u : Bool) → owned_at h ≡ 0 → owned_at (cond u (Some made_holding) h) ≡ cond u 1 0
-    by_node h true e = refl
-    by_node h false e = e
-
-empty_writes : (w v : World) (me to tells : ℕ) → IsEmpty w → tells ≡ 0 →
-    v ≡ after_move w me record { after = w.holds me; sends = send to (replicate tells Tells) ∷ [] } → IsEmpty v
-empty_writes w v me to tells none zero e =
-    subst IsEmpty (sym (e ∙ ap (λ (x : ℕ). after_move w me record { after = w.holds me; sends = send to (replicate x Tells) ∷ [] }) zero)) record {
-      unknown = λ n. by_node (w.holds n) (n == me) (none.unknown n);
-      untold = λ n k. ap (λ (x : List Note). x ++ sent me (send to [] ∷ []) n k) (none.untold n k) ∙ by_pair (n == me) (k == to);
-    }
-  where
-    by_node : (h : Option Holding) (u : Bool) → h ≡ None → cond u (w.holds me) h ≡ None
-    by_node h true e = none.unknown me
-    by_node h false e = e
-
-    by_pair : (u x : Bool) → cond {A = List Note} u (cond x [] [] ++ []) [] ≡ []
-    by_pair true true = refl
-    by_pair true false = refl
-    by_pair false x = refl
-
-none_is_not : {A : Type 0} (h : Option Holding) (b : Holding) → h ≡ None → h ≡ Some b → A
-none_is_not h b e f = absurd cc
-
-nil_is_not : {A : Type 0} (a : List Note) (n : Note) (rest : List Note) → a ≡ [] → a ≡ n ∷ rest → A
-nil_is_not a n rest e f = absurd cc
+    by_node : {x : ℕ} (u : Bool) → x ≡ 0 → cond u 1 x ≡ cond u 1 0
+    by_node true e = refl
+    by_node false e = e
 
 -- a node that isn't the owner forgets, or the owner does and the object is nowhere
-seated_without : (w : World) (me : ℕ) (h : Holding) → w.holds me ≡ Some h → IsSpare w me h → (s : Seat) → IsAt w s → IsSeated (without w me)
-seated_without w me h has spare s at = by_role h.part.role refl
+seated_without : (o : Object) (me : ℕ) (h : Share) → o.holds me ≡ Some h → IsUnneeded o me h → (s : Seat) → IsAt o s → IsSeated (with_holding o me None)
+seated_without o me h has u s at = by_role h.part.role refl
   where
-    by_node : (n : ℕ) → owned_as h.part.role ≡ 0 → Cases n me → owned_at (cond (n == me) None (w.holds n)) ≡ owned_at (w.holds n)
-    by_node n child (Same e t) = rw t (sym (ap (λ (x : ℕ). owned_at (w.holds x)) e ∙ ap owned_at has ∙ child))
+    by_node : (n : ℕ) → owned_as h.part.role ≡ 0 → Cases n me → owned_at (cond (me == n) None (o.holds n)) ≡ owned_at (o.holds n)
+    by_node n child (Same e t) = rw t (sym (ap (λ (x : ℕ). owned_at (o.holds x)) e ∙ ap owned_at has ∙ child))
     by_node n child (Apart e t) = rw t refl
 
-    by_role : (r : Role) → h.part.role ≡ r → IsSeated (without w me)
-    by_role Owner e = inl (spare.alone e)
+    by_role : (r : Role) → h.part.role ≡ r → IsSeated (with_holding o me None)
+    by_role Owner e = inl (u.alone e)
     by_role (Parent x) e = inr (s, record { nodes = λ n. by_node n (ap owned_as e) (cases n me) ∙ at.nodes n; mail = at.mail })
 
-pub seated_kept : IsKept IsSeated
-seated_kept w v (inl none) (Turn.Makes me empty e) = made w v me none e
-seated_kept w v (inl none) (Turn.Does me selves a h has e) = none_is_not (w.holds me) h (none.unknown me) has
-seated_kept w v (inl none) (Turn.Takes from me note rest m way t e) = nil_is_not (w.mail from me) note rest (none.untold from me) way
-seated_kept w v (inl none) (Turn.Writes me to tells told e) = inl (empty_writes w v me to tells none (told (none.unknown me)) e)
-seated_kept w v (inl none) (Turn.Forgets me h has spare e) = none_is_not (w.holds me) h (none.unknown me) has
-seated_kept w v (inr at) (Turn.Makes me empty e) = made w v me empty e
-seated_kept w v (inr at) (Turn.Does me selves a h has e) = seated_after w v (does_acted w v me selves a h has e) at
-seated_kept w v (inr at) (Turn.Takes from me note rest m way t e) = seated_after w v (takes_acted w v from me note rest m way t e) at
-seated_kept w v (inr at) (Turn.Writes me to tells told e) = seated_after w v (writes_acted w v me to tells e) at
-seated_kept w v (inr at) (Turn.Forgets me h has spare e) = subst IsSeated (sym e) (seated_without w me h has spare at.0 at.1)
+-- ## an object that is nowhere
+
+pub no_share : {A : Type 0} (h : Option Share) (b : Share) → h ≡ None → h ≡ Some b → A
+no_share h b e f = absurd cc
+
+-- a silent letter is taken, and its taker still has nothing
+silent_taken : (o : Object) (from me : ℕ) (l : Slip) (rest : List Slip) (t : Turn) → IsNowhere o → o.way from me ≡ l ∷ rest → letter_turn me from l (o.holds me) ≡ Some t →
+    IsNowhere (moved (popped o from me l rest) me false t)
+silent_taken o from me l rest t none way is = subst (λ x. IsNowhere (moved (popped o from me l rest) me false x)) same record {
+  unknown = λ n. by_node n (me == n);
+  untold = λ n m. each_there IsSilent (put_at o.way from me rest n m) (popped_each (λ n m. IsSilent) o from me l rest way each n m);
+}
+  where
+    each : EachWay (λ n m. IsSilent) o.way
+    each = silent_ways o none
+
+    first : Each IsSilent (l ∷ rest)
+    first = subst (Each IsSilent) way (each from me)
+
+    turn : Turn
+    turn = record { after = None; sends = [] }
+
+    same : turn ≡ t
+    same = some_is turn t (sym (turn_is l.note l.tells (o.holds me) first.0.note first.0.tells (none.unknown me)) ∙ is)
+      where
+        turn_is : (note : Option Note) (tells : Bool) (h : Option Share) → note ≡ None → tells ≡ false → h ≡ None →
+            letter_turn me from (record { seq = l.seq; note = note; tells = tells }) h ≡ Some turn
+        turn_is said told h e f g = rw (e, f, g) refl
+
+    by_node : (n : ℕ) (u : Bool) → cond u None (o.holds n) ≡ None
+    by_node n true = refl
+    by_node n false = none.unknown n
+
+silent_issued : (o : Object) (me to : ℕ) (tells : Bool) → IsNowhere o → tells ≡ false → IsNowhere (issue o me (record { to = to; note = None; tells = tells }))
+silent_issued o me to tells none e = record {
+  unknown = none.unknown;
+  untold = λ n m. each_there IsSilent ((issue o me (record { to = to; note = None; tells = tells })).way n m)
+      (issue_each (λ n m. IsSilent) o me (record { to = to; note = None; tells = tells }) (silent_ways o none) record { note = refl; tells = e } n m);
+}
+
+seated_nowhere : (o p : Object) → IsNowhere o → Step o p → IsSeated p
+seated_nowhere o p none (machine.Does me refers a h t has is e) = no_share (o.holds me) h (none.unknown me) has
+seated_nowhere o p none (machine.Takes from me l rest t apart way is e) = inl (subst IsNowhere (sym e) (silent_taken o from me l rest t none way is))
+seated_nowhere o p none (machine.Writes me to tells told e) = inl (subst IsNowhere (sym e) (silent_issued o me to tells none (told (none.unknown me))))
+seated_nowhere o p none (machine.Forgets me h has u e) = no_share (o.holds me) h (none.unknown me) has
+seated_nowhere o p none (machine.Clears me other u e) = inl (subst IsNowhere (sym e) record { unknown = none.unknown; untold = none.untold })
+seated_nowhere o p none (machine.Makes me nowhere e) = inr (At me, made o p me none (makes_moves o p me e))
+
+seated_changes : (o p : Object) (s : Seat) → IsAt o s → Changes o p → IsSeated p
+seated_changes o p s at (Makes me none moves) = inr (At me, made o p me none moves)
+seated_changes o p s at (Turns a) = inr (owned_after o p a s at (owns a.from a.taken a.tells (o.holds a.me) a.turn (acts_look a.me a.from a.taken a.tells (o.holds a.me) a.turn a.acts)))
+seated_changes o p s at (Forgets me h has u e) = subst IsSeated (sym e) (seated_without o me h has u s at)
+
+pub seated_step : (o p : Object) → IsSeated o → Step o p → IsSeated p
+seated_step o p (inl none) step = seated_nowhere o p none step
+seated_step o p (inr at) step = seated_changes o p at.0 at.1 (step_changes o p step)
 
 -- ## the law
 
-seated_first : (o : Object) → IsFirst o → IsSeated (seen o)
-seated_first o (Absent first holds) = inl record { unknown = holds; untold = λ n k. ap flat (first.way n k) }
+seated_first : (o : Object) → IsFirst o → IsSeated o
+seated_first o (Absent first holds) = inl record { unknown = holds; untold = λ n m. each_there IsSilent (o.way n m) (subst (Each IsSilent) (sym (first.way n m)) tt) }
 seated_first o (Born first born) = inr (
   At 0,
   record {
-    nodes = λ n. by_node n (cases n 0);
-    mail = λ n k. ap (λ x. tally handover (flat x)) (first.way n k);
+    nodes = λ n. by_node n (cases n 0) ∙ ap (λ (z : Bool). cond {A = ℕ} z 1 0) (swapped 0 n);
+    mail = λ n k. ap (λ x. tally handover (notes x)) (first.way n k);
   },
 )
   where
-    by_first : (h : Option Holding) → IsFirstElsewhere h → owned_at h ≡ 0
+    by_first : (h : Option Share) → IsFirstElsewhere h → owned_at h ≡ 0
     by_first h (Unknown e) = ap owned_at e
     by_first h (Heard e) = ap owned_at e
 
-    by_node : (n : ℕ) → Cases n 0 → owned_at (o.holds n) ≡ cond (n == 0) 1 0
+    by_node : (n : ℕ) → Cases n 0 → owned_at (o.holds n) ≡ cond (0 == n) 1 0
     by_node n (Same e t) = rw t (ap (λ (x : ℕ). owned_at (o.holds x)) e ∙ ap owned_at born.owner)
     by_node n (Apart e t) = rw t (by_first (o.holds n) (born.others n e))
 
-pub owned_of : (o : Object) (s : Seat) → IsAt (seen o) s → IsOwned o s
+pub owned_of : (o : Object) (s : Seat) → IsAt o s → IsOwned o s
 owned_of o s at = record { nodes = at.nodes; letters = λ n m. handovers_in-tally (o.way n m) ∙ at.mail n m }
 
-pub seated_run : (o p : Object) → IsFirst o → Run o p → IsSeated (seen p)
-seated_run o p first run = kept_run IsSeated seated_kept o p (seated_first o first) run
+pub seated_run : (o p : Object) → IsFirst o → Run o p → IsSeated p
+seated_run o p first run = kept_run IsSeated seated_step o p (seated_first o first) run
 
 pub ownership_is_one : OwnershipIsOne
 ownership_is_one o p first run = by_place (seated_run o p first run)
   where
-    by_place : IsSeated (seen p) → HasOneSeat p
-    by_place (inl none) = inl (nowhere_of p none)
+    by_place : IsSeated p → HasOneSeat p
+    by_place (inl none) = inl none
     by_place (inr at) = inr (at.0, owned_of p at.0 at.1)

@@ -1,18 +1,18 @@
 -- The owner's readers: who has a copy beside it, or is to get one, is among them.
-use Rattle.std.proofs.Common.{◌≡◌, ◌⊎◌, inl, inr, ℕ, ◌+◌, ◌≤◌, arith, List, [], ◌∷◌, zero, suc, refl, ap, sym, subst, ◌∙◌, Bool, true, false, cond}
+use Rattle.std.proofs.Common.{◌≡◌, ◌⊎◌, inl, inr, ℕ, ◌+◌, ◌≤◌, arith, List, [], ◌∷◌, zero, suc, refl, ap, ◌∙◌, Bool, true, false, cond}
 use Rattle.std.specs.Prelude.{if◌then◌else◌, Option, Some, None, Contains}
+use Rattle.std.specs.Option.{option_to_list}
 use Rattle.bmx_types.specs.declared.numbers.Mode.TheVariants.{Read}
 use Rattle.bmx_token.specs.declared.parts.Role.{Role}
 use Rattle.bmx_token.specs.declared.parts.Role.TheVariants.{Owner, Parent}
-use Rattle.bmx_object.specs.Machine.{Note, Grants, Slip, Holding, Object}
+use Rattle.bmx_token.specs.Turns.{Share, Note, Grants}
+use Rattle.bmx_object.specs.Machine.{Slip, Object}
 use Rattle.bmx_object.specs.Laws.{is_owner, HasReader, ReadersAreListed}
-use Rattle.bmx_object.proofs.Tallies.{tally, tally-append, read_grant, flat, Cases, Same, Apart, cases, same_true}
-use Rattle.bmx_object.proofs.Flat.{seen}
-use Rattle.bmx_object.proofs.Runs.{kept_run}
+use Rattle.bmx_object.proofs.Tallies.{tally, tally-append, read_grant, notes, Cases, Same, Apart, cases, same_true}
 use Rattle.bmx_object.proofs.Times.{times}
 use Rattle.bmx_object.proofs.Sound.{IsSound, IsSoundIf}
 use Rattle.bmx_object.proofs.Views.{reads_of, copied_as, copy_from}
-use Rattle.bmx_object.proofs.Shared.{IsShared, shared_kept, shared_first}
+use Rattle.bmx_object.proofs.Shared.{IsShared, shared_run}
 
 -- ## lists
 
@@ -23,37 +23,29 @@ one_or_more y xs x (suc k, below, is) = inr (k, omega arith, is)
 -- who is counted is there
 listed_once : (x : ℕ) (ys : List ℕ) → 1 ≤ times x ys → Contains ys x
 listed_once x [] h = absurd (omega arith)
-listed_once x (y ∷ ys) h = by_case (cases x y) (listed_once x ys)
+listed_once x (y ∷ ys) h = by_case (cases y x) (listed_once x ys)
   where
-    by_case : Cases x y → (1 ≤ times x ys → Contains ys x) → Contains (y ∷ ys) x
-    by_case (Same e t) rest = (0, omega arith, sym e)
+    by_case : Cases y x → (1 ≤ times x ys → Contains ys x) → Contains (y ∷ ys) x
+    by_case (Same e t) rest = (0, omega arith, e)
     by_case (Apart e t) rest =
         let more : 1 ≤ (if false then 1 else 0) + times x ys = rw t at h in
         let c : Contains ys x = rest (omega arith) in
         (suc c.0, omega (arith, c.1), c.2)
 
--- a note that is there weighs at least what it weighs alone
-weighed : (f : Note → ℕ) (notes : List Note) (n : Note) → Contains notes n → f n ≤ tally f notes
-weighed f [] n c = absurd (omega (arith, c.1))
-weighed f (m ∷ notes) n c = by_place (one_or_more m notes n c) (weighed f notes n)
+-- a note that is on its way weighs at least what it weighs alone
+weighed : (f : Note → ℕ) (letters : List Slip) (l : Slip) (n : Note) → Contains letters l → l.note ≡ Some n → f n ≤ tally f (notes letters)
+weighed f [] l n c d = absurd (omega (arith, c.1))
+weighed f (k ∷ letters) l n c d = by_place (one_or_more k letters l c) (λ there. weighed f letters l n there d)
   where
-    by_place : (m ≡ n) ⊎ Contains notes n → (Contains notes n → f n ≤ tally f notes) → f n ≤ f m + tally f notes
-    by_place (inl here) rest = omega (arith, ap f here)
-    by_place (inr there) rest = omega (arith, rest there)
-
-weighed_in : (f : Note → ℕ) (letters : List Slip) (l : Slip) (n : Note) → Contains letters l → Contains l.notes n → f n ≤ tally f (flat letters)
-weighed_in f [] l n c d = absurd (omega (arith, c.1))
-weighed_in f (k ∷ letters) l n c d = by_place (one_or_more k letters l c) (λ there. weighed_in f letters l n there d)
-  where
-    by_place : (k ≡ l) ⊎ Contains letters l → (Contains letters l → f n ≤ tally f (flat letters)) → f n ≤ tally f (flat (k ∷ letters))
+    by_place : (k ≡ l) ⊎ Contains letters l → (Contains letters l → f n ≤ tally f (notes letters)) → f n ≤ tally f (notes (k ∷ letters))
     by_place (inl here) rest =
-        omega (arith, tally-append f k.notes (flat letters), weighed f k.notes n (subst (λ (s : Slip). Contains s.notes n) (sym here) d))
-    by_place (inr there) rest = omega (arith, tally-append f k.notes (flat letters), rest there)
+        omega (arith, tally-append f (option_to_list k.note) (notes letters), ap (λ (x : Option Note). tally f (option_to_list x)) (ap (λ (x : Slip). x.note) here ∙ d))
+    by_place (inr there) rest = omega (arith, tally-append f (option_to_list k.note) (notes letters), rest there)
 
 -- ## the law
 
 -- who has a reader is the owner
-owns_it : (b : Holding) (x : ℕ) → IsSound b → 1 ≤ times x b.part.readers → is_owner b.part.role ≡ true
+owns_it : (b : Share) (x : ℕ) → IsSound b → 1 ≤ times x b.part.readers → is_owner b.part.role ≡ true
 owns_it b x s r = by_role b.part.role refl
   where
     by_role : (role : Role) → b.part.role ≡ role → is_owner b.part.role ≡ true
@@ -62,23 +54,23 @@ owns_it b x s r = by_role b.part.role refl
         let none : times x b.part.readers ≡ 0 = ap (times x) (s.child_alone y e) in
         absurd (omega arith)
 
-has_reader : (o : Object) (n x : ℕ) (h : Option Holding) → o.holds n ≡ h → IsSoundIf h → 1 ≤ times x (reads_of h) → HasReader o n x
+has_reader : (o : Object) (n x : ℕ) (h : Option Share) → o.holds n ≡ h → IsSoundIf h → 1 ≤ times x (reads_of h) → HasReader o n x
 has_reader o n x None e s r = absurd (omega arith)
-has_reader o n x (Some b) e s r = record { holding = b; has = e; owns = owns_it b x s r; listed = listed_once x b.part.readers r }
+has_reader o n x (Some b) e s r = record { share = b; has = e; owns = owns_it b x s r; listed = listed_once x b.part.readers r }
 
 pub readers_are_listed : ReadersAreListed
 readers_are_listed o p first run = record {
   copies = λ n parent h has copy asks. reader parent n (copied n parent h has copy asks);
-  grants = λ n m l there says. reader n m ((shared.pairs n m).granted (weighed_in read_grant (p.way n m) l (Grants Read) there says));
+  grants = λ n m l there says. reader n m ((shared.pairs n m).granted (weighed read_grant (p.way n m) l (Grants Read) there says));
 }
   where
-    shared : IsShared (seen p)
-    shared = kept_run IsShared shared_kept o p (shared_first o first) run
+    shared : IsShared p
+    shared = shared_run o p first run
 
     reader : (n x : ℕ) → 1 ≤ times x (reads_of (p.holds n)) → HasReader p n x
     reader n x r = has_reader p n x (p.holds n) refl (shared.sound n) r
 
-    copied : (n parent : ℕ) (h : Holding) → p.holds n ≡ Some h → h.copy ≡ true → h.part.role ≡ Parent parent → 1 ≤ times n (reads_of (p.holds parent))
+    copied : (n parent : ℕ) (h : Share) → p.holds n ≡ Some h → h.copy ≡ true → h.part.role ≡ Parent parent → 1 ≤ times n (reads_of (p.holds parent))
     copied n parent h has copy asks =
         let one : copy_from parent (p.holds n) ≡ 1 =
         ap (copy_from parent) has ∙ ap (λ (c : Bool). copied_as parent c h.part.role) copy ∙ ap (copied_as parent true) asks

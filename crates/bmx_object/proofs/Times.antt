@@ -1,5 +1,5 @@
 -- How often a node stands in a list of nodes.
-use Rattle.std.proofs.Common.{◌≡◌, ℕ, ◌+◌, ◌≤◌, ◌<◌, arith, List, [], ◌∷◌, zero, suc, add-one, refl, ap, sym, ◌∙◌, Bool, true, false, cond}
+use Rattle.std.proofs.Common.{◌≡◌, ◌≢◌, ℕ, ◌+◌, ◌≤◌, ◌<◌, arith, List, [], ◌∷◌, zero, suc, add-one, refl, ap, subst, ◌∙◌, Bool, true, false, cond}
 use Rattle.std.specs.Prelude.{◌==◌, not, nat_lt, if◌then◌else◌, slice_index}
 use Rattle.std.specs.List.Sorted.{IsStrictlyIncreasing}
 use Rattle.bmx_token.specs.Nodes.{nodes_with, nodes_without}
@@ -40,11 +40,11 @@ times_with-there node (y ∷ ys) = by_tests (node == y) (nat_lt node y) refl (ti
 -- one node less
 pub times_without-gone : (node : ℕ) (ys : List ℕ) → times node (nodes_without node ys) ≡ 0
 times_without-gone node [] = refl
-times_without-gone node (y ∷ ys) = by_case (cases y node) (times_without-gone node ys)
+times_without-gone node (y ∷ ys) = by_case (cases node y) (times_without-gone node ys)
   where
-    by_case : Cases y node → times node (nodes_without node ys) ≡ 0 → times node (cond (not (y == node)) (y ∷ nodes_without node ys) (nodes_without node ys)) ≡ 0
+    by_case : Cases node y → times node (nodes_without node ys) ≡ 0 → times node (cond (not (y == node)) (y ∷ nodes_without node ys) (nodes_without node ys)) ≡ 0
     by_case (Same e t) h = rw t h
-    by_case (Apart e t) h = rw (t, apart_false node y (λ q. e (sym q))) (omega arith)
+    by_case (Apart e t) h = rw (t, apart_false node y e) (omega arith)
 
 pub times_without-other : (x node : ℕ) (ys : List ℕ) → (x == node) ≡ false → times x (nodes_without node ys) ≡ times x ys
 times_without-other x node [] a = refl
@@ -86,3 +86,22 @@ times-once x (y ∷ ys) up = by_test (x == y) refl (times-once x ys (tail_increa
     by_test : (t : Bool) → (x == y) ≡ t → times x ys ≤ 1 → (1 ≤ times x ys → y < x) → cond t 1 0 + times x ys ≤ 1
     by_test true e h above = once_first x y (times x ys) (eqb_true x y e) above
     by_test false e h above = omega arith
+
+-- another node than the one put in
+pub times_with-other : (x node : ℕ) (ys : List ℕ) → x ≢ node → times x (nodes_with node ys) ≡ times x ys
+times_with-other x node [] d = rw (apart_false x node d) refl
+times_with-other x node (y ∷ ys) d = by_tests (node == y) (nat_lt node y) (times_with-other x node ys d)
+  where
+    by_tests : (t u : Bool) → times x (nodes_with node ys) ≡ times x ys →
+        times x (cond t (y ∷ ys) (cond u (node ∷ y ∷ ys) (y ∷ nodes_with node ys))) ≡ times x (y ∷ ys)
+    by_tests true u h = refl
+    by_tests false true h = rw (apart_false x node d) (omega arith)
+    by_tests false false h = omega (arith, h)
+
+-- a node that isn't there isn't where one less is
+pub times_without-none : (x node : ℕ) (ys : List ℕ) → times x ys ≡ 0 → times x (nodes_without node ys) ≡ 0
+times_without-none x node ys h = by_case (cases node x)
+  where
+    by_case : Cases node x → times x (nodes_without node ys) ≡ 0
+    by_case (Same e t) = subst (λ (z : ℕ). times z (nodes_without node ys) ≡ 0) e (times_without-gone node ys)
+    by_case (Apart e t) = times_without-other x node ys t ∙ h

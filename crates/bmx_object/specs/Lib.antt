@@ -1,3 +1,4 @@
 pub mod Machine
+pub mod Tables
 pub mod Laws
 pub mod Cases

@@ -1,4 +1,5 @@
 pub mod Nodes
 pub mod Tokens
+pub mod Turns
 pub mod Laws
 pub mod Examples
