@@ -24,7 +24,8 @@ use Rattle.bmx_segment.specs.Heaps.{Heap}
 use Rattle.bmx_local.specs.Rooms.{Rooms, first_rooms, rooms_after, rooms_of, answer_in}
 use Rattle.bmx_local.specs.Solos.{graph_of, IsSolo}
 use Rattle.bmx_graph.specs.State.{State, opening_state}
-use Rattle.bmx_graph.specs.Step.{Act, state_after, state_after_all, effect_of, with_held, with_field, got, raised, raised_to, target_of, field_at, sum_of, value_of}
+use Rattle.bmx_graph.specs.Step.{Act, state_after, state_after_all, Effect, effect, changed}
+use Rattle.bmx_graph.specs.Step as effects
 
 -- answers go on by an act
 pub answers_push : (limit : ℕ) (rooms : Rooms) (s : State) (acts : List Act) (a : Act) → AreAnswers limit rooms s acts
@@ -42,26 +43,6 @@ state_push s [] a = refl
 state_push s (b ∷ acts) a = state_push (state_after s b.node b.command b.answer) acts a
 
 -- a step makes one name at most
-made_held : (s : State) (n : ℕ) (x : Option ℕ) (h : Option Mode) (m : ℕ) → (with_held s n x h).made m ≤ s.made m + 1
-made_held s n None h m = omega arith
-made_held s n (Some x) h m = omega arith
-
-made_field : (s : State) (x : Option ℕ) (i : ℕ) (v : Val) (m : ℕ) → (with_field s x i v).made m ≤ s.made m + 1
-made_field s None i v m = omega arith
-made_field s (Some x) i v m = omega arith
-
-made_got : (s : State) (n r : ℕ) (v : Option Val) (m : ℕ) → (got s n r v).made m ≤ s.made m + 1
-made_got s n r None m = omega arith
-made_got s n r (Some v) m = omega arith
-
-made_raised_to : (s : State) (x : Option ℕ) (i : ℕ) (k : Option _) (m : ℕ) → (raised_to s x i k).made m ≤ s.made m + 1
-made_raised_to s x i None m = omega arith
-made_raised_to s x i (Some k) m = made_field s x i (val.Int k) m
-
-made_raised : (s : State) (x : Option ℕ) (i : ℕ) (v : Option Val) (k : _) (m : ℕ) → (raised s x i v k).made m ≤ s.made m + 1
-made_raised s x i None k m = omega arith
-made_raised s x i (Some v) k m = made_raised_to s x i (sum_of v k) m
-
 made_put : (b : Bool) (x y : ℕ) → x ≡ y → cond b (x + 1) y ≤ y + 1
 made_put true x y e = omega arith
 made_put false x y e = omega arith
@@ -73,18 +54,15 @@ put_made f n m = by_equality (n == m) refl
     by_equality true e = omega (arith, ap f (eqb-true n m e))
     by_equality false e = omega arith
 
-made_effect : (s : State) (n : ℕ) (c : Command) (m : ℕ) → (effect_of s n c).made m ≤ s.made m + 1
-made_effect s n (command.New r b size) m = put_made s.made n m
-made_effect s n (command.Copy r v) m = omega arith
-made_effect s n (command.Drop r) m = omega arith
-made_effect s n (command.Read on) m = made_held s n (target_of s n on) _ m
-made_effect s n (command.Write on) m = made_held s n (target_of s n on) _ m
-made_effect s n (command.Done on) m = made_held s n (target_of s n on) _ m
-made_effect s n (command.Set on i v) m = made_field s (target_of s n on) i (value_of s n v) m
-made_effect s n (command.Add on i k) m = made_raised s (target_of s n on) i (field_at s (target_of s n on) i) k m
-made_effect s n (command.Get r on i) m = made_got s n r (field_at s (target_of s n on) i) m
-made_effect s n (command.Show on i) m = omega arith
-made_effect s n (command.Same l r) m = omega arith
+made_changed : (s : State) (n : ℕ) (e : Effect) (m : ℕ) → (changed s n e).made m ≤ s.made m + 1
+made_changed s n effects.Nothing m = omega arith
+made_changed s n (effects.Makes r b size) m = put_made s.made n m
+made_changed s n (effects.Sets r v) m = omega arith
+made_changed s n (effects.Stores x i v) m = omega arith
+made_changed s n (effects.Holds x h) m = omega arith
+
+made_effect : (s : State) (n : ℕ) (c : Command) (m : ℕ) → (changed s n (effect s n c)).made m ≤ s.made m + 1
+made_effect s n c m = made_changed s n (effect s n c) m
 
 pub made_after : (s : State) (n : ℕ) (c : Command) (a : Answer) (m : ℕ) → (state_after s n c a).made m ≤ s.made m + 1
 made_after s n c answer.Wait m = omega arith

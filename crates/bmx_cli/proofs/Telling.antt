@@ -12,7 +12,7 @@ use Rattle.bmx_types.specs.declared.commands.Refusal.TheVariants as refusal
 use Rattle.bmx_graph.specs.declared.answers.Answer.{Answer}
 use Rattle.bmx_graph.specs.declared.answers.Answer.TheVariants as answer
 use Rattle.bmx_graph.specs.State.{State, fields_of}
-use Rattle.bmx_graph.specs.Step.{is_writer, other_holds, other_writes, sum_of, read_answer, write_answer, done_answer, set_at, set_answer, add_to, add_at, add_answer, get_at, get_answer, target_of, effect_of, state_after}
+use Rattle.bmx_graph.specs.Step.{is_writer, other_holds, other_writes, sum_of, read_answer, write_answer, done_answer, set_at, set_answer, add_to, add_at, add_answer, get_at, get_answer, target_of, effect, changed, state_after}
 use Rattle.bmx_script.specs.declared.printing.Shown.{Shown}
 use Rattle.bmx_local.specs.declared.solos.Solo.{Solo}
 use Rattle.bmx_local.specs.Solos.{graph_of, is_full, answer_at}
@@ -85,7 +85,7 @@ never : {P : Type 0} (a b : Answer) → tells a ≡ true → a ≡ b → tells b
 never a b says is none = absurd (false≢true (sym none ∙ ap tells (sym is) ∙ says))
 
 -- an answer yes or no changes nothing: only an identity test is answered so
-told : (n : Solo) (c : Command) (a : Answer) → tells a ≡ true → a ≡ answer_at n c → effect_of (graph_of n) 0 c ≡ graph_of n
+told : (n : Solo) (c : Command) (a : Answer) → tells a ≡ true → a ≡ answer_at n c → changed (graph_of n) 0 (effect (graph_of n) 0 c) ≡ graph_of n
 unfolding tells
 told n (command.New r b size) a says is = never a _ says is (tells_cond (is_full n.local.replica.heap b size) (answer.Refused refusal.Full) answer.Nil refl refl)
 told n (command.Copy r v) a says is = never a _ says is refl
@@ -99,7 +99,7 @@ told n (command.Get r on i) a says is = never a _ says is (tells_get (graph_of n
 told n (command.Show on i) a says is = refl
 told n (command.Same l r) a says is = refl
 
-valued : (s : State) (c : Command) (v : Val) (x : Shown) → shown_of c (answer.Value v) ≡ Some x → effect_of s 0 c ≡ s
+valued : (s : State) (c : Command) (v : Val) (x : Shown) → shown_of c (answer.Value v) ≡ Some x → changed s 0 (effect s 0 c) ≡ s
 valued s (command.New r b size) v x e = absurd (none-some x e)
 valued s (command.Copy r u) v x e = absurd (none-some x e)
 valued s (command.Drop r) v x e = absurd (none-some x e)

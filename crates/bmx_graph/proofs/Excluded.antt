@@ -8,7 +8,7 @@ use Rattle.bmx_types.specs.declared.numbers.Mode.{Mode}
 use Rattle.bmx_types.specs.declared.numbers.Mode.TheVariants as mode
 use Rattle.bmx_graph.specs.State.{State}
 use Rattle.bmx_graph.specs.Step.{all_nodes, is_writer}
-use Rattle.bmx_graph.specs.Parts.{excludes, is_excluded}
+use Rattle.bmx_graph.specs.Inside.Parts.{excludes, is_excluded}
 
 any_node-none : (p : ℕ → Bool) → ((m : ℕ) → m < 8 → p m ≡ false) → list_any p all_nodes ≡ false
 any_node-none p h =

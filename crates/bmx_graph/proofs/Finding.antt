@@ -20,7 +20,7 @@ use Rattle.bmx_types.specs.Words.{maker, count_of}
 use Rattle.bmx_types.specs.declared.values.Val.{Val}
 use Rattle.bmx_types.specs.declared.values.Val.TheVariants as val
 use Rattle.bmx_graph.specs.declared.walks.Walk.{Walk}
-use Rattle.bmx_graph.specs.Walks.{IsWalk, GoesTo}
+use Rattle.bmx_graph.specs.Inside.Walks.{IsWalk, GoesTo}
 
 -- names are ordered by their makers, then by their counts
 abbrev pub name_cmp : ℕ → ℕ → Ordering

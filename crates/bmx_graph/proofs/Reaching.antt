@@ -12,7 +12,7 @@ use Rattle.bmx_graph.specs.declared.walks.Walk.{Walk}
 use Rattle.bmx_graph.specs.State.{State, fields_of}
 use Rattle.bmx_graph.specs.Graphs.{state_of, bunches_in, register_in, same_name}
 use Rattle.bmx_graph.specs.Reached.{IsReached, InRegister, Anchor, InField}
-use Rattle.bmx_graph.specs.Walks.{IsWalk, GoesTo}
+use Rattle.bmx_graph.specs.Inside.Walks.{IsWalk, GoesTo}
 use Rattle.bmx_graph.proofs.States.{register_in-there}
 use Rattle.bmx_graph.proofs.Finding.{kept-found, Contains-at, at-Contains, Contains-one, Contains_none}
 

@@ -1,5 +1,6 @@
 -- The steps of the graph: what a node's command is answered, and what it changes.
 use Rattle.std.specs.Prelude.{◌≡◌, ℕ, ◌+◌, ◌==◌, ℤ, ◌+ℤ◌, Bool, true, false, not, ◌&&◌, if◌then◌else◌, List, [], ◌∷◌, replicate, slice_get, slice_set, Option, Some, None, is_some}
+use Rattle.std.specs.Option.{option_map}
 use Rattle.std.specs.Ordering.{int_eq}
 use Rattle.std.specs.List.{list_any}
 use Rattle.bmx_types.specs.Integers.{is_i64}
@@ -148,9 +149,8 @@ with_register s n register v = record {
 }
 
 -- a node's hold of a name becomes this
-abbrev pub with_held : State → ℕ → Option ℕ → Option Mode → State
-with_held s n None hold = s
-with_held s n (Some name) hold = record {
+abbrev pub with_held : State → ℕ → ℕ → Option Mode → State
+with_held s n name hold = record {
   object = s.object;
   register = s.register;
   held = put_at s.held n name hold;
@@ -158,9 +158,8 @@ with_held s n (Some name) hold = record {
 }
 
 -- a field of an object becomes the value
-abbrev pub with_field : State → Option ℕ → ℕ → Val → State
-with_field s None index v = s
-with_field s (Some name) index v = record {
+abbrev pub with_field : State → ℕ → ℕ → Val → State
+with_field s name index v = record {
   object = put s.object name (Some (slice_set (fields_of s name) index v));
   register = s.register;
   held = s.held;
@@ -185,41 +184,70 @@ abbrev pub field_at : State → Option ℕ → ℕ → Option Val
 field_at s None index = None
 field_at s (Some name) index = slice_get (fields_of s name) index
 
--- what a register becomes by a field, and a field by a sum
-abbrev pub got : State → ℕ → ℕ → Option Val → State
-got s n register None = s
-got s n register (Some v) = with_register s n register v
+-- ## what a command changes
 
-abbrev pub raised_to : State → Option ℕ → ℕ → Option ℤ → State
-raised_to s name index None = s
-raised_to s name index (Some k) = with_field s name index (val.Int k)
+-- what a command does to the graph where it is done
+pub data Effect : Type 0 where
+  -- nothing
+  Nothing : Effect
+  -- a new object of null fields is made, and a register refers to it
+  Makes : (register bunch size : ℕ) → Effect
+  -- a register holds the value
+  Sets : (register : ℕ) (v : Val) → Effect
+  -- a field of an object holds the value
+  Stores : (name index : ℕ) (v : Val) → Effect
+  -- the node holds a token so, or no longer
+  Holds : (name : ℕ) (hold : Option Mode) → Effect
 
-abbrev pub raised : State → Option ℕ → ℕ → Option Val → ℤ → State
-raised s name index None by = s
-raised s name index (Some v) by = raised_to s name index (sum_of v by)
+-- of the name that an operand means, if any
+abbrev pub holding : Option ℕ → Option Mode → Effect
+holding None hold = Nothing
+holding (Some name) hold = Holds name hold
 
--- what a command changes where it is done
-abbrev pub effect_of : State → ℕ → Command → State
-effect_of s n (command.New register bunch size) = with_new s n register size
-effect_of s n (command.Copy register value) = with_register s n register (value_of s n value)
-effect_of s n (command.Drop register) = with_register s n register val.Null
-effect_of s n (command.Read on) = with_held s n (target_of s n on) (Some mode.Read)
-effect_of s n (command.Write on) = with_held s n (target_of s n on) (Some mode.Write)
-effect_of s n (command.Done on) = with_held s n (target_of s n on) None
-effect_of s n (command.Set on index value) = with_field s (target_of s n on) index (value_of s n value)
-effect_of s n (command.Add on index by) = raised s (target_of s n on) index (field_at s (target_of s n on) index) by
-effect_of s n (command.Get register on index) = got s n register (field_at s (target_of s n on) index)
-effect_of s n (command.Show on index) = s
-effect_of s n (command.Same left right) = s
+abbrev pub storing : Option ℕ → ℕ → Option Val → Effect
+storing None index v = Nothing
+storing (Some name) index None = Nothing
+storing (Some name) index (Some v) = Stores name index v
+
+-- a register gets the value of a field, if there is one
+abbrev pub setting : ℕ → Option Val → Effect
+setting register None = Nothing
+setting register (Some v) = Sets register v
+
+-- a field and a number together, where the sum can be had
+abbrev pub raised_by : Option Val → ℤ → Option Val
+raised_by None by = None
+raised_by (Some v) by = option_map (λ k. val.Int k) (sum_of v by)
+
+abbrev pub effect : State → ℕ → Command → Effect
+effect s n (command.New register bunch size) = Makes register bunch size
+effect s n (command.Copy register value) = Sets register (value_of s n value)
+effect s n (command.Drop register) = Sets register val.Null
+effect s n (command.Read on) = holding (target_of s n on) (Some mode.Read)
+effect s n (command.Write on) = holding (target_of s n on) (Some mode.Write)
+effect s n (command.Done on) = holding (target_of s n on) None
+effect s n (command.Set on index value) = storing (target_of s n on) index (Some (value_of s n value))
+effect s n (command.Add on index by) = storing (target_of s n on) index (raised_by (field_at s (target_of s n on) index) by)
+effect s n (command.Get register on index) = setting register (field_at s (target_of s n on) index)
+effect s n (command.Show on index) = Nothing
+effect s n (command.Same left right) = Nothing
+
+-- the graph after an effect of a node's command
+abbrev pub changed : State → ℕ → Effect → State
+changed s n Nothing = s
+changed s n (Makes register bunch size) = with_new s n register size
+changed s n (Sets register v) = with_register s n register v
+changed s n (Stores name index v) = with_field s name index v
+changed s n (Holds name hold) = with_held s n name hold
 
 -- the state after a command that was answered so: a wait and a refusal change nothing
 abbrev pub state_after : State → ℕ → Command → Answer → State
 state_after s n c answer.Wait = s
 state_after s n c (answer.Refused why) = s
-state_after s n c answer.Nil = effect_of s n c
-state_after s n c (answer.Value v) = effect_of s n c
-state_after s n c answer.Yes = effect_of s n c
-state_after s n c answer.No = effect_of s n c
+state_after s n c answer.Nil = changed s n (effect s n c)
+state_after s n c (answer.Value v) = changed s n (effect s n c)
+state_after s n c answer.Yes = changed s n (effect s n c)
+state_after s n c answer.No = changed s n (effect s n c)
 
 -- what a node may answer in place of the graph's answer: it may wait for a token that it would get,
 -- and have no segment for a new object

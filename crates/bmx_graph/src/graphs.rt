@@ -42,7 +42,7 @@ impl Graph {
     ghost use Rattle.bmx_graph.specs.State.{fields_of, opening_state};
     ghost use Rattle.bmx_graph.specs.Step.{with_register, with_held, with_field, with_new, value_of, target_of, answer_of, state_after};
     ghost use Rattle.bmx_graph.specs.Graphs.{state_of, bunches_in, IsOperand, HasRegisters};
-    ghost use Rattle.bmx_graph.specs.Parts.{IsStep, taking, is_excluded, field_refusal, FindsField};
+    ghost use Rattle.bmx_graph.specs.Inside.Parts.{IsStep, taking, is_excluded, field_refusal, FindsField};
 
     /// The graph of a store that opens so: its births, null registers and no token held. Linear in the
     /// births and their fields.
@@ -343,7 +343,7 @@ impl Graph {
 
     /// A node holds a name so.
     fn take(&mut self, node: NodeNo, name: Name, mode: Mode) -> Result<(), NoMemory>
-        ensures ok { OnOk result (state_of self.new ≡ with_held (state_of self.old) node (Some name) (Some mode)) }
+        ensures ok { OnOk result (state_of self.new ≡ with_held (state_of self.old) node name (Some mode)) }
         ensures err { OnErr result (state_of self.new ≡ state_of self.old) }
         ensures bunches { bunches_in self.new ≡ bunches_in self.old }
     {
@@ -353,7 +353,7 @@ impl Graph {
 
     /// A node holds a name no longer.
     fn give_back(&mut self, node: NodeNo, name: Name)
-        ensures state { state_of self.new ≡ with_held (state_of self.old) node (Some name) None }
+        ensures state { state_of self.new ≡ with_held (state_of self.old) node name None }
         ensures bunches { bunches_in self.new ≡ bunches_in self.old }
     {
         self.held.remove(&(node, name));
@@ -362,7 +362,7 @@ impl Graph {
     /// A field that is there becomes the value.
     fn set_field(&mut self, name: Name, index: u8, value: Val)
         requires { IsSome (slice_get (fields_of (state_of self.old) name) index) }
-        ensures state { state_of self.new ≡ with_field (state_of self.old) (Some name) index value }
+        ensures state { state_of self.new ≡ with_field (state_of self.old) name index value }
         ensures bunches { bunches_in self.new ≡ bunches_in self.old }
     {
         let fields = self.objects.get_mut(&name).unwrap();

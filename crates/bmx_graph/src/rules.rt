@@ -1,7 +1,7 @@
 ghost use Rattle.std.specs.Prelude.{◌≡◌, ◌+◌, ◌*◌, ◌<◌, ◌∷◌, replicate};
 ghost use Rattle.bmx_types.specs.Words.{anchor_of};
 ghost use Rattle.bmx_graph.specs.Step.{sum_of};
-ghost use Rattle.bmx_graph.specs.Parts.{permits, excludes};
+ghost use Rattle.bmx_graph.specs.Inside.Parts.{permits, excludes};
 
 use bmx_types::{Mode, Name, NodeNo, Val};
 

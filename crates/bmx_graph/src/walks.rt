@@ -1,6 +1,6 @@
 ghost use Rattle.std.specs.Prelude.{◌≡◌, ◌↔◌, ℕ, List, [], ◌∷◌, OnOk, IfOk, Contains, slice_get};
 ghost use Rattle.std.specs.List.Sorted.{IsStrictlyIncreasing};
-ghost use Rattle.bmx_graph.specs.Walks.{IsWalk, GoesTo};
+ghost use Rattle.bmx_graph.specs.Inside.Walks.{IsWalk, GoesTo};
 
 use bmx_types::{Items, Name, Names, NoMemory, Val};
 use std::alloc::Global;

@@ -32,7 +32,7 @@ struct Found {
 impl Solo {
     ghost use Rattle.bmx_graph.specs.State.{opening_state, fields_of};
     ghost use Rattle.bmx_graph.specs.Step.{with_register, with_held, with_field, with_new, value_of, target_of, answer_of, state_after};
-    ghost use Rattle.bmx_graph.specs.Parts.{IsStep, taking, field_refusal, FindsField};
+    ghost use Rattle.bmx_graph.specs.Inside.Parts.{IsStep, taking, field_refusal, FindsField};
     ghost use Rattle.bmx_replica.specs.Replicas.{HasTarget};
     ghost use Rattle.bmx_local.specs.Locals.{MeansGraph};
     ghost use Rattle.bmx_local.specs.Rooms.{answer_in, first_rooms, rooms_after, rooms_of};
@@ -356,7 +356,7 @@ impl Solo {
     /// The node holds a name so.
     fn take(&mut self, name: Name, mode: Mode) -> Result<(), NoMemory>
         requires { IsSolo self.old }
-        ensures ok { OnOk result (graph_of self.new ≡ with_held (graph_of self.old) 0 (Some name) (Some mode)) }
+        ensures ok { OnOk result (graph_of self.new ≡ with_held (graph_of self.old) 0 name (Some mode)) }
         ensures err { OnErr result (graph_of self.new ≡ graph_of self.old) }
         ensures node { IsSolo self.new }
         ensures heap { self.new.local.replica.heap ≡ self.old.local.replica.heap }
@@ -368,7 +368,7 @@ impl Solo {
     /// The node holds a name no longer.
     fn give_back(&mut self, name: Name)
         requires { IsSolo self.old }
-        ensures graph { graph_of self.new ≡ with_held (graph_of self.old) 0 (Some name) None }
+        ensures graph { graph_of self.new ≡ with_held (graph_of self.old) 0 name None }
         ensures node { IsSolo self.new }
         ensures heap { self.new.local.replica.heap ≡ self.old.local.replica.heap }
     {
@@ -380,7 +380,7 @@ impl Solo {
         requires field { IsSome (slice_get (fields_of (graph_of self.old) name) index) }
         requires target { HasTarget self.old.local.replica value }
         requires node { IsSolo self.old }
-        ensures graph { graph_of self.new ≡ with_field (graph_of self.old) (Some name) index value }
+        ensures graph { graph_of self.new ≡ with_field (graph_of self.old) name index value }
         ensures node { IsSolo self.new }
         ensures heap { self.new.local.replica.heap ≡ record self.old.local.replica.heap { blocks = self.new.local.replica.heap.blocks } }
     {

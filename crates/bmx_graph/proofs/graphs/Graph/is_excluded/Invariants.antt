@@ -1,5 +1,5 @@
 use Rattle.std.proofs.Common.{◌≡◌, ℕ, ◌<◌, false, not, ◌&&◌, eqb}
-use Rattle.bmx_graph.specs.Parts.{excludes}
+use Rattle.bmx_graph.specs.Inside.Parts.{excludes}
 use Rattle.bmx_graph.specs.Graphs.{state_of}
 use Rattle.bmx_graph.proofs.graphs.Graph.is_excluded.Given as goal
 

@@ -6,7 +6,7 @@ use Rattle.bmx_types.specs.declared.values.Val.TheVariants as val
 use Rattle.bmx_graph.specs.State.{fields_of}
 use Rattle.bmx_graph.specs.Graphs.{state_of, bunches_in}
 use Rattle.bmx_graph.specs.declared.walks.Walk.{Walk}
-use Rattle.bmx_graph.specs.Walks.{GoesTo}
+use Rattle.bmx_graph.specs.Inside.Walks.{GoesTo}
 use Rattle.bmx_graph.specs.Reached.{IsReached}
 use Rattle.bmx_graph.proofs.Finding.{GoesTo-none}
 use Rattle.bmx_graph.proofs.Reaching.{IsReaching, reaching-registers, reaching-anchor, reaching-fields, reaching-end, fields-there, fields-none}

@@ -1,6 +1,6 @@
 use Rattle.std.proofs.Common.{◌∷◌, [], refl, subst, sym}
 use Rattle.bmx_types.specs.declared.values.Val.{Val}
-use Rattle.bmx_graph.specs.Walks.{GoesTo}
+use Rattle.bmx_graph.specs.Inside.Walks.{GoesTo}
 use Rattle.bmx_graph.specs.declared.walks.Walk.{Walk}
 use Rattle.bmx_graph.proofs.Finding.{GoesTo-new, GoesTo-known}
 use Rattle.bmx_graph.proofs.walks.Walk.find.Goals as goal

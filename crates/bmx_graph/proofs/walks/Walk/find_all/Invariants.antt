@@ -1,5 +1,5 @@
 use Rattle.std.proofs.Common.{take}
-use Rattle.bmx_graph.specs.Walks.{GoesTo}
+use Rattle.bmx_graph.specs.Inside.Walks.{GoesTo}
 use Rattle.bmx_graph.proofs.walks.Walk.find_all.Given as goal
 
 abbrev pub invariant-loop-value : goal.invariant-loop-value

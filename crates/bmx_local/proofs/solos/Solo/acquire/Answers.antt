@@ -5,23 +5,24 @@ use Rattle.bmx_types.specs.declared.numbers.Mode.{Mode}
 use Rattle.bmx_types.specs.declared.numbers.Mode.TheVariants as mode
 use Rattle.bmx_graph.specs.declared.answers.Answer.TheVariants as answer
 use Rattle.bmx_graph.specs.State.{State}
-use Rattle.bmx_graph.specs.Step.{target_of, with_held, read_answer, write_answer}
-use Rattle.bmx_graph.specs.Parts.{IsStep, taking}
+use Rattle.bmx_graph.specs.Step.{target_of, with_held, read_answer, write_answer, holding}
+use Rattle.bmx_graph.specs.Step as graph
+use Rattle.bmx_graph.specs.Inside.Parts.{IsStep, taking}
 use Rattle.bmx_local.specs.declared.solos.Solo.{Solo}
 use Rattle.bmx_local.specs.Solos.{graph_of}
 use Rattle.bmx_local.proofs.solos.Solo.acquire.Goals as goal
 
 -- no other node holds anything, so a token that isn't held is taken
 taken : (n : Solo) (wanted : Mode) (on : Operand) (name : ℕ) (t : State) → target_of (graph_of n) 0 on ≡ Some name → is_some ((graph_of n).held 0 name) ≡ false
-    → t ≡ with_held (graph_of n) 0 (Some name) (Some wanted) → IsStep (graph_of n) 0 (taking wanted on) answer.Nil t
+    → t ≡ with_held (graph_of n) 0 name (Some wanted) → IsStep (graph_of n) 0 (taking wanted on) answer.Nil t
 unfolding graph_of
 taken n mode.Read on name t is free changed = record {
   answered = sym (ap (read_answer (graph_of n) 0) is ∙ cond-false (is_some ((graph_of n).held 0 name)) _ answer.Nil free);
-  changed = changed ∙ ap (λ x. with_held (graph_of n) 0 x (Some mode.Read)) (sym is);
+  changed = changed ∙ ap (λ x. graph.changed (graph_of n) 0 (holding x (Some mode.Read))) (sym is);
 }
 taken n mode.Write on name t is free changed = record {
   answered = sym (ap (write_answer (graph_of n) 0) is ∙ cond-false (is_some ((graph_of n).held 0 name)) _ answer.Nil free);
-  changed = changed ∙ ap (λ x. with_held (graph_of n) 0 x (Some mode.Write)) (sym is);
+  changed = changed ∙ ap (λ x. graph.changed (graph_of n) 0 (holding x (Some mode.Write))) (sym is);
 }
 
 pub returns-clause-ok : goal.returns-clause-ok
