@@ -12,7 +12,8 @@ use Rattle.bmx_token.specs.declared.parts.Role.TheVariants.{Owner, Parent}
 use Rattle.bmx_token.specs.Turns.{Share, Note, Asks, Grants, Recalls, Returns}
 use Rattle.bmx_object.specs.Machine.{Slip, Numbers, Object, Run, IsFirst, brings, gives}
 use Rattle.bmx_object.specs.Laws as law
-use Rattle.bmx_object.specs.Laws.{same_mode, is_request_of, is_grant_of, is_recall, is_return, is_due, owes, count_notes, queue_at, standing, IsWaiting, IsPlaced, WantsArePlaced, EachWantIsPlaced, answers_owed, waits_for, EachOwesOneAnswer, NoLetterIsStray, NobodyAsksItself, IsBrought, MayBeAsked, WhoIsAskedAnswers, ParentAnswers, ParentsLeadToTheOwner, GiftsAreRecorded, IdleIsUnneeded, ClearedIsUnneeded, TablesKeepTheLaws}
+use Rattle.bmx_object.specs.Laws.{is_recall, is_return, is_due, owes, count_notes, queue_at, standing, IsWaiting, IsPlaced, WantsArePlaced, EachWantIsPlaced, answers_owed, waits_for, EachOwesOneAnswer, NoLetterIsStray, NobodyAsksItself, IsBrought, MayBeAsked, WhoIsAskedAnswers, ParentAnswers, ParentsLeadToTheOwner, GiftsAreRecorded, IdleIsUnneeded, ClearedIsUnneeded, TablesKeepTheLaws}
+use Rattle.bmx_token.specs.Turns.{same_mode, is_request_of, is_grant_of}
 use Rattle.bmx_object.proofs.Tallies.{tally, tally-append, notes, recall, return, handover, Cases, Same, Apart, cases, same_true, swapped}
 use Rattle.bmx_object.proofs.Traffic.{Bounded}
 use Rattle.bmx_object.proofs.Each.{Each, each_there}

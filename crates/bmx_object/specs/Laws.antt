@@ -7,7 +7,7 @@ use Rattle.bmx_types.specs.declared.numbers.Mode.TheVariants as mode
 use Rattle.bmx_token.specs.declared.parts.Ask.{Ask}
 use Rattle.bmx_token.specs.declared.parts.Role.{Role}
 use Rattle.bmx_token.specs.declared.parts.Role.TheVariants.{Owner, Parent}
-use Rattle.bmx_token.specs.Turns.{Share, Note, Asks, Grants, Recalls, Returns}
+use Rattle.bmx_token.specs.Turns.{Share, Note, Asks, Grants, Recalls, Returns, same_mode, is_request_of, is_grant_of}
 use Rattle.bmx_object.specs.Machine.{Slip, Numbers, Object, Run, IsFirst, IsNowhere, IsUnneeded, IsUnneededRecord, gives, brings, asks, letter_turn}
 use Rattle.bmx_object.specs.Tables.{Tabled, TableRun, MayForget, MayClear, untabled}
 
@@ -105,26 +105,7 @@ same_spot (Granted n) (Requested j l) = false
 same_spot (Granted n) (Queued j) = false
 same_spot (Granted n) (Granted j) = n == j
 
-abbrev pub same_mode : Mode → Mode → Bool
-same_mode mode.Read mode.Read = true
-same_mode mode.Read mode.Write = false
-same_mode mode.Write mode.Read = false
-same_mode mode.Write mode.Write = true
-
--- a note is the request of a node in a mode, or the grant of a mode
-abbrev pub is_request_of : Mode → ℕ → Note → Bool
-is_request_of m a (Asks n b) = same_mode m n && (b == a)
-is_request_of m a (Grants n) = false
-is_request_of m a Recalls = false
-is_request_of m a Returns = false
-
-abbrev pub is_grant_of : Mode → Note → Bool
-is_grant_of m (Asks n b) = false
-is_grant_of m (Grants n) = same_mode m n
-is_grant_of m Recalls = false
-is_grant_of m Returns = false
-
--- how many letters have such a note
+-- how many letters have a note that passes a test
 abbrev pub count_notes : (Note → Bool) → List Slip → ℕ
 count_notes p letters = count_by (λ l. option_map_or p l.note false) letters
 

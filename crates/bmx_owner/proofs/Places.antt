@@ -10,7 +10,7 @@ use Rattle.std.proofs.lemmas.List.{set_split, get_or_default}
 use Rattle.std.proofs.lemmas.List.Folds.{list_any_none}
 use Rattle.bmx_owner.specs.declared.entering.Record.{Record}
 use Rattle.bmx_owner.specs.Records.{is_of, is_ahead, is_behind, IsInOrder, has_record, with_record}
-use Rattle.bmx_owner.specs.Search.{StandsAt, FitsAt}
+use Rattle.bmx_owner.specs.Inside.Search.{StandsAt, FitsAt}
 use Rattle.bmx_owner.proofs.Keys.{key_cases, is_behind-of, is_of-ahead, is_of-behind, is_behind-ahead, is_ahead-trans, is_ahead-before_of, is_behind-after_of}
 use Rattle.bmx_owner.proofs.Parts.{filter_front, filter_rest, find_at, find_none}
 

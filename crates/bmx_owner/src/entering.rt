@@ -80,7 +80,7 @@ impl Model for Records {
 
 impl Records {
     ghost use Rattle.bmx_owner.specs.Records.{IsInOrder, find_record, has_record, with_record, given, taken_over, cleaned, stale_count, sent_by, got_by, record_or_blank, ChangesOne};
-    ghost use Rattle.bmx_owner.specs.Search.{StandsAt, FitsAt};
+    ghost use Rattle.bmx_owner.specs.Inside.Search.{StandsAt, FitsAt};
 
     /// No record, and no memory taken.
     pub fn new(alloc: Global) -> Records

@@ -1,10 +1,8 @@
--- Tests of two numbers, functions changed at one, and notes of one name.
-use Rattle.std.proofs.Common.{sym, ◌∙◌, ◌≡◌, ℕ, arith, refl, ap, Bool, true, false, cond, List, ◌∷◌}
+-- Tests of two numbers, and functions changed at one.
+use Rattle.std.proofs.Common.{◌≡◌, ℕ, arith, refl, ap, sym, ◌∙◌, Bool, true, false, cond}
 use Rattle.std.specs.Prelude.{◌==◌, ◌≢◌}
-use Rattle.bmx_graph.specs.State.{put}
-use Rattle.bmx_object.specs.Machine.{Note}
-use Rattle.bmx_ownership.specs.Seen.{note_if}
 use Rattle.std.proofs.lemmas.Bool.Decides.{nat_tests}
+use Rattle.bmx_graph.specs.State.{put, put_at}
 
 pub eqb_is : (a b : ℕ) → (a == b) ≡ true → a ≡ b
 eqb_is a b h = grind (arith, nat_tests)
@@ -20,9 +18,6 @@ eqb_of {a = a} h = ap (λ (z : ℕ). a == z) (sym h) ∙ eqb_same a
 
 pub eqb_apart : (a b : ℕ) → a ≢ b → (a == b) ≡ false
 eqb_apart a b h = grind (arith, nat_tests)
-
-pub eqb_sym : (a b : ℕ) → (a == b) ≡ (b == a)
-eqb_sym a b = grind (arith, nat_tests)
 
 -- two numbers are the same, or apart
 pub data Two (a b : ℕ) : Type 0 where
@@ -42,8 +37,16 @@ put_same f x v = ap (λ (b : Bool). cond b v (f x)) (eqb_same x)
 pub put_apart : {A : Type 0} (f : ℕ → A) (x y : ℕ) (v : A) → (x == y) ≡ false → put f x v y ≡ f y
 put_apart f x y v h = ap (λ (b : Bool). cond b v (f y)) h
 
-pub note_same : (x : ℕ) (n : Note) (rest : List Note) → note_if x x n rest ≡ n ∷ rest
-note_same x n rest = ap (λ (b : Bool). cond b (n ∷ rest) rest) (eqb_same x)
+pub put_at_row : {A : Type 0} (f : ℕ → ℕ → A) (n x m : ℕ) (v : A) → put_at f n x v n m ≡ put (f n) x v m
+put_at_row f n x m v = ap (λ (b : Bool). cond b (put (f n) x v) (f n) m) (eqb_same n)
 
-pub note_apart : (x name : ℕ) (n : Note) (rest : List Note) → (name == x) ≡ false → note_if x name n rest ≡ rest
-note_apart x name n rest h = ap (λ (b : Bool). cond b (n ∷ rest) rest) h
+pub put_at_else : {A : Type 0} (f : ℕ → ℕ → A) (n x k m : ℕ) (v : A) → (n == k) ≡ false → put_at f n x v k m ≡ f k m
+put_at_else f n x k m v h = ap (λ (b : Bool). cond b (put (f n) x v) (f k) m) h
+
+-- a fact of each place of a function that changes at one
+pub at_each : {A : Type 0} (P : A → Type 0) (f : ℕ → A) (me : ℕ) (v : A) → P v → (n : ℕ) → P (f n) → P (put f me v n)
+at_each P f me v here n other = by_test (me == n)
+  where
+    by_test : (b : Bool) → P (cond b v (f n))
+    by_test true = here
+    by_test false = other

@@ -7,9 +7,9 @@ use Rattle.bmx_graph.specs.State.{put}
 use Rattle.bmx_msg.specs.declared.letters.Letter.{Letter}
 use Rattle.bmx_protocol.specs.declared.inputs.Sending.{Sending}
 use Rattle.bmx_protocol.specs.declared.events.Event.{Event}
-use Rattle.bmx_protocol.specs.Rows.{Post}
-use Rattle.bmx_protocol.specs.Steps.{Node, numbered}
-use Rattle.bmx_protocol.specs.Histories.{letters_to, issued, letter_from, is_taken, arrived, taken, on_way}
+use Rattle.bmx_protocol.specs.Rules.{Draft}
+use Rattle.bmx_protocol.specs.Steps.{Node, numbered, is_taken}
+use Rattle.bmx_protocol.specs.Histories.{letters_to, issued, letter_from, arrived, taken, on_way}
 use Rattle.bmx_ownership.proofs.Basics.{eqb_of, eqb_is, Two, Same, Apart, two}
 
 -- ## numbers
@@ -34,16 +34,16 @@ numbered_at (f ∷ letters) k (suc i) l h e =
     let rest : l.seq ≡ (k + 1) + i + 1 = numbered_at letters (k + 1) i l h.1 e in
     omega arith
 
-posts_numbered : (c : ℕ → ℕ) (stamp : ℕ) (posts : List Post) (m : ℕ) → Numbered (c m) (letters_to m (numbered c stamp posts))
-posts_numbered c stamp [] m = tt
-posts_numbered c stamp (p ∷ posts) m =
-    step (p.to == m) (eqb_is p.to m) (letters_to m (numbered (put c p.to (c p.to + 1)) stamp posts))
-    (posts_numbered (put c p.to (c p.to + 1)) stamp posts m)
+drafts_numbered : (c : ℕ → ℕ) (stamp : ℕ) (drafts : List Draft) (m : ℕ) → Numbered (c m) (letters_to m (numbered c stamp drafts))
+drafts_numbered c stamp [] m = tt
+drafts_numbered c stamp (d ∷ drafts) m =
+    step (d.to == m) (eqb_is d.to m) (letters_to m (numbered (put c d.to (c d.to + 1)) stamp drafts))
+    (drafts_numbered (put c d.to (c d.to + 1)) stamp drafts m)
   where
-    step : (b : Bool) → (b ≡ true → p.to ≡ m) → (letters : List Letter) → Numbered (cond b (c p.to + 1) (c m)) letters →
-        Numbered (c m) (cond b (record { seq = c p.to + 1; stamp = stamp; msg = p.msg } ∷ letters) letters)
+    step : (b : Bool) → (b ≡ true → d.to ≡ m) → (letters : List Letter) → Numbered (cond b (c d.to + 1) (c m)) letters →
+        Numbered (c m) (cond b (record { seq = c d.to + 1; stamp = stamp; msg = d.msg } ∷ letters) letters)
     step true q letters h =
-        let same : c p.to ≡ c m = ap c (q refl) in
+        let same : c d.to ≡ c m = ap c (q refl) in
         (ap (λ (k : ℕ). k + 1) same, subst (λ (k : ℕ). Numbered k letters) (ap (λ (k : ℕ). k + 1) same) h)
     step false q letters h = h
 
@@ -210,15 +210,15 @@ others_more : (past : List Event) (e : Event) (old new : ℕ → ℕ) (n m : ℕ
 others_more past e old new n m (None_here none same) apart = omega (arith, length_taken n m past e)
 others_more past e old new n m (One_here one next same here) apart = absurd (apart (sym here))
 
--- letters of a node's step, by its posts
-pub record IssuesPosts (past : List Event) (e : Event) : Type 0 where
+-- letters of a node's step, by its drafts
+pub record IssuesDrafts (past : List Event) (e : Event) : Type 0 where
   pub counts : ℕ → ℕ
   pub stamp : ℕ
-  pub posts : List Post
-  pub letters : e.done.letters ≡ numbered counts stamp posts
+  pub drafts : List Draft
+  pub letters : e.done.letters ≡ numbered counts stamp drafts
   pub from_past : (m : ℕ) → counts m ≡ length (issued e.node m past)
 
-numbers_more : (past : List Event) (e : Event) (p : IssuesPosts past e) (n m : ℕ) → Numbered 0 (issued n m past) →
+numbers_more : (past : List Event) (e : Event) (p : IssuesDrafts past e) (n m : ℕ) → Numbered 0 (issued n m past) →
     Numbered 0 (issued n m (past ++ e ∷ []))
 numbers_more past e p n m old = subst (Numbered 0) (sym (issued_more n m past e)) (by_two (two e.node n))
   where
@@ -226,7 +226,7 @@ numbers_more past e p n m old = subst (Numbered 0) (sym (issued_more n m past e)
     by_two (Same a) =
         let at : (e.node == n) ≡ true = eqb_of a in
         let more : Numbered (p.counts m) (letters_to m e.done.letters) =
-        subst (λ (l : List Sending). Numbered (p.counts m) (letters_to m l)) (sym p.letters) (posts_numbered p.counts p.stamp p.posts m) in
+        subst (λ (l : List Sending). Numbered (p.counts m) (letters_to m l)) (sym p.letters) (drafts_numbered p.counts p.stamp p.drafts m) in
         let count : p.counts m ≡ 0 + length (issued n m past) = p.from_past m ∙ ap (λ (z : ℕ). length (issued z m past)) a ∙ omega arith in
         numbered_append (issued n m past) (letters_by e n m) 0 old
         (subst (λ (b : Bool). Numbered (0 + length (issued n m past)) (cond b (letters_to m e.done.letters) [])) (sym at)
@@ -234,7 +234,7 @@ numbers_more past e p n m old = subst (Numbered 0) (sym (issued_more n m past e)
     by_two (Apart h d) = subst (Numbered 0) ((sym (append-nil (issued n m past))) ∙ (λ i. issued n m past ++ cond (sym h i) (letters_to m e.done.letters) [])) old
 
 -- after one more event
-pub channels_more : (past : List Event) (nodes : ℕ → Node) (e : Event) (after : Node) → IssuesPosts past e →
+pub channels_more : (past : List Event) (nodes : ℕ → Node) (e : Event) (after : Node) → IssuesDrafts past e →
     Now past e (nodes e.node).state.taken after.state.taken → Channels past nodes → Channels (past ++ e ∷ []) (put nodes e.node after)
 channels_more past nodes e after p now c = record {
   counts = λ n m. counts n m (two e.node m);

@@ -1,5 +1,5 @@
 -- The opening of a store, seen for one name: nowhere, or one that the store opens with.
-use Rattle.std.proofs.Common.{◌≡◌, ℕ, ◌+◌, ◌-◌, ◌^◌, ◌<◌, ◌≤◌, arith, refl, ap, sym, subst, ◌∙◌, Bool, true, false, cond, List, [], ◌∷◌, map, length, zero, suc, get_or}
+use Rattle.std.proofs.Common.{◌≡◌, ℕ, ◌+◌, ◌-◌, ◌^◌, ◌<◌, ◌≤◌, arith, refl, ap, sym, subst, ◌∙◌, Bool, true, false, cond, List, [], ◌∷◌, ◌++◌, map, length, zero, suc, get_or}
 use Rattle.std.specs.Prelude.{◌==◌, ◌||◌, ◌&&◌, ◌≢◌, ◌⊎◌, nat_lt, Option, Some, None, is_some, find, slice_get, Contains}
 use Rattle.std.specs.Option.{option_map}
 use Rattle.std.proofs.Common.{inl, inr}
@@ -15,14 +15,25 @@ use Rattle.bmx_owner.specs.Records.{blank}
 use Rattle.bmx_protocol.specs.declared.views.ViewField.TheVariants as field
 use Rattle.bmx_protocol.specs.Nodes.{Setting, Known, field_of, birth_of, is_anchor, owned_birth, heard_birth, first_known}
 use Rattle.bmx_protocol.specs.Steps.{first_node}
-use Rattle.bmx_object.specs.Machine.{Holding, Numbers, no_numbers, IsFirstRecord, IsUntouched, IsFirst, Absent, Born, IsFirstElsewhere, Unknown, Heard, made_holding, heard_from}
-use Rattle.bmx_ownership.specs.Seen.{seen, seen_numbers, first_world}
+use Rattle.bmx_token.specs.Turns.{Share, made_share, heard_share}
+use Rattle.bmx_object.specs.Machine.{Slip, Numbers, no_numbers, IsNowhere, IsFirstRecord, IsUntouched, IsFirst, Absent, Born, IsFirstElsewhere, Unknown, Heard}
+use Rattle.bmx_protocol.specs.declared.events.Event.{Event}
+use Rattle.bmx_protocol.specs.Nodes.{NodeState}
+use Rattle.bmx_protocol.specs.Steps.{Node}
+use Rattle.bmx_protocol.specs.Worlds.{world_of}
+use Rattle.bmx_ownership.specs.Inside.Seen.{seen, seen_known, seen_record, first_world}
 use Rattle.bmx_ownership.proofs.Basics.{eqb_of, eqb_is, eqb_apart}
-use Rattle.bmx_ownership.proofs.Rows.{seen_known, HasNo, NoRefs}
-use Rattle.bmx_ownership.proofs.Free.{null_free, FreeOf}
+use Rattle.bmx_ownership.proofs.Ruled.{HasNo, NoRefs, FreeOf}
+use Rattle.bmx_ownership.proofs.Free.{IsFree, IsUnborn, null_free}
 use Rattle.bmx_ownership.proofs.Channels.{Channels}
-use Rattle.bmx_ownership.proofs.Knowing.{IsAware}
-use Rattle.bmx_ownership.proofs.Names.{Knows, IsClean, IsNamed}
+
+-- where x is unknown at a node, nothing there refers to it, and it is no anchor
+abbrev pub IsAware : Setting → ℕ → NodeState → Type 0
+IsAware st x s = seen_known (s.known x) ≡ None → IsFree x s × IsUnborn st x
+
+-- its maker has counted x among its names, or x stands nowhere
+abbrev pub IsNamed : ℕ → (ℕ → Node) → List Event → Type 0
+IsNamed x nodes past = (count_of x ≤ (nodes (maker x)).state.made) ⊎ IsNowhere (seen x (world_of nodes past))
 
 -- ## births
 
@@ -85,7 +96,7 @@ unknown_at st x n none = ap seen_known (known_at st x n None none ∙ none_at (n
 no_numbers_there : (r : Numbers) → None ≡ Some r → ⊥
 no_numbers_there r is = cc
 
-no_holding : (h : Holding) → None ≡ Some h → ⊥
+no_holding : (h : Share) → None ≡ Some h → ⊥
 no_holding h is = cc
 
 elsewhere : (b : Birth) (n : ℕ) (a t : Bool) → t ≡ false →
@@ -96,7 +107,7 @@ elsewhere b n false false h = Unknown refl
 
 -- a record that stands at first, by the tests that it stands under
 first_record : (st : Setting) (x n m : ℕ) (r : Numbers) (b : Option Birth) → birth_of st x ≡ b → (t u v a : Bool) → (n == 0) ≡ t → nat_lt 0 m ≡ u → nat_lt m st.nodes ≡ v → is_anchor st x ≡ a →
-    option_map seen_numbers (cond (t && u && v && a) (option_map (λ (c : Birth). blank x c.bunch m) b) None) ≡ Some r →
+    seen_record (cond (t && u && v && a) (option_map (λ (c : Birth). blank x c.bunch m) b) None) ≡ Some r →
     IsFirstRecord (seen x (first_world st)) n m r
 first_record st x n m r (Some b) is true true true true here above there anchor at = record {
   here = eqb_is n 0 here;
@@ -124,23 +135,23 @@ first_untouched st x = record {
   records = λ n m r at. first_record st x n m r (birth_of st x) refl (n == 0) (nat_lt 0 m) (nat_lt m st.nodes) (is_anchor st x) refl refl refl refl at;
 }
 
-owned_is_not_heard : {A : Type 0} → Some made_holding ≡ Some (heard_from 0) → A
+owned_is_not_heard : {A : Type 0} → Some made_share ≡ Some (heard_share 0) → A
 owned_is_not_heard e =
-    let both : Some true ≡ Some false = ap (option_map (λ (h : Holding). h.copy)) e in
+    let both : Some true ≡ Some false = ap (option_map (λ (h : Share). h.copy)) e in
     absurd cc
 
-none_is_not_heard : {A : Type 0} → None ≡ Some (heard_from 0) → A
+none_is_not_heard : {A : Type 0} → None ≡ Some (heard_share 0) → A
 none_is_not_heard e = absurd cc
 
 recorded : (st : Setting) (x n : ℕ) (b : Birth) → birth_of st x ≡ Some b → (t : Bool) → (n == 0) ≡ t → (v : Bool) → nat_lt n st.nodes ≡ v → (a : Bool) → is_anchor st x ≡ a →
-    seen_known (cond (n == 0) (Some (owned_birth b)) (cond (is_told st n x) (Some (heard_birth b)) None)) ≡ Some (heard_from 0) →
+    seen_known (cond (n == 0) (Some (owned_birth b)) (cond (is_told st n x) (Some (heard_birth b)) None)) ≡ Some (heard_share 0) →
     (seen x (first_world st)).entering 0 n ≡ Some no_numbers
 recorded st x n b is true here v there a anchor h =
     owned_is_not_heard ((λ i. seen_known (cond (sym here i) (Some (owned_birth b)) (cond (is_told st n x) (Some (heard_birth b)) None))) ∙ h)
 recorded st x n b is false here true there true anchor h =
     let above : nat_lt 0 n ≡ true = grind (arith, nat_tests) in
-    (λ i. option_map seen_numbers (cond (above i && there i && anchor i) (option_map (λ (c : Birth). blank x c.bunch n) (birth_of st x)) None))
-    ∙ ap (λ k. option_map seen_numbers (option_map (λ (c : Birth). blank x c.bunch n) k)) is
+    (λ i. seen_record (cond (above i && there i && anchor i) (option_map (λ (c : Birth). blank x c.bunch n) (birth_of st x)) None))
+    ∙ ap (λ k. seen_record (option_map (λ (c : Birth). blank x c.bunch n) k)) is
 recorded st x n b is false here true there false anchor h =
     none_is_not_heard ((λ i. seen_known (cond (sym here i) (Some (owned_birth b)) (cond (sym there i && sym anchor i) (Some (heard_birth b)) None))) ∙ h)
 recorded st x n b is false here false there a anchor h =
@@ -221,13 +232,13 @@ aware_first st opening x n real none = (
     -- who knows a name at first
     known : (b : Birth) → birth_of st x ≡ Some b → (t a : Bool) → (n == 0) ≡ t → is_told st n x ≡ a → (t || a) ≡ true → ⊥
     known b at true a here anchor h =
-        let some : seen_known (first_known st n x) ≡ Some made_holding = ap seen_known (known_at st x n (Some b) at
+        let some : seen_known (first_known st n x) ≡ Some made_share = ap seen_known (known_at st x n (Some b) at
         ∙ (λ i. cond (here i) (Some (owned_birth b)) (cond (is_told st n x) (Some (heard_birth b)) None))) in
-        no_holding made_holding (sym none ∙ some)
+        no_holding made_share (sym none ∙ some)
     known b at false true here anchor h =
-        let some : seen_known (first_known st n x) ≡ Some (heard_from 0) = ap seen_known (known_at st x n (Some b) at
+        let some : seen_known (first_known st n x) ≡ Some (heard_share 0) = ap seen_known (known_at st x n (Some b) at
         ∙ (λ i. cond (here i) (Some (owned_birth b)) (cond (anchor i) (Some (heard_birth b)) None))) in
-        no_holding (heard_from 0) (sym none ∙ some)
+        no_holding (heard_share 0) (sym none ∙ some)
     known b at false false here anchor h = cc
 
     unborn_at : (n == 0) ≡ true → (b : Option Birth) → birth_of st x ≡ b → birth_of st x ≡ None
@@ -247,31 +258,22 @@ aware_first st opening x n real none = (
         by_test true here = known c at true true here (told b below is) refl
         by_test false here = known c at false true here (told b below is) refl
 
-clean_first : (st : Setting) (x : ℕ) → birth_of st x ≡ None → IsClean x (first_node st) []
-clean_first st x none = record {
+nowhere_first : (st : Setting) (x : ℕ) → birth_of st x ≡ None → IsNowhere (seen x (first_world st))
+nowhere_first st x none = record {
   unknown = λ n. unknown_at st x n none;
-  silent = λ n m. tt;
+  untold = λ n m l before after is. absurd (empty before l after is);
 }
+  where
+    empty : (before : List Slip) (l : Slip) (after : List Slip) → [] ≡ before ++ l ∷ after → ⊥
+    empty [] l after is = cc
+    empty (b ∷ before) l after is = cc
 
 pub named_first : (st : Setting) → IsOpening st.nodes st.limit st.births → (x : ℕ) → IsNamed x (first_node st) []
 named_first st opening x = by_birth (birth_of st x) refl
   where
     by_birth : (b : Option Birth) → birth_of st x ≡ b → IsNamed x (first_node st) []
-    by_birth None is = record {
-      counted = λ knows. absurd (none_is (knows_none knows));
-      stands = inr (clean_first st x is);
-    }
-      where
-        knows_none : Knows (first_node st) (maker x) x → false ≡ true
-        knows_none knows = ap (λ (k : Option Holding). is_some k) (sym (unknown_at st x (maker x) is)) ∙ knows
-
-        none_is : false ≡ true → ⊥
-        none_is h = cc
-    by_birth (Some b) is = record {
-      counted = λ knows. subst (λ (z : ℕ). count_of x ≤ cond (z == 0) (length st.births) 0) (sym by_first) at_most;
-      stands = inl (subst (λ (z : ℕ). is_some (seen_known (first_known st z x)) ≡ true) (sym by_first)
-          (ap (λ (k : Option Known). is_some (seen_known k)) (known_at st x 0 (Some b) is)));
-    }
+    by_birth None is = inr (nowhere_first st x is)
+    by_birth (Some b) is = inl (subst (λ (z : ℕ). count_of x ≤ cond (z == 0) (length st.births) 0) (sym by_first) at_most)
       where
         at : (i : ℕ) × (slice_get st.births i ≡ Some b) × (b.name ≡ x)
         at = found_birth st.births x b is
@@ -291,6 +293,22 @@ named_first st opening x = by_birth (birth_of st x) refl
 
         at_most : count_of x ≤ length st.births
         at_most = omega (arith, small, tiny)
+
+pub beyond_first : (st : Setting) → IsOpening st.nodes st.limit st.births → (x n : ℕ) → (n < st.nodes → ⊥) → seen_known ((first_node st n).state.known x) ≡ None
+beyond_first st opening x n none = λ i. seen_known (cond (here i) (option_map owned_birth (birth_of st x)) (cond (there i && is_anchor st x) (option_map heard_birth (birth_of st x)) None))
+  where
+    here : (n == 0) ≡ false
+    here = eqb_apart n 0 (λ is. none (omega (arith, is, opening.a_node)))
+
+    there : nat_lt n st.nodes ≡ false
+    there = by_test (nat_lt n st.nodes) (lt_is n st.nodes)
+      where
+        lt_is : (a b : ℕ) → nat_lt a b ≡ true → a < b
+        lt_is a b h = grind (arith, nat_tests)
+
+        by_test : (t : Bool) → (t ≡ true → n < st.nodes) → t ≡ false
+        by_test true q = absurd (none (q refl))
+        by_test false q = refl
 
 pub channels_first : (st : Setting) → Channels [] (first_node st)
 channels_first st = record { counts = λ n m. refl; within = λ n m. omega arith; numbers = λ n m. tt }

@@ -1,11 +1,10 @@
--- What the machine's laws say of a store: each name has one owner, and a write excludes.
-use Rattle.std.proofs.Common.{◌≡◌, ℕ, ◌+◌, ◌≤◌, arith, refl, ap, sym, subst, ◌∙◌, Bool, true, false, cond, List, [], ◌∷◌, ◌++◌, map, suc}
-use Rattle.std.specs.Prelude.{◌==◌, ◌≢◌, ◌&&◌, ◌⊎◌, Option, Some, None, Contains}
-use Rattle.std.proofs.Common.{inl, inr}
+-- What the model's laws say of a store: each name has one seat and one owner, and a write excludes.
+use Rattle.std.proofs.Common.{◌≡◌, inl, inr, ℕ, ◌+◌, ◌≤◌, arith, refl, ap, sym, ◌∙◌, Bool, true, false, cond, List, [], ◌∷◌, ◌++◌, map, suc}
+use Rattle.std.specs.Prelude.{◌==◌, ◌||◌, ◌&&◌, ◌⊎◌, Option, Some, None, Contains}
+use Rattle.std.specs.Option.{option_map_or}
 use Rattle.std.proofs.lemmas.List.{map-append}
 use Rattle.std.proofs.lemmas.List.Sums.{sum_by-cons}
 use Rattle.bmx_types.specs.declared.addresses.Info.{Info}
-use Rattle.bmx_types.specs.declared.numbers.Mode.TheVariants as mode
 use Rattle.bmx_msg.specs.declared.letters.Field.{Field}
 use Rattle.bmx_msg.specs.declared.letters.Letter.{Letter}
 use Rattle.bmx_msg.specs.declared.letters.Msg.{Msg}
@@ -13,16 +12,20 @@ use Rattle.bmx_msg.specs.declared.letters.Msg.TheVariants as msg
 use Rattle.bmx_msg.specs.Letters.{targets}
 use Rattle.bmx_token.specs.declared.parts.Role.{Role}
 use Rattle.bmx_token.specs.declared.parts.Role.TheVariants as role
-use Rattle.bmx_protocol.specs.Nodes.{Setting, Known}
+use Rattle.bmx_token.specs.Turns.{Note}
+use Rattle.bmx_protocol.specs.Nodes.{Setting, Known, share_of}
 use Rattle.bmx_protocol.specs.Worlds.{World, HasOwned, IsMoving, Owns, Has, Gets, names_in, IsSomewhere, At, Between, HasOneOwner, EachHasOneOwner, WritesExclude}
-use Rattle.bmx_object.specs.Machine.{Note, Asks, Grants, Recalls, Returns, Tells, IsNowhere}
-use Rattle.bmx_object.specs.Laws.{is_owner, owned_at, handovers, handovers_in, Seat, Moving, is_at, IsOwned, HasOneSeat, WriteExcludes}
-use Rattle.bmx_object.specs.Laws.{At as AtNode}
+use Rattle.bmx_object.specs.Machine.{Slip, IsSilent, IsNowhere, is_handover, brings}
+use Rattle.bmx_object.specs.Laws.{is_owner, owned_at, handovers_in, Seat, IsOwned, HasOneSeat, WriteExcludes}
+use Rattle.bmx_object.specs.Laws as model
 use Rattle.bmx_object.proofs.Readers.{one_or_more}
-use Rattle.bmx_ownership.specs.Seen.{seen, seen_slip, seen_notes, seen_holding, note_if, tells}
-use Rattle.bmx_ownership.specs.Laws.{EachHasOneSeat, is_handover_of, handovers_of, SeenSeatIsSeat}
-use Rattle.bmx_ownership.proofs.Basics.{eqb_of, eqb_is, eqb_same, Two, Same, Apart, two}
-use Rattle.bmx_ownership.proofs.Rows.{seen_known}
+use Rattle.bmx_ownership.specs.Inside.Seen.{has_name, seen_note, tells_of, seen, seen_slip, seen_known}
+use Rattle.bmx_ownership.specs.Laws.{is_handover_of, handovers_of, IsSeated}
+use Rattle.bmx_ownership.specs.Laws as seated
+use Rattle.bmx_ownership.proofs.Basics.{eqb_of, eqb_is, eqb_same, eqb_apart, Two, Same, Apart, two}
+
+abbrev pub one_if : Bool → ℕ
+one_if b = cond b 1 0
 
 -- ## where a name stands
 
@@ -37,58 +40,45 @@ split_at (y ∷ xs) x c = by_place (one_or_more y xs x c) (split_at xs x)
     by_place (inr there) rest = (y ∷ (rest there).0, (rest there).1, ap (λ l. y ∷ l) (rest there).2)
 
 -- a message that says nothing of x doesn't name it
-no_note : (x name : ℕ) (n : Note) (rest : List Note) → note_if x name n rest ≡ [] → (name ≢ x) × (rest ≡ [])
-no_note x name n rest h = by_two (two name x)
-  where
-    by_two : Two name x → (name ≢ x) × (rest ≡ [])
-    by_two (Same e) =
-        let some : n ∷ rest ≡ [] = ap (λ (b : Bool). cond b (n ∷ rest) rest) (sym (eqb_of e)) ∙ h in
-        absurd (cc)
-    by_two (Apart a d) = (d, ap (λ (b : Bool). cond b (n ∷ rest) rest) (sym a) ∙ h)
-
-none_among : (x : ℕ) (names : List ℕ) → tells x names ≡ [] → Contains names x → ⊥
+none_among : (x : ℕ) (names : List ℕ) → has_name x names ≡ false → Contains names x → ⊥
 none_among x [] h c = absurd (omega (arith, c.1))
-none_among x (y ∷ names) h c = by_place (one_or_more y names x c) (none_among x names (no_note x y Tells (tells x names) h).1)
+none_among x (y ∷ names) h c = by_place (two y x) (one_or_more y names x c) (none_among x names) h
   where
-    by_place : (y ≡ x) ⊎ Contains names x → (Contains names x → ⊥) → ⊥
-    by_place (inl here) rest = (no_note x y Tells (tells x names) h).0 here
-    by_place (inr there) rest = rest there
+    by_place : Two y x → (y ≡ x) ⊎ Contains names x → (has_name x names ≡ false → Contains names x → ⊥) → ((y == x) || has_name x names) ≡ false → ⊥
+    by_place (Same e) there rest h = (let both : true ≡ false = (λ i. sym (eqb_of e) i || has_name x names) ∙ h in cc)
+    by_place (Apart f d) (inl here) rest h = d here
+    by_place (Apart f d) (inr there) rest h = rest ((λ i. sym f i || has_name x names) ∙ h) there
 
-one_name : (x name : ℕ) (n : Note) → note_if x name n [] ≡ [] → Contains (name ∷ []) x → ⊥
-one_name x name n h c = by_place (one_or_more name [] x c)
+no_note : (x name : ℕ) (n : Note) → cond (name == x) (Some n) None ≡ None → name ≡ x → ⊥
+no_note x name n none same = (let both : Some n ≡ None = (λ i. cond (sym (eqb_of same) i) (Some n) None) ∙ none in cc)
+
+-- the names of a message: its own, and those that its fields refer to
+not_named : (x : ℕ) (m : Msg) → seen_note x m ≡ None → tells_of x m ≡ false → Contains (names_in m) x → ⊥
+not_named x m note tells c = by_message m note tells c
   where
-    by_place : (name ≡ x) ⊎ Contains [] x → ⊥
-    by_place (inl here) = (no_note x name n [] h).0 here
-    by_place (inr there) = absurd (omega (arith, there.1))
+    by_names : (name : ℕ) (n : Note) (names : List ℕ) → cond (name == x) (Some n) None ≡ None → has_name x names ≡ false → Contains (name ∷ names) x → ⊥
+    by_names name n names note tells c = none_among x (name ∷ names) (λ i. eqb_apart name x (no_note x name n note) i || tells i) c
 
-more_names : (x name : ℕ) (n : Note) (names : List ℕ) → note_if x name n (tells x names) ≡ [] → Contains (name ∷ names) x → ⊥
-more_names x name n names h c = by_place (one_or_more name names x c)
-  where
-    by_place : (name ≡ x) ⊎ Contains names x → ⊥
-    by_place (inl here) = (no_note x name n (tells x names) h).0 here
-    by_place (inr there) = none_among x names (no_note x name n (tells x names) h).1 there
+    by_message : (m : Msg) → seen_note x m ≡ None → tells_of x m ≡ false → Contains (names_in m) x → ⊥
+    by_message (msg.ReadReq name asker) note tells c = by_names name _ [] note refl c
+    by_message (msg.WriteReq name asker) note tells c = by_names name _ [] note refl c
+    by_message (msg.ReadGrant info fields) note tells c = by_names info.name _ (targets fields) note tells c
+    by_message (msg.WriteGrant info fields) note tells c = by_names info.name _ (targets fields) note tells c
+    by_message (msg.Inval name) note tells c = by_names name _ [] note refl c
+    by_message (msg.InvAck name) note tells c = by_names name _ [] note refl c
 
-not_named : (x : ℕ) (m : Msg) → seen_notes x m ≡ [] → Contains (names_in m) x → ⊥
-not_named x (msg.ReadReq name asker) h c = one_name x name (Asks mode.Read asker) h c
-not_named x (msg.WriteReq name asker) h c = one_name x name (Asks mode.Write asker) h c
-not_named x (msg.ReadGrant info fields) h c = more_names x info.name (Grants mode.Read) (targets fields) h c
-not_named x (msg.WriteGrant info fields) h c = more_names x info.name (Grants mode.Write) (targets fields) h c
-not_named x (msg.Inval name) h c = one_name x name Recalls h c
-not_named x (msg.InvAck name) h c = one_name x name Returns h c
-
-not_nowhere : (st : Setting) (w : World) (x : ℕ) → IsSomewhere st w x → IsNowhere (seen x w) → ⊥
+pub not_nowhere : (st : Setting) (w : World) (x : ℕ) → IsSomewhere st w x → IsNowhere (seen x w) → ⊥
 not_nowhere st w x (At n k node known) nowhere =
-    let both : None ≡ Some (seen_holding k) = sym (nowhere.unknown n) ∙ ap seen_known known in
+    let both : None ≡ Some (share_of k) = sym (nowhere.unknown n) ∙ ap seen_known known in
     cc
 not_nowhere st w x (Between n m l a b there speaks) nowhere =
     let s : (before : List Letter) × (after : List Letter) × (w.way n m ≡ before ++ l ∷ after) = split_at (w.way n m) l there in
-    not_named x l.msg (nowhere.untold n m (seen_slip x l) (map (seen_slip x) s.0) (map (seen_slip x) s.1)
-    (ap (map (seen_slip x)) s.2 ∙ map-append (seen_slip x) s.0 (l ∷ s.1))) speaks
+    let silent : IsSilent (seen_slip x l) =
+    nowhere.untold n m (seen_slip x l) (map (seen_slip x) s.0) (map (seen_slip x) s.1)
+    (ap (map (seen_slip x)) s.2 ∙ map-append (seen_slip x) s.0 (l ∷ s.1)) in
+    not_named x l.msg silent.note silent.tells speaks
 
 -- ## owners at a node
-
-abbrev one_if : Bool → ℕ
-one_if b = cond b 1 0
 
 owned_known : (k : Option Known) → owned_at (seen_known k) ≡ 1 → (j : Known) × (k ≡ Some j) × (j.part.role ≡ role.Owner)
 owned_known None h = absurd (omega arith)
@@ -104,183 +94,147 @@ known_owned w x n k has =
 
 -- ## ownership on its way
 
-tells_hand : (x : ℕ) (names : List ℕ) → handovers (tells x names) ≡ 0
-tells_hand x [] = refl
-tells_hand x (y ∷ names) = by_test (y == x) (tells_hand x names)
+-- what is seen of a message hands x over just if the message does
+pub is_hand : (x : ℕ) (l : Letter) → brings (seen_slip x l) ≡ is_handover_of x l.msg
+is_hand x l = by_message l.msg
   where
-    by_test : (b : Bool) → handovers (tells x names) ≡ 0 → handovers (cond b (Tells ∷ tells x names) (tells x names)) ≡ 0
-    by_test true h = omega arith
-    by_test false h = h
+    other : (b : Bool) (n : Note) → is_handover n ≡ false → option_map_or is_handover (cond b (Some n) None) false ≡ false
+    other true n h = h
+    other false n h = refl
 
--- a message hands x over
-record Hands (x : ℕ) (m : Msg) : Type 0 where
-  info : Info
-  fields : List Field
-  is : m ≡ msg.WriteGrant info fields
-  named : info.name ≡ x
+    one : (b : Bool) (n : Note) → is_handover n ≡ true → option_map_or is_handover (cond b (Some n) None) false ≡ b
+    one true n h = h
+    one false n h = refl
 
-quiet_note : (b : Bool) (n : Note) → handovers (n ∷ []) ≡ 0 → handovers (cond b (n ∷ []) []) ≡ 0
-quiet_note true n h = h
-quiet_note false n h = refl
+    by_message : (m : Msg) → option_map_or is_handover (seen_note x m) false ≡ is_handover_of x m
+    by_message (msg.ReadReq name asker) = other (name == x) _ refl
+    by_message (msg.WriteReq name asker) = other (name == x) _ refl
+    by_message (msg.ReadGrant info fields) = other (info.name == x) _ refl
+    by_message (msg.WriteGrant info fields) = one (info.name == x) _ refl
+    by_message (msg.Inval name) = other (name == x) _ refl
+    by_message (msg.InvAck name) = other (name == x) _ refl
 
-read_note : (b : Bool) (notes : List Note) → handovers notes ≡ 0 → handovers (cond b (Grants mode.Read ∷ notes) notes) ≡ 0
-read_note true notes h = omega arith
-read_note false notes h = h
-
--- what is seen of a message counts the grant in it
-is_hand : (x : ℕ) (m : Msg) → handovers (seen_notes x m) ≡ one_if (is_handover_of x m)
-is_hand x (msg.ReadReq name asker) = quiet_note (name == x) _ refl
-is_hand x (msg.WriteReq name asker) = quiet_note (name == x) _ refl
-is_hand x (msg.ReadGrant info fields) = read_note (info.name == x) (tells x (targets fields)) (tells_hand x (targets fields))
-is_hand x (msg.WriteGrant info fields) = by_test (info.name == x) (tells x (targets fields)) (tells_hand x (targets fields))
-  where
-    by_test : (b : Bool) (notes : List Note) → handovers notes ≡ 0 → handovers (cond b (Grants mode.Write ∷ notes) notes) ≡ one_if b
-    by_test true notes none = omega arith
-    by_test false notes none = none
-is_hand x (msg.Inval name) = quiet_note (name == x) _ refl
-is_hand x (msg.InvAck name) = quiet_note (name == x) _ refl
-
-hands : (x : ℕ) (m : Msg) → (handovers (seen_notes x m) ≡ 0) ⊎ ((handovers (seen_notes x m) ≡ 1) × Hands x m)
-hands x (msg.ReadReq name asker) = inl (is_hand x (msg.ReadReq name asker))
-hands x (msg.WriteReq name asker) = inl (is_hand x (msg.WriteReq name asker))
-hands x (msg.ReadGrant info fields) = inl (is_hand x (msg.ReadGrant info fields))
-hands x (msg.WriteGrant info fields) = by_test (info.name == x) (eqb_is info.name x) (is_hand x (msg.WriteGrant info fields))
-  where
-    count : ℕ
-    count = handovers (seen_notes x (msg.WriteGrant info fields))
-
-    by_test : (b : Bool) → (b ≡ true → info.name ≡ x) → count ≡ one_if b → (count ≡ 0) ⊎ ((count ≡ 1) × Hands x (msg.WriteGrant info fields))
-    by_test true q e = inr (e, record { info = info; fields = fields; is = refl; named = q refl })
-    by_test false q e = inl e
-hands x (msg.Inval name) = inl (is_hand x (msg.Inval name))
-hands x (msg.InvAck name) = inl (is_hand x (msg.InvAck name))
-
--- among letters one hands x over
-record HandsAmong (x : ℕ) (letters : List Letter) : Type 0 where
-  letter : Letter
-  there : Contains letters letter
-  gives : Hands x letter.msg
-
-among : (x : ℕ) (letters : List Letter) → handovers_in (map (seen_slip x) letters) ≡ 1 → HandsAmong x letters
-among x [] h = absurd (omega arith)
-among x (l ∷ letters) h = by_letter (hands x l.msg) (among x letters)
-  where
-    by_letter : (handovers (seen_notes x l.msg) ≡ 0) ⊎ ((handovers (seen_notes x l.msg) ≡ 1) × Hands x l.msg) →
-        (handovers_in (map (seen_slip x) letters) ≡ 1 → HandsAmong x letters) → HandsAmong x (l ∷ letters)
-    by_letter (inl none) rest =
-        let r : HandsAmong x letters = rest (omega arith) in
-        let c : Contains letters r.letter = r.there in
-        record { letter = r.letter; there = (suc c.0, omega (arith, c.1), c.2); gives = r.gives }
-    by_letter (inr one) rest = record { letter = l; there = (0, omega arith, refl); gives = one.1 }
+pub hands_in : (x : ℕ) (letters : List Letter) → handovers_in (map (seen_slip x) letters) ≡ handovers_of x letters
+hands_in x [] = refl
+hands_in x (l ∷ letters) =
+    sum_by-cons (λ (k : Slip). one_if (brings k)) (seen_slip x l) (map (seen_slip x) letters)
+    ∙ (λ i. one_if (is_hand x l i) + hands_in x letters i)
+    ∙ sym (sum_by-cons (λ (k : Letter). one_if (is_handover_of x k.msg)) l letters)
 
 -- a letter that hands x over is counted
-grant_hands : (x : ℕ) (info : Info) (fields : List Field) → info.name ≡ x → handovers (seen_notes x (msg.WriteGrant info fields)) ≡ 1
-grant_hands x info fields named = is_hand x (msg.WriteGrant info fields) ∙ ap one_if (eqb_of named)
-
-counted : (x : ℕ) (letters : List Letter) (l : Letter) → Contains letters l → handovers (seen_notes x l.msg) ≡ 1 → 1 ≤ handovers_in (map (seen_slip x) letters)
+pub counted : (x : ℕ) (letters : List Letter) (l : Letter) → Contains letters l → is_handover_of x l.msg ≡ true → 1 ≤ handovers_of x letters
 counted x [] l c h = absurd (omega (arith, c.1))
 counted x (k ∷ letters) l c h = by_place (one_or_more k letters l c) (λ there. counted x letters l there h)
   where
-    by_place : (k ≡ l) ⊎ Contains letters l → (Contains letters l → 1 ≤ handovers_in (map (seen_slip x) letters)) →
-        1 ≤ handovers (seen_notes x k.msg) + handovers_in (map (seen_slip x) letters)
+    all : handovers_of x (k ∷ letters) ≡ one_if (is_handover_of x k.msg) + handovers_of x letters
+    all = sum_by-cons (λ (j : Letter). one_if (is_handover_of x j.msg)) k letters
+
+    by_place : (k ≡ l) ⊎ Contains letters l → (Contains letters l → 1 ≤ handovers_of x letters) → 1 ≤ handovers_of x (k ∷ letters)
     by_place (inl here) rest =
-        let one : handovers (seen_notes x k.msg) ≡ 1 = ap (λ (z : Letter). handovers (seen_notes x z.msg)) here ∙ h in
-        omega arith
-    by_place (inr there) rest =
-        let more : 1 ≤ handovers_in (map (seen_slip x) letters) = rest there in
-        omega arith
+        let one : one_if (is_handover_of x k.msg) ≡ 1 = ap (λ (z : Letter). one_if (is_handover_of x z.msg)) here ∙ ap one_if h in
+        omega (arith, all, one)
+    by_place (inr there) rest = omega (arith, all, rest there)
 
-moving_counted : (w : World) (x from to : ℕ) (l : Letter) (info : Info) (fields : List Field) → IsMoving w x from to l info fields →
-    1 ≤ handovers_in ((seen x w).way from to)
+pub moving_counted : (w : World) (x from to : ℕ) (l : Letter) (info : Info) (fields : List Field) → IsMoving w x from to l info fields → 1 ≤ handovers_of x (w.way from to)
 moving_counted w x from to l info fields moving =
-    counted x (w.way from to) l moving.there
-    (ap (λ (m : Msg). handovers (seen_notes x m)) moving.grants ∙ grant_hands x info fields moving.named)
+    counted x (w.way from to) l moving.there (ap (is_handover_of x) moving.grants ∙ eqb_of moving.named)
 
--- ## one owner
+-- among letters one hands x over
+pub record HandsAmong (x : ℕ) (letters : List Letter) : Type 0 where
+  pub letter : Letter
+  pub info : Info
+  pub fields : List Field
+  pub there : Contains letters letter
+  pub grants : letter.msg ≡ msg.WriteGrant info fields
+  pub named : info.name ≡ x
 
-at_place : (n k : ℕ) (b : Bool) → (b ≡ true → k ≡ n) → one_if b ≡ 1 → k ≡ n
-at_place n k true q h = q refl
-at_place n k false q h = absurd (omega arith)
+pub among : (x : ℕ) (letters : List Letter) → 1 ≤ handovers_of x letters → HandsAmong x letters
+among x [] h = absurd (omega arith)
+among x (l ∷ letters) h = by_message l.msg refl (among x letters)
+  where
+    all : handovers_of x (l ∷ letters) ≡ one_if (is_handover_of x l.msg) + handovers_of x letters
+    all = sum_by-cons (λ (j : Letter). one_if (is_handover_of x j.msg)) l letters
 
-on_move : (a b : Bool) → 1 ≤ one_if (a && b) → b ≡ true
-on_move true true h = refl
-on_move true false h = absurd (omega arith)
-on_move false b h = absurd (omega arith)
+    later : is_handover_of x l.msg ≡ false → (1 ≤ handovers_of x letters → HandsAmong x letters) → HandsAmong x (l ∷ letters)
+    later none rest =
+        let r : HandsAmong x letters = rest (omega (arith, h, all, ap one_if none)) in
+        let c : Contains letters r.letter = r.there in
+        record { letter = r.letter; info = r.info; fields = r.fields; there = (suc c.0, omega (arith, c.1), c.2); grants = r.grants; named = r.named }
 
-pub one_owner : (w : World) (x : ℕ) (s : Seat) → IsOwned (seen x w) s → HasOneOwner w x
-one_owner w x (AtNode n) owned = record {
-  owner = n;
-  owns = Has k.0 (record { known = k.1; owns = k.2 });
-  alone = λ m h. alone m h;
-}
+    by_message : (m : Msg) → l.msg ≡ m → (1 ≤ handovers_of x letters → HandsAmong x letters) → HandsAmong x (l ∷ letters)
+    by_message (msg.ReadReq name asker) is = later (ap (is_handover_of x) is)
+    by_message (msg.WriteReq name asker) is = later (ap (is_handover_of x) is)
+    by_message (msg.ReadGrant info fields) is = later (ap (is_handover_of x) is)
+    by_message (msg.Inval name) is = later (ap (is_handover_of x) is)
+    by_message (msg.InvAck name) is = later (ap (is_handover_of x) is)
+    by_message (msg.WriteGrant info fields) is = by_name (two info.name x)
+      where
+        by_name : Two info.name x → (1 ≤ handovers_of x letters → HandsAmong x letters) → HandsAmong x (l ∷ letters)
+        by_name (Same e) rest = record { letter = l; info = info; fields = fields; there = (0, omega arith, refl); grants = is; named = e }
+        by_name (Apart f d) rest = later (ap (is_handover_of x) is ∙ f) rest
+
+-- ## the seat
+
+at_place : (n m : ℕ) (b : Bool) → (b ≡ true → m ≡ n) → one_if b ≡ 1 → m ≡ n
+at_place n m true q h = q refl
+at_place n m false q h = absurd (omega arith)
+
+seat_in : (w : World) (x : ℕ) (s : Seat) → IsOwned (seen x w) s → IsSeated w x
+seat_in w x (model.At n) owned = seated.At n k.0 (record { known = k.1; owns = k.2 })
+    (λ m j has. at_place n m (m == n) (eqb_is m n) (sym (owned.nodes m) ∙ known_owned w x m j has))
+    (λ from to. sym (hands_in x (w.way from to)) ∙ owned.letters from to)
   where
     k : (j : Known) × ((w.state n).known x ≡ Some j) × (j.part.role ≡ role.Owner)
     k = owned_known ((w.state n).known x) (owned.nodes n ∙ ap one_if (eqb_same n))
+seat_in w x (model.Moving from to) owned = seated.Moving from to
+    (sym (hands_in x (w.way from to)) ∙ owned.letters from to ∙ (λ i. one_if (eqb_same from i && eqb_same to i)))
+    (λ n m apart. sym (hands_in x (w.way n m)) ∙ owned.letters n m ∙ elsewhere (two n from) (two m to) apart)
+    (λ m j has. (let both : 0 ≡ 1 = sym (owned.nodes m) ∙ known_owned w x m j has in cc))
+  where
+    elsewhere : {n m : ℕ} → Two n from → Two m to → (n ≡ from → m ≡ to → ⊥) → one_if ((n == from) && (m == to)) ≡ 0
+    elsewhere (Same e) (Same f) apart = absurd (apart e f)
+    elsewhere {n = n} {m = m} (Same e) (Apart f d) apart = (λ i. one_if ((n == from) && f i)) ∙ by_test (n == from)
+      where
+        by_test : (b : Bool) → one_if (b && false) ≡ 0
+        by_test true = refl
+        by_test false = refl
+    elsewhere {m = m} (Apart f d) q apart = λ i. one_if (f i && (m == to))
 
+owner_in : (w : World) (x : ℕ) → IsSeated w x → HasOneOwner w x
+owner_in w x (seated.At n k has others none) = record { owner = n; owns = Has k has; alone = alone }
+  where
     alone : (m : ℕ) → Owns w x m → m ≡ n
-    alone m (Has j has) = at_place n m (m == n) (eqb_is m n) (sym (owned.nodes m) ∙ known_owned w x m j has)
-    alone m (Gets from l info fields moving) =
-        let some : 1 ≤ handovers_in ((seen x w).way from m) = moving_counted w x from m l info fields moving in
-        let none : handovers_in ((seen x w).way from m) ≡ 0 = owned.letters from m in
-        absurd (omega arith)
-one_owner w x (Moving from to) owned = record {
+    alone m (Has j owned) = others m j owned
+    alone m (Gets from l info fields moving) = absurd (omega (arith, moving_counted w x from m l info fields moving, none from m))
+owner_in w x (seated.Moving from to one elsewhere none) = record {
   owner = to;
-  owns = Gets from h.letter h.gives.info h.gives.fields (record { there = h.there; grants = h.gives.is; named = h.gives.named });
-  alone = λ m h. alone m h;
+  owns = Gets from h.letter h.info h.fields (record { there = h.there; grants = h.grants; named = h.named });
+  alone = alone;
 }
   where
-    here : ((from == from) && (to == to)) ≡ true
-    here = (λ i. eqb_same from i && eqb_same to i)
-
     h : HandsAmong x (w.way from to)
-    h = among x (w.way from to) (owned.letters from to ∙ ap one_if here)
+    h = among x (w.way from to) (omega (arith, one))
 
     alone : (m : ℕ) → Owns w x m → m ≡ to
-    alone m (Has j has) =
-        let some : owned_at ((seen x w).holds m) ≡ 1 = known_owned w x m j has in
-        let none : owned_at ((seen x w).holds m) ≡ 0 = owned.nodes m in
-        absurd (omega arith)
-    alone m (Gets other l info fields moving) = eqb_is m to (on_move (other == from) (m == to)
-        (subst (λ (k : ℕ). 1 ≤ k) (owned.letters other m) (moving_counted w x other m l info fields moving)))
+    alone m (Has j owned) = absurd (none m j owned)
+    alone m (Gets other l info fields moving) = by_two (two m to)
+      where
+        by_two : Two m to → m ≡ to
+        by_two (Same e) = e
+        by_two (Apart f d) = absurd (omega (arith, moving_counted w x other m l info fields moving, elsewhere other m (λ _ e. d e)))
 
-pub each_has_one : (st : Setting) (w : World) → ((x : ℕ) → HasOneSeat (seen x w)) → EachHasOneOwner st w
-each_has_one st w seats x somewhere = by_seat (seats x)
+pub each_seat : (st : Setting) (w : World) → ((x : ℕ) → HasOneSeat (seen x w)) → (x : ℕ) → IsSomewhere st w x → IsSeated w x
+each_seat st w seats x somewhere = by_seat (seats x)
   where
-    by_seat : HasOneSeat (seen x w) → HasOneOwner w x
+    by_seat : HasOneSeat (seen x w) → IsSeated w x
     by_seat (inl nowhere) = absurd (not_nowhere st w x somewhere nowhere)
-    by_seat (inr seat) = one_owner w x seat.0 seat.1
+    by_seat (inr seat) = seat_in w x seat.0 seat.1
 
-pub each_has_seat : (st : Setting) (w : World) → ((x : ℕ) → HasOneSeat (seen x w)) → EachHasOneSeat st w
-each_has_seat st w seats x somewhere = by_seat (seats x)
-  where
-    by_seat : HasOneSeat (seen x w) → (s : Seat) × IsOwned (seen x w) s
-    by_seat (inl nowhere) = absurd (not_nowhere st w x somewhere nowhere)
-    by_seat (inr seat) = seat
+pub each_owner : (st : Setting) (w : World) → ((x : ℕ) → HasOneSeat (seen x w)) → EachHasOneOwner st w
+each_owner st w seats x somewhere = owner_in w x (each_seat st w seats x somewhere)
 
--- ## the seat in a store
-
-hands_in : (x : ℕ) (letters : List Letter) → handovers_in (map (seen_slip x) letters) ≡ handovers_of x letters
-hands_in x [] = refl
-hands_in x (l ∷ letters) =
-    (λ i. is_hand x l.msg i + hands_in x letters i)
-    ∙ sym (sum_by-cons (λ (k : Letter). one_if (is_handover_of x k.msg)) l letters)
-
-is_there : (b : Bool) → one_if b ≡ 1 → b ≡ true
-is_there true h = refl
-is_there false h = absurd (omega arith)
-
-pub seen_seat_is_seat : SeenSeatIsSeat
-seen_seat_is_seat w x s owned = record {
-  has = λ n at. has n (owned_known ((w.state n).known x) (owned.nodes n ∙ ap one_if at));
-  alone = λ n k has. is_there (is_at s n) (sym (owned.nodes n) ∙ known_owned w x n k has);
-  grants = λ n m. sym (hands_in x (w.way n m)) ∙ owned.letters n m;
-}
-  where
-    has : (n : ℕ) → (k : Known) × ((w.state n).known x ≡ Some k) × (k.part.role ≡ role.Owner) → (k : Known) × HasOwned w x n k
-    has n k = (k.0, record { known = k.1; owns = k.2 })
-
--- ## a write excludes
+-- ## a write
 
 pub writes_exclude : (st : Setting) (w : World) → ((x : ℕ) → WriteExcludes (seen x w)) → WritesExclude st w
-writes_exclude st w each n m x j k a b known other held some =
-    each x n m (seen_holding j) (seen_holding k) (ap seen_known known) (ap seen_known other) held some
+writes_exclude st w each n m x j k real other has also writes held =
+    each x n m (share_of j) (share_of k) (ap seen_known has) (ap seen_known also) writes held

@@ -1,10 +1,10 @@
--- A node's letters issued one after another by the machine of a name, in closed form: as the node's closing
--- numbers them and writes their records.
-use Rattle.std.proofs.Common.{◌≡◌, ℕ, ◌+◌, arith, refl, ap, sym, subst, ◌∙◌, Bool, true, false, cond, List, [], ◌∷◌, ◌++◌, map}
+-- Letters that a node issues, seen for one name: the model issues them one after another, and records and counts
+-- are then those of the node's state.
+use Rattle.std.proofs.Common.{◌≡◌, ℕ, ◌+◌, arith, refl, ap, sym, subst, ◌∙◌, Bool, true, false, cond, List, [], ◌∷◌, ◌++◌, map, append_assoc}
 use Rattle.std.specs.Prelude.{◌==◌, ◌||◌, max, Option, Some, None, unwrap_or}
-use Rattle.std.specs.Option.{option_map, option_map_or}
+use Rattle.std.specs.List.{flat_map}
 use Rattle.std.proofs.lemmas.List.{append-nil}
-use Rattle.std.proofs.Common.{append_assoc}
+use Rattle.std.proofs.lemmas.Bool.Decides.{nat_tests}
 use Rattle.bmx_types.specs.declared.numbers.Mode.TheVariants as mode
 use Rattle.bmx_graph.specs.State.{put, put_at}
 use Rattle.bmx_msg.specs.declared.letters.Letter.{Letter}
@@ -12,69 +12,54 @@ use Rattle.bmx_msg.specs.declared.letters.Msg.{Msg}
 use Rattle.bmx_msg.specs.declared.letters.Msg.TheVariants as msg
 use Rattle.bmx_msg.specs.Letters.{given, targets}
 use Rattle.bmx_owner.specs.declared.entering.Record.{Record}
-use Rattle.bmx_owner.specs.Records.{blank, sent_by}
+use Rattle.bmx_owner.specs.Records.{sent_by, got_by}
+use Rattle.bmx_token.specs.Turns.{Note, Grants}
+use Rattle.bmx_object.specs.Machine.{Slip, Numbers, Object, no_numbers, is_gift, gives, sent_in, got_in, issue, issue_all}
+use Rattle.bmx_protocol.specs.declared.inputs.Sending.{Sending}
 use Rattle.bmx_protocol.specs.Nodes.{NodeState}
-use Rattle.bmx_protocol.specs.Rows.{Post}
-use Rattle.bmx_protocol.specs.Steps.{with_given, with_names, with_records, issued_after, numbered}
+use Rattle.bmx_protocol.specs.Changes.{Change, Sets, Makes, Knows, Hears, Gives, Gets, Issues, Takes, record_of, after_change, after_changes}
+use Rattle.bmx_protocol.specs.Rules.{Draft}
+use Rattle.bmx_protocol.specs.Steps.{numbered, sent_changes}
 use Rattle.bmx_protocol.specs.Histories.{letters_to}
-use Rattle.bmx_object.specs.Machine.{Note, Tells, Slip, Numbers, is_gift, Grants, Object, at_one, at_two, Send, send, is_given, sent_in, issue, issue_all}
-use Rattle.bmx_ownership.specs.Seen.{tells, seen_notes, seen_slip, seen_numbers}
-use Rattle.std.proofs.lemmas.Bool.Decides.{nat_tests}
-use Rattle.bmx_ownership.proofs.Basics.{eqb_is, eqb_same, eqb_sym, Two, Same, Apart, two, put_same, put_apart}
-
--- a message as the machine of x sends it
-abbrev pub seen_send : ℕ → Post → Send
-seen_send x p = send p.to (seen_notes x p.msg)
-
-abbrev pub seen_sends : ℕ → List Post → List Send
-seen_sends x posts = map (seen_send x) posts
-
-abbrev pub seen_record : Option Record → Option Numbers
-seen_record r = option_map seen_numbers r
-
--- ## the names that a letter gives
-
-abbrev listed : ℕ → List ℕ → Bool
-listed x [] = false
-listed x (y ∷ names) = (y == x) || listed x names
-
-tells_give : (x : ℕ) (names : List ℕ) → is_given (tells x names) ≡ listed x names
-tells_give x [] = refl
-tells_give x (y ∷ names) = by_test (y == x) (tells_give x names)
-  where
-    by_test : (b : Bool) → is_given (tells x names) ≡ listed x names → is_given (cond b (Tells ∷ tells x names) (tells x names)) ≡ (b || listed x names)
-    by_test true h = refl
-    by_test false h = h
-
-no_gift : (b : Bool) (n : Note) → is_gift n ≡ false → is_given (cond b (n ∷ []) []) ≡ false
-no_gift true n h = ap (λ (g : Bool). g || false) h
-no_gift false n h = refl
-
-read_gift : (b : Bool) (notes : List Note) (l : Bool) → is_given notes ≡ l → is_given (cond b (Grants mode.Read ∷ notes) notes) ≡ (b || l)
-read_gift true notes l h = refl
-read_gift false notes l h = h
-
-write_gift : (b : Bool) (notes : List Note) (l : Bool) → is_given notes ≡ l → is_given (cond b (Grants mode.Write ∷ notes) notes) ≡ l
-write_gift true notes l h = h
-write_gift false notes l h = h
-
-pub notes_give : (x : ℕ) (m : Msg) → is_given (seen_notes x m) ≡ listed x (given m)
-notes_give x (msg.ReadReq name asker) = no_gift (name == x) _ refl
-notes_give x (msg.WriteReq name asker) = no_gift (name == x) _ refl
-notes_give x (msg.ReadGrant info fields) = read_gift (info.name == x) _ _ (tells_give x (targets fields))
-notes_give x (msg.WriteGrant info fields) = write_gift (info.name == x) _ _ (tells_give x (targets fields))
-notes_give x (msg.Inval name) = no_gift (name == x) _ refl
-notes_give x (msg.InvAck name) = no_gift (name == x) _ refl
-
--- ## their records
-
--- the records of x at a node, once letter number seq to another gave it or not
-abbrev given_records : Bool → (ℕ → Option Numbers) → ℕ → ℕ → ℕ → Option Numbers
-given_records b f to seq m = cond b (cond (m == to) (Some (sent_in seq (f to))) (f m)) (f m)
+use Rattle.bmx_protocol.proofs.Changing.{after_append, Each, each_append}
+use Rattle.bmx_protocol.proofs.Counts.{letter_issues}
+use Rattle.bmx_ownership.specs.Inside.Seen.{has_name, seen_note, tells_of, seen_slip, seen_draft, seen_record}
+use Rattle.bmx_ownership.proofs.Basics.{eqb_of, eqb_same, Two, Same, Apart, two, put_at_row, put_at_else}
 
 -- the records of x at a node
 abbrev pub records_of : ℕ → NodeState → ℕ → Option Numbers
 records_of x s m = seen_record (s.entering x m)
+
+abbrev pub numbers_in : Record → Numbers
+numbers_in r = record { sent = r.sent; got = r.got }
+
+-- ## the names that a letter gives
+
+asks_give : (b : Bool) (n : Note) → is_gift n ≡ false → gives (cond b (Some n) None) false ≡ false
+asks_give true n h = ap (λ (g : Bool). g || false) h
+asks_give false n h = refl
+
+pub notes_give : (x : ℕ) (m : Msg) → gives (seen_note x m) (tells_of x m) ≡ has_name x (given m)
+notes_give x (msg.ReadReq name asker) = asks_give (name == x) _ refl
+notes_give x (msg.WriteReq name asker) = asks_give (name == x) _ refl
+notes_give x (msg.ReadGrant info fields) = by_test (info.name == x)
+  where
+    by_test : (b : Bool) → gives (cond b (Some (Grants mode.Read)) None) (has_name x (targets fields)) ≡ (b || has_name x (targets fields))
+    by_test true = refl
+    by_test false = refl
+notes_give x (msg.WriteGrant info fields) = by_test (info.name == x)
+  where
+    by_test : (b : Bool) → gives (cond b (Some (Grants mode.Write)) None) (has_name x (targets fields)) ≡ has_name x (targets fields)
+    by_test true = refl
+    by_test false = refl
+notes_give x (msg.Inval name) = asks_give (name == x) _ refl
+notes_give x (msg.InvAck name) = asks_give (name == x) _ refl
+
+-- ## their records
+
+-- records once letter number seq to a node gave the object, or not
+abbrev pub given_records : Bool → (ℕ → Option Numbers) → ℕ → ℕ → ℕ → Option Numbers
+given_records b f to seq m = cond b (cond (to == m) (Some (sent_in seq (f to))) (f m)) (f m)
 
 max_again : (a b : ℕ) → max (max a b) b ≡ max a b
 max_again a b = grind (arith, nat_tests)
@@ -83,230 +68,250 @@ sent_again : (seq : ℕ) (r : Option Numbers) → sent_in seq (Some (sent_in seq
 sent_again seq None i = record { sent = max_again 0 seq i; got = 0 }
 sent_again seq (Some r) i = record { sent = max_again r.sent seq i; got = r.got }
 
-sent_is : (seq : ℕ) (r : Option Record) (name bunch node : ℕ) →
-    seen_numbers (sent_by seq (unwrap_or r (blank name bunch node))) ≡ sent_in seq (seen_record r)
-sent_is seq None name bunch node = refl
-sent_is seq (Some r) name bunch node = refl
+-- a record that is written over another, or over none
+pub sent_is : (seq : ℕ) (r : Option Record) (d : Record) → numbers_in d ≡ no_numbers → numbers_in (sent_by seq (unwrap_or r d)) ≡ sent_in seq (seen_record r)
+sent_is seq None d blank = ap (λ (q : Numbers). record q { sent = max q.sent seq }) blank
+sent_is seq (Some r) d blank = refl
 
--- a name given once more
-given_twice : (l d : Bool) (seq : ℕ) (old at : Option Numbers) (now : Numbers) → now ≡ sent_in seq old →
-    cond l (cond d (Some (sent_in seq (Some now))) (cond d (Some now) at)) (cond d (Some now) at) ≡ cond d (Some (sent_in seq old)) at
-given_twice true true seq old at now h = ap (λ (n : Numbers). Some (sent_in seq (Some n))) h ∙ ap (λ (n : Numbers). Some n) (sent_again seq old)
-given_twice false true seq old at now h = ap (λ (n : Numbers). Some n) h
-given_twice true false seq old at now h = refl
-given_twice false false seq old at now h = refl
+pub got_is : (seq : ℕ) (r : Option Record) (d : Record) → numbers_in d ≡ no_numbers → numbers_in (got_by seq (unwrap_or r d)) ≡ got_in seq (seen_record r)
+got_is seq None d blank = ap (λ (q : Numbers). record q { got = max q.got seq }) blank
+got_is seq (Some r) d blank = refl
 
 -- the records of x where the record of a name and a node is another
 pub record_at : (s : NodeState) (y to x m : ℕ) (r : Record) →
     seen_record (put_at s.entering y to (Some r) x m)
-    ≡ cond (y == x) (cond (m == to) (Some (seen_numbers r)) (records_of x s m)) (records_of x s m)
+    ≡ cond (y == x) (cond (to == m) (Some (numbers_in r)) (records_of x s m)) (records_of x s m)
 record_at s y to x m r = by_two (two y x)
   where
-    here : seen_record (put (s.entering x) to (Some r) m) ≡ cond (m == to) (Some (seen_numbers r)) (records_of x s m)
-    here = rw (eqb_sym m to) (by_test (to == m))
-      where
-        by_test : (d : Bool) → seen_record (cond d (Some r) (s.entering x m)) ≡ cond d (Some (seen_numbers r)) (records_of x s m)
-        by_test true = refl
-        by_test false = refl
+    by_test : (d : Bool) (e : Option Record) → seen_record (cond d (Some r) e) ≡ cond d (Some (numbers_in r)) (seen_record e)
+    by_test true e = refl
+    by_test false e = refl
 
-    by_two : Two y x →
-        seen_record (put_at s.entering y to (Some r) x m)
-        ≡ cond (y == x) (cond (m == to) (Some (seen_numbers r)) (records_of x s m)) (records_of x s m)
-    by_two (Same e) = subst (λ (z : ℕ). seen_record (put_at s.entering z to (Some r) x m)
-        ≡ cond (z == x) (cond (m == to) (Some (seen_numbers r)) (records_of x s m)) (records_of x s m)) (sym e)
-        (ap (λ (f : ℕ → Option Record). seen_record (f m)) (put_same s.entering x (put (s.entering x) to (Some r)))
-        ∙ here ∙ ap (λ (b : Bool). cond b (cond (m == to) (Some (seen_numbers r)) (records_of x s m)) (records_of x s m)) (sym (eqb_same x)))
-    by_two (Apart h d) =
-        ap (λ (f : ℕ → Option Record). seen_record (f m)) (put_apart s.entering y x (put (s.entering y) to (Some r)) h)
-        ∙ ap (λ (b : Bool). cond b (cond (m == to) (Some (seen_numbers r)) (records_of x s m)) (records_of x s m)) (sym h)
+    here : seen_record (put_at s.entering y to (Some r) y m) ≡ cond (y == y) (cond (to == m) (Some (numbers_in r)) (records_of y s m)) (records_of y s m)
+    here = ap seen_record (put_at_row s.entering y to m (Some r)) ∙ by_test (to == m) (s.entering y m)
+        ∙ ap (λ (b : Bool). cond b (cond (to == m) (Some (numbers_in r)) (records_of y s m)) (records_of y s m)) (sym (eqb_same y))
 
-once_more : (b l d : Bool) (seq : ℕ) (old at : Option Numbers) (now : Numbers) → now ≡ sent_in seq old →
-    cond l (cond d (Some (sent_in seq (cond b (Some now) old))) (cond b (cond d (Some now) at) at)) (cond b (cond d (Some now) at) at)
-    ≡ cond (b || l) (cond d (Some (sent_in seq old)) at) at
-once_more true l d seq old at now h = given_twice l d seq old at now h
-once_more false l d seq old at now h = refl
+    by_two : Two y x → seen_record (put_at s.entering y to (Some r) x m)
+        ≡ cond (y == x) (cond (to == m) (Some (numbers_in r)) (records_of x s m)) (records_of x s m)
+    by_two (Same e) = subst (λ (z : ℕ). seen_record (put_at s.entering y to (Some r) z m)
+        ≡ cond (y == z) (cond (to == m) (Some (numbers_in r)) (records_of z s m)) (records_of z s m)) e here
+    by_two (Apart h d) = ap seen_record (put_at_else s.entering y to x m (Some r) h)
+        ∙ ap (λ (b : Bool). cond b (cond (to == m) (Some (numbers_in r)) (records_of x s m)) (records_of x s m)) (sym h)
 
-pub names_numbers : (x to seq : ℕ) (names : List ℕ) (s : NodeState) (m : ℕ) →
-    records_of x (with_names s to seq names) m ≡ given_records (listed x names) (records_of x s) to seq m
-names_numbers x to seq [] s m = refl
-names_numbers x to seq (y ∷ names) s m =
-    names_numbers x to seq names (with_given s to seq y) m
-    ∙ (λ i. cond (listed x names) (cond (m == to) (Some (sent_in seq (there i))) (here i)) (here i))
-    ∙ by_two (two y x)
+-- one name is given
+name_numbers : (x to seq y : ℕ) (s : NodeState) (m : ℕ) →
+    records_of x (after_change s (Gives y to seq)) m ≡ given_records (y == x) (records_of x s) to seq m
+name_numbers x to seq y s m =
+    record_at s y to x m (sent_by seq (record_of s y to)) ∙ by_two (two y x)
   where
-    now : Record
-    now = sent_by seq (unwrap_or (s.entering y to) (blank y (option_map_or (λ k. k.bunch) (s.known y) 0) to))
-
-    there : records_of x (with_given s to seq y) to ≡ cond (y == x) (Some (seen_numbers now)) (records_of x s to)
-    there = record_at s y to x to now ∙ ap (λ (d : Bool). cond (y == x) (cond d (Some (seen_numbers now)) (records_of x s to)) (records_of x s to)) (eqb_same to)
-
-    here : records_of x (with_given s to seq y) m ≡ cond (y == x) (cond (m == to) (Some (seen_numbers now)) (records_of x s m)) (records_of x s m)
-    here = record_at s y to x m now
-
     by_two : Two y x →
-        cond (listed x names) (cond (m == to) (Some (sent_in seq (cond (y == x) (Some (seen_numbers now)) (records_of x s to))))
-        (cond (y == x) (cond (m == to) (Some (seen_numbers now)) (records_of x s m)) (records_of x s m)))
-        (cond (y == x) (cond (m == to) (Some (seen_numbers now)) (records_of x s m)) (records_of x s m))
-        ≡ given_records ((y == x) || listed x names) (records_of x s) to seq m
-    by_two (Same e) = once_more (y == x) (listed x names) (m == to) seq (records_of x s to) (records_of x s m) (seen_numbers now)
-        (sent_is seq (s.entering y to) y _ to ∙ ap (λ (z : ℕ). sent_in seq (records_of z s to)) e)
+        cond (y == x) (cond (to == m) (Some (numbers_in (sent_by seq (record_of s y to)))) (records_of x s m)) (records_of x s m)
+        ≡ given_records (y == x) (records_of x s) to seq m
+    by_two (Same e) = ap (λ (r : Numbers). cond (y == x) (cond (to == m) (Some r) (records_of x s m)) (records_of x s m))
+        (sent_is seq (s.entering y to) _ refl ∙ ap (λ (z : ℕ). sent_in seq (records_of z s to)) e)
     by_two (Apart h d) = rw h refl
 
--- ## letters in closed form
-
--- an object after node me has issued letters
-abbrev pub sent : ℕ → Object → ℕ → ℕ → (ℕ → ℕ) → NodeState → List Post → Object
-sent x o me stamp c s posts = record {
-  holds = o.holds;
-  way = λ n m. cond (n == me) (o.way n m ++ map (seen_slip x) (letters_to m (numbered c stamp posts))) (o.way n m);
-  entering = λ n m. cond (n == me) (records_of x (with_records s (numbered c stamp posts)) m) (o.entering n m);
-  issued = λ n m. cond (n == me) (issued_after c posts m) (o.issued n m);
-  taken = o.taken;
-}
-
--- the records and counts of an object at a node are those of its state
-pub record IsAt (x : ℕ) (o : Object) (me : ℕ) (c : ℕ → ℕ) (s : NodeState) : Type 0 where
-  pub records : (m : ℕ) → o.entering me m ≡ records_of x s m
-  pub counts : (m : ℕ) → o.issued me m ≡ c m
-
-none_issued : (x : ℕ) (o : Object) (me stamp : ℕ) (c : ℕ → ℕ) (s : NodeState) → IsAt x o me c s → o ≡ sent x o me stamp c s []
-none_issued x o me stamp c s at i = record {
-  holds = o.holds;
-  way = λ n m. way n m (n == me) i;
-  entering = λ n m. entering n m (n == me) (eqb_is n me) i;
-  issued = λ n m. issued n m (n == me) (eqb_is n me) i;
-  taken = o.taken;
-}
+-- and another
+given_twice : (b l : Bool) (f : ℕ → Option Numbers) (to seq m : ℕ) → given_records l (given_records b f to seq) to seq m ≡ given_records (b || l) f to seq m
+given_twice false l f to seq m = refl
+given_twice true false f to seq m = refl
+given_twice true true f to seq m = by_test (to == m)
   where
-    way : (n m : ℕ) (b : Bool) → o.way n m ≡ cond b (o.way n m ++ []) (o.way n m)
-    way n m true = sym (append-nil (o.way n m))
-    way n m false = refl
+    by_test : (d : Bool) → cond d (Some (sent_in seq (cond (to == to) (Some (sent_in seq (f to))) (f to)))) (cond d (Some (sent_in seq (f to))) (f m))
+        ≡ cond d (Some (sent_in seq (f to))) (f m)
+    by_test true = ap (λ (b : Bool). Some (sent_in seq (cond b (Some (sent_in seq (f to))) (f to)))) (eqb_same to) ∙ ap Some (sent_again seq (f to))
+    by_test false = refl
 
-    entering : (n m : ℕ) (b : Bool) → (b ≡ true → n ≡ me) → o.entering n m ≡ cond b (records_of x s m) (o.entering n m)
-    entering n m true q = ap (λ (k : ℕ). o.entering k m) (q refl) ∙ at.records m
-    entering n m false q = refl
+names_numbers : (x to seq : ℕ) (names : List ℕ) (s : NodeState) (m : ℕ) →
+    records_of x (after_changes s (map (λ name. Gives name to seq) names)) m ≡ given_records (has_name x names) (records_of x s) to seq m
+names_numbers x to seq [] s m = refl
+names_numbers x to seq (y ∷ names) s m =
+    names_numbers x to seq names (after_change s (Gives y to seq)) m
+    ∙ (λ i. given_records (has_name x names) (λ k. name_numbers x to seq y s k i) to seq m)
+    ∙ given_twice (y == x) (has_name x names) (records_of x s) to seq m
 
-    issued : (n m : ℕ) (b : Bool) → (b ≡ true → n ≡ me) → o.issued n m ≡ cond b (c m) (o.issued n m)
-    issued n m true q = ap (λ (k : ℕ). o.issued k m) (q refl) ∙ at.counts m
-    issued n m false q = refl
+-- ## one letter
 
--- after one more letter an object is still as its state
-one_more : (x : ℕ) (o : Object) (me : ℕ) (c : ℕ → ℕ) (s : NodeState) (p : Post) → IsAt x o me c s →
-    IsAt x (issue o me (seen_send x p)) me (put c p.to (c p.to + 1)) (with_names s p.to (c p.to + 1) (given p.msg))
-one_more x o me c s p at = record {
-  records = λ m. records m (is_given notes) (notes_give x p.msg);
-  counts = counts;
+-- the letter of a draft
+abbrev pub sending : NodeState → ℕ → Draft → Sending
+sending s stamp d = record { to = d.to; letter = record { seq = s.issued d.to + 1; stamp = stamp; msg = d.msg } }
+
+-- the records and counts of an object at a node are those of a state
+pub record IsAt (x : ℕ) (o : Object) (me : ℕ) (s : NodeState) : Type 0 where
+  pub records : (m : ℕ) → o.entering me m ≡ records_of x s m
+  pub counts : (m : ℕ) → o.issued me m ≡ s.issued m
+
+letter_numbers : (x : ℕ) (s : NodeState) (l : Sending) (m : ℕ) →
+    records_of x (after_changes s (sent_changes l)) m ≡ given_records (has_name x (given l.letter.msg)) (records_of x s) l.to l.letter.seq m
+letter_numbers x s l m =
+    ap (λ (t : NodeState). records_of x t m) (after_append s (map (λ name. Gives name l.to l.letter.seq) (given l.letter.msg)) (Issues l.to ∷ []))
+    ∙ names_numbers x l.to l.letter.seq (given l.letter.msg) s m
+
+one_at : (x : ℕ) (o : Object) (me stamp : ℕ) (s : NodeState) (d : Draft) → IsAt x o me s →
+    IsAt x (issue o me (seen_draft x d)) me (after_changes s (sent_changes (sending s stamp d)))
+one_at x o me stamp s d at = record {
+  records = λ m. records m (gives (seen_note x d.msg) (tells_of x d.msg)) (notes_give x d.msg) ∙ sym (letter_numbers x s (sending s stamp d) m);
+  counts = λ m. put_at_row o.issued me d.to m (o.issued me d.to + 1)
+      ∙ (λ i. cond (d.to == m) (at.counts d.to i + 1) (at.counts m i))
+      ∙ ap (λ (f : ℕ → ℕ). f m) (sym (letter_issues s (sending s stamp d)));
 }
   where
     seq : ℕ
-    seq = o.issued me p.to + 1
+    seq = o.issued me d.to + 1
 
-    notes : List Note
-    notes = seen_notes x p.msg
+    records : (m : ℕ) (b : Bool) → b ≡ has_name x (given d.msg) →
+        cond b (put_at o.entering me d.to (Some (sent_in seq (o.entering me d.to)))) o.entering me m
+        ≡ given_records (has_name x (given d.msg)) (records_of x s) d.to (s.issued d.to + 1) m
+    records m true is =
+        put_at_row o.entering me d.to m (Some (sent_in seq (o.entering me d.to)))
+        ∙ (λ i. given_records true (λ k. at.records k i) d.to (at.counts d.to i + 1) m)
+        ∙ ap (λ (b : Bool). given_records b (records_of x s) d.to (s.issued d.to + 1) m) is
+    records m false is = at.records m ∙ ap (λ (b : Bool). given_records b (records_of x s) d.to (s.issued d.to + 1) m) is
 
-    same_seq : seq ≡ c p.to + 1
-    same_seq = ap (λ (k : ℕ). k + 1) (at.counts p.to)
+-- ## all letters
 
-    changed : (m : ℕ) → at_two o.entering me p.to (Some (sent_in seq (o.entering me p.to))) me m
-        ≡ cond (m == p.to) (Some (sent_in (c p.to + 1) (records_of x s p.to))) (records_of x s m)
-    changed m = ap (λ (b : Bool). cond b (at_one (o.entering me) p.to (Some (sent_in seq (o.entering me p.to)))) (o.entering me) m) (eqb_same me)
-        ∙ (λ i. cond (m == p.to) (Some (sent_in (same_seq i) (at.records p.to i))) (at.records m i))
+-- an object after node me has issued letters, beside what it was
+pub record IsSent (x : ℕ) (o q : Object) (me : ℕ) (s : NodeState) (letters : List Sending) : Type 0 where
+  pub holds : q.holds ≡ o.holds
+  pub taken : q.taken ≡ o.taken
+  pub way : (n m : ℕ) → q.way n m ≡ cond (me == n) (o.way n m ++ map (seen_slip x) (letters_to m letters)) (o.way n m)
+  pub at : IsAt x q me (after_changes s (flat_map sent_changes letters))
+  pub records_else : (n m : ℕ) → (me == n) ≡ false → q.entering n m ≡ o.entering n m
+  pub issued_else : (n m : ℕ) → (me == n) ≡ false → q.issued n m ≡ o.issued n m
 
-    records : (m : ℕ) (b : Bool) → b ≡ listed x (given p.msg) →
-        cond b (at_two o.entering me p.to (Some (sent_in seq (o.entering me p.to)))) o.entering me m
-        ≡ records_of x (with_names s p.to (c p.to + 1) (given p.msg)) m
-    records m true l = changed m
-        ∙ ap (λ (b : Bool). cond b (cond (m == p.to) (Some (sent_in (c p.to + 1) (records_of x s p.to))) (records_of x s m)) (records_of x s m)) l
-        ∙ sym (names_numbers x p.to (c p.to + 1) (given p.msg) s m)
-    records m false l = at.records m
-        ∙ ap (λ (b : Bool). cond b (cond (m == p.to) (Some (sent_in (c p.to + 1) (records_of x s p.to))) (records_of x s m)) (records_of x s m)) l
-        ∙ sym (names_numbers x p.to (c p.to + 1) (given p.msg) s m)
+same_way : {A : Type 0} (b : Bool) (w : List A) → w ≡ cond b (w ++ []) w
+same_way true w = sym (append-nil w)
+same_way false w = refl
 
-    counts : (m : ℕ) → at_two o.issued me p.to seq me m ≡ put c p.to (c p.to + 1) m
-    counts m = ap (λ (b : Bool). cond b (at_one (o.issued me) p.to seq) (o.issued me) m) (eqb_same me)
-        ∙ (λ i. cond (eqb_sym m p.to i) (same_seq i) (at.counts m i))
-
--- a letter and those behind it
-letter_first : (x : ℕ) (b : Bool) (l : Letter) (before : List Slip) (letters : List Letter) (n : Slip) → n ≡ seen_slip x l →
-    cond b (before ++ n ∷ []) before ++ map (seen_slip x) letters
-    ≡ before ++ map (seen_slip x) (cond b (l ∷ letters) letters)
-letter_first x true l before letters n is =
-    append_assoc before (n ∷ []) (map (seen_slip x) letters) ∙ ap (λ (k : Slip). before ++ k ∷ map (seen_slip x) letters) is
-letter_first x false l before letters n is = refl
-
--- the closed form after one letter is that of all
-sent_first : (x : ℕ) (o : Object) (me stamp : ℕ) (c : ℕ → ℕ) (s : NodeState) (p : Post) (posts : List Post) → IsAt x o me c s →
-    sent x (issue o me (seen_send x p)) me stamp (put c p.to (c p.to + 1)) (with_names s p.to (c p.to + 1) (given p.msg)) posts
-    ≡ sent x o me stamp c s (p ∷ posts)
-sent_first x o me stamp c s p posts at i = record {
-  holds = o.holds;
-  way = λ n m. way n m (n == me) (eqb_is n me) i;
-  entering = λ n m. entering n m (is_given (seen_notes x p.msg)) i;
-  issued = λ n m. issued n m (n == me) i;
-  taken = o.taken;
-}
+-- the letters on a way after the first of them, and after all
+way_first : (x : ℕ) (o : Object) (me stamp : ℕ) (s : NodeState) (d : Draft) (rest : List Sending) → IsAt x o me s → (n m : ℕ) →
+    cond (me == n) ((issue o me (seen_draft x d)).way n m ++ map (seen_slip x) (letters_to m rest)) ((issue o me (seen_draft x d)).way n m)
+    ≡ cond (me == n) (o.way n m ++ map (seen_slip x) (letters_to m (sending s stamp d ∷ rest))) (o.way n m)
+way_first x o me stamp s d rest at n m = by_two (two me n)
   where
-    c' : ℕ → ℕ
-    c' = put c p.to (c p.to + 1)
-
-    letter : Letter
-    letter = record { seq = c p.to + 1; stamp = stamp; msg = p.msg }
-
     slip : Slip
-    slip = record { seq = o.issued me p.to + 1; notes = seen_notes x p.msg }
+    slip = record { seq = o.issued me d.to + 1; note = seen_note x d.msg; tells = tells_of x d.msg }
 
-    same : slip ≡ seen_slip x letter
-    same j = record { seq = at.counts p.to j + 1; notes = seen_notes x p.msg }
+    l : Letter
+    l = record { seq = s.issued d.to + 1; stamp = stamp; msg = d.msg }
 
-    more : ℕ → List Letter
-    more m = letters_to m (numbered c' stamp posts)
+    is : slip ≡ seen_slip x l
+    is i = record { seq = at.counts d.to i + 1; note = seen_note x d.msg; tells = tells_of x d.msg }
 
-    one : (m : ℕ) → cond (m == p.to) (o.way me p.to ++ slip ∷ []) (o.way me m) ++ map (seen_slip x) (more m)
-        ≡ o.way me m ++ map (seen_slip x) (cond (p.to == m) (letter ∷ more m) (more m))
-    one m = by_two (two m p.to)
-      where
-        by_two : Two m p.to → cond (m == p.to) (o.way me p.to ++ slip ∷ []) (o.way me m) ++ map (seen_slip x) (more m)
-            ≡ o.way me m ++ map (seen_slip x) (cond (p.to == m) (letter ∷ more m) (more m))
-        by_two (Same e) = rw (eqb_sym p.to m)
-            (subst (λ (k : ℕ). cond (m == p.to) (o.way me k ++ slip ∷ []) (o.way me m) ++ map (seen_slip x) (more m)
-            ≡ o.way me m ++ map (seen_slip x) (cond (m == p.to) (letter ∷ more m) (more m))) e
-            (letter_first x (m == p.to) letter (o.way me m) (more m) slip same))
-        by_two (Apart h d) = rw (eqb_sym p.to m) (rw h refl)
+    more : List Slip
+    more = map (seen_slip x) (letters_to m rest)
 
-    way : (n m : ℕ) (b : Bool) → (b ≡ true → n ≡ me) →
-        cond b (cond b (at_one (o.way me) p.to (o.way me p.to ++ slip ∷ [])) (o.way n) m ++ map (seen_slip x) (more m))
-        (cond b (at_one (o.way me) p.to (o.way me p.to ++ slip ∷ [])) (o.way n) m)
-        ≡ cond b (o.way n m ++ map (seen_slip x) (cond (p.to == m) (letter ∷ more m) (more m))) (o.way n m)
-    way n m true q = rw (q refl) (one m)
-    way n m false q = refl
+    by_to : Two d.to m → put (o.way me) d.to (o.way me d.to ++ slip ∷ []) m ++ more
+        ≡ o.way me m ++ map (seen_slip x) (cond (d.to == m) (l ∷ letters_to m rest) (letters_to m rest))
+    by_to (Same e) =
+        (λ i. cond (eqb_of e i) (o.way me (e i) ++ slip ∷ []) (o.way me m) ++ more)
+        ∙ append_assoc (o.way me m) (slip ∷ []) more
+        ∙ ap (λ (k : Slip). o.way me m ++ k ∷ more) is
+        ∙ (λ i. o.way me m ++ map (seen_slip x) (cond (sym (eqb_of e) i) (l ∷ letters_to m rest) (letters_to m rest)))
+    by_to (Apart h e) =
+        (λ i. cond (h i) (o.way me d.to ++ slip ∷ []) (o.way me m) ++ more)
+        ∙ (λ i. o.way me m ++ map (seen_slip x) (cond (sym h i) (l ∷ letters_to m rest) (letters_to m rest)))
 
-    given_to : Numbers
-    given_to = sent_in (o.issued me p.to + 1) (o.entering me p.to)
+    by_two : Two me n →
+        cond (me == n) (put_at o.way me d.to (o.way me d.to ++ slip ∷ []) n m ++ more) (put_at o.way me d.to (o.way me d.to ++ slip ∷ []) n m)
+        ≡ cond (me == n) (o.way n m ++ map (seen_slip x) (letters_to m (sending s stamp d ∷ rest))) (o.way n m)
+    by_two (Same e) = subst (λ (z : ℕ). cond (me == z) (put_at o.way me d.to (o.way me d.to ++ slip ∷ []) z m ++ more) (put_at o.way me d.to (o.way me d.to ++ slip ∷ []) z m)
+        ≡ cond (me == z) (o.way z m ++ map (seen_slip x) (letters_to m (sending s stamp d ∷ rest))) (o.way z m)) e
+        ((λ i. cond (eqb_same me i) (put_at o.way me d.to (o.way me d.to ++ slip ∷ []) me m ++ more) (put_at o.way me d.to (o.way me d.to ++ slip ∷ []) me m))
+        ∙ ap (λ (w : List Slip). w ++ more) (put_at_row o.way me d.to m (o.way me d.to ++ slip ∷ []))
+        ∙ by_to (two d.to m)
+        ∙ (λ i. cond (sym (eqb_same me) i) (o.way me m ++ map (seen_slip x) (letters_to m (sending s stamp d ∷ rest))) (o.way me m)))
+    by_two (Apart h e) =
+        (λ i. cond (h i) (put_at o.way me d.to (o.way me d.to ++ slip ∷ []) n m ++ more) (put_at o.way me d.to (o.way me d.to ++ slip ∷ []) n m))
+        ∙ put_at_else o.way me d.to n m (o.way me d.to ++ slip ∷ []) h
+        ∙ (λ i. cond (sym h i) (o.way n m ++ map (seen_slip x) (letters_to m (sending s stamp d ∷ rest))) (o.way n m))
 
-    after : ℕ → Option Numbers
-    after m = records_of x (with_records s (numbered c stamp (p ∷ posts))) m
+entering_else : (o : Object) (me : ℕ) (x : ℕ) (d : Draft) (n m : ℕ) → (me == n) ≡ false → (issue o me (seen_draft x d)).entering n m ≡ o.entering n m
+entering_else o me x d n m h = by_test (gives (seen_note x d.msg) (tells_of x d.msg))
+  where
+    by_test : (b : Bool) → cond b (put_at o.entering me d.to (Some (sent_in (o.issued me d.to + 1) (o.entering me d.to)))) o.entering n m ≡ o.entering n m
+    by_test true = put_at_else o.entering me d.to n m _ h
+    by_test false = refl
 
-    elsewhere : (n m : ℕ) (b : Bool) → cond b (after m) (cond b (at_one (o.entering me) p.to (Some given_to)) (o.entering n) m) ≡ cond b (after m) (o.entering n m)
-    elsewhere n m true = refl
-    elsewhere n m false = refl
+pub all_sent : (x me stamp : ℕ) (drafts : List Draft) (o : Object) (s : NodeState) → IsAt x o me s →
+    IsSent x o (issue_all o me (map (seen_draft x) drafts)) me s (numbered s.issued stamp drafts)
+all_sent x me stamp [] o s at = record {
+  holds = refl;
+  taken = refl;
+  way = λ n m. same_way (me == n) (o.way n m);
+  at = at;
+  records_else = λ n m h. refl;
+  issued_else = λ n m h. refl;
+}
+all_sent x me stamp (d ∷ drafts) o s at = by_rest (numbered t.issued stamp drafts) (ap (λ (f : ℕ → ℕ). numbered f stamp drafts) (letter_issues s l))
+    (all_sent x me stamp drafts p t (one_at x o me stamp s d at))
+  where
+    l : Sending
+    l = sending s stamp d
 
-    entering : (n m : ℕ) (g : Bool) →
-        cond (n == me) (after m) (cond g (at_two o.entering me p.to (Some given_to)) o.entering n m)
-        ≡ cond (n == me) (after m) (o.entering n m)
-    entering n m true = elsewhere n m (n == me)
-    entering n m false = refl
+    p : Object
+    p = issue o me (seen_draft x d)
 
-    issued : (n m : ℕ) (b : Bool) →
-        cond b (issued_after c' posts m) (cond b (at_one (o.issued me) p.to (o.issued me p.to + 1)) (o.issued n) m)
-        ≡ cond b (issued_after c' posts m) (o.issued n m)
-    issued n m true = refl
-    issued n m false = refl
+    t : NodeState
+    t = after_changes s (sent_changes l)
 
--- letters issued one after another, in closed form
-pub issue_all_is : (x me stamp : ℕ) (posts : List Post) (o : Object) (c : ℕ → ℕ) (s : NodeState) → IsAt x o me c s →
-    issue_all o me (seen_sends x posts) ≡ sent x o me stamp c s posts
-issue_all_is x me stamp [] o c s at = none_issued x o me stamp c s at
-issue_all_is x me stamp (p ∷ posts) o c s at =
-    issue_all_is x me stamp posts (issue o me (seen_send x p)) (put c p.to (c p.to + 1)) (with_names s p.to (c p.to + 1) (given p.msg))
-    (one_more x o me c s p at)
-    ∙ sent_first x o me stamp c s p posts at
+    q : Object
+    q = issue_all p me (map (seen_draft x) drafts)
+
+    by_rest : (rest : List Sending) → rest ≡ numbered (put s.issued d.to (s.issued d.to + 1)) stamp drafts → IsSent x p q me t rest →
+        IsSent x o q me s (l ∷ numbered (put s.issued d.to (s.issued d.to + 1)) stamp drafts)
+    by_rest rest is sent = subst (λ (k : List Sending). IsSent x o q me s (l ∷ k)) is record {
+      holds = sent.holds;
+      taken = sent.taken;
+      way = λ n m. sent.way n m ∙ way_first x o me stamp s d rest at n m;
+      at = subst (IsAt x q me) (sym (after_append s (sent_changes l) (flat_map sent_changes rest))) sent.at;
+      records_else = λ n m h. sent.records_else n m h ∙ entering_else o me x d n m h;
+      issued_else = λ n m h. sent.issued_else n m h ∙ put_at_else o.issued me d.to n m (o.issued me d.to + 1) h;
+    }
+
+-- ## what letters leave
+
+-- a change of what was issued and given alone
+abbrev pub IsSending : Change → Type 0
+IsSending (Sets register v) = ⊥
+IsSending Makes = ⊥
+IsSending (Knows name k) = ⊥
+IsSending (Hears from info) = ⊥
+IsSending (Gives name to seq) = Unit {0}
+IsSending (Gets name from seq) = ⊥
+IsSending (Issues to) = Unit {0}
+IsSending (Takes from) = ⊥
+
+-- a state that differs in records and what was issued alone
+pub record IsLeft (s t : NodeState) : Type 0 where
+  pub known : t.known ≡ s.known
+  pub register : t.register ≡ s.register
+  pub taken : t.taken ≡ s.taken
+  pub made : t.made ≡ s.made
+
+names_left : (to seq : ℕ) (names : List ℕ) → Each IsSending (map (λ name. Gives name to seq) names)
+names_left to seq [] = tt
+names_left to seq (name ∷ names) = (tt, names_left to seq names)
+
+all_sending : (letters : List Sending) → Each IsSending (flat_map sent_changes letters)
+all_sending [] = tt
+all_sending (l ∷ letters) = each_append IsSending (sent_changes l) (flat_map sent_changes letters)
+    (each_append IsSending (map (λ name. Gives name l.to l.letter.seq) (given l.letter.msg)) (Issues l.to ∷ []) (names_left l.to l.letter.seq (given l.letter.msg)) (tt, tt))
+    (all_sending letters)
+
+changes_left : (changes : List Change) → Each IsSending changes → (s t : NodeState) → IsLeft s t → IsLeft s (after_changes t changes)
+changes_left [] each s t left = left
+changes_left (c ∷ changes) each s t left = changes_left changes each.1 s (after_change t c) (by_change c each.0)
+  where
+    by_change : (c : Change) → IsSending c → IsLeft s (after_change t c)
+    by_change (Sets register v) is = absurd is
+    by_change Makes is = absurd is
+    by_change (Knows name k) is = absurd is
+    by_change (Hears from info) is = absurd is
+    by_change (Gives name to seq) is = record { known = left.known; register = left.register; taken = left.taken; made = left.made }
+    by_change (Gets name from seq) is = absurd is
+    by_change (Issues to) is = record { known = left.known; register = left.register; taken = left.taken; made = left.made }
+    by_change (Takes from) is = absurd is
+
+pub letters_left : (letters : List Sending) (s : NodeState) → IsLeft s (after_changes s (flat_map sent_changes letters))
+letters_left letters s = changes_left (flat_map sent_changes letters) (all_sending letters) s s (record { known = refl; register = refl; taken = refl; made = refl })

@@ -1,3 +1,3 @@
-pub mod Seen
+pub mod Inside
 pub mod Laws
 pub mod Cases

@@ -1,10 +1,4 @@
-ghost use Rattle.bmx_ownership.specs.Laws.{SeenIsRun, OneOwner, OneSeat, ReadersAreListed, SeenSeatIsSeat, WriteExcludes, LawsApply};
-
-/// The law that what a legal history leads to, seen for one name, is the end of a run of the machine of
-/// one object. It does nothing.
-pub fn seen_is_run()
-    ensures { SeenIsRun }
-{}
+ghost use Rattle.bmx_ownership.specs.Laws.{OneOwner, OneSeat, ReadersAreListed, WriteExcludes, WantsStandOnce, ParentsAnswer, ParentsLead, NamesAreCounted, LawsApply};
 
 /// The law that in every legal history each name that stands somewhere has one owner. It does nothing.
 pub fn one_owner()
@@ -18,12 +12,6 @@ pub fn one_seat()
     ensures { OneSeat }
 {}
 
-/// The law that the seat of ownership which is seen of a name is its seat in the store: the nodes' roles and
-/// the letters on their way say the same. It does nothing.
-pub fn seen_seat_is_seat()
-    ensures { SeenSeatIsSeat }
-{}
-
 /// The law that in every legal history, while a node holds an object for writing, no other node holds it.
 /// It does nothing.
 pub fn write_excludes()
@@ -34,6 +22,31 @@ pub fn write_excludes()
 /// it, or to which a grant to read is on its way. It does nothing.
 pub fn readers_are_listed()
     ensures { ReadersAreListed }
+{}
+
+/// The law that in every legal history each want that isn't ready stands at one spot alone: in a request on its
+/// way, in a queue, or in a grant on its way to the node, of its mode; and nothing else is requested, queued
+/// or granted. It does nothing.
+pub fn wants_stand_once()
+    ensures { WantsStandOnce }
+{}
+
+/// The law that in every legal history a node's parent knows the object, and has a record of the node or is
+/// about to get ownership from it. It does nothing.
+pub fn parents_answer()
+    ensures { ParentsAnswer }
+{}
+
+/// The law that in every legal history the parents of a name lead from each node that knows it to its owner, or
+/// to the node that ownership is on its way to, in at most as many steps as there are nodes. It does nothing.
+pub fn parents_lead()
+    ensures { ParentsLead }
+{}
+
+/// The law that in every legal history a name that stands anywhere is among those that its maker has counted.
+/// It does nothing.
+pub fn names_are_counted()
+    ensures { NamesAreCounted }
 {}
 
 /// The law that there is a store and a legal history of it, worked by hand, to which the other laws apply.

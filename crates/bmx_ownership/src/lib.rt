@@ -5,6 +5,6 @@
 mod laws;
 
 pub use laws::{
-    laws_apply, one_owner, one_seat, readers_are_listed, seen_is_run, seen_seat_is_seat,
-    write_excludes,
+    laws_apply, names_are_counted, one_owner, one_seat, parents_answer, parents_lead,
+    readers_are_listed, wants_stand_once, write_excludes,
 };

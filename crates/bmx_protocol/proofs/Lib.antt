@@ -1,11 +1,13 @@
+pub mod Changing
 pub mod Refusals
 pub mod Waits
+pub mod Counts
 pub mod Prefixes
 pub mod Replayed
-pub mod Worked
-mod RunCases
-mod WorldCases
-pub mod Counts
-pub mod Alike
 pub mod Shown
+pub mod Alike
 pub mod ShownSteps
+pub mod Worked
+pub mod WorldCases
+pub mod RunCases
+pub mod Served

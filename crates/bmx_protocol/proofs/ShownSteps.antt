@@ -1,21 +1,21 @@
 -- What a step shows depends only on what is shown.
-use Rattle.std.proofs.Common.{◌≡◌, ℕ, suc, ◌<◌, refl, ap, sym, ◌∙◌, subst, List, [], ◌∷◌, arith, All}
-use Rattle.std.specs.Prelude.{◌+◌, Option, Some, None, unwrap_or}
-use Rattle.std.specs.Option.{option_map, option_map_or}
-use Rattle.bmx_graph.specs.State.{put, put_at}
-use Rattle.bmx_msg.specs.Letters.{given}
-use Rattle.bmx_owner.specs.Records.{blank, sent_by}
+use Rattle.std.proofs.Common.{◌≡◌, ℕ, suc, ◌<◌, refl, ap, sym, ◌∙◌, subst, List, [], ◌∷◌, ◌++◌, arith, All}
+use Rattle.std.specs.Prelude.{◌+◌, Option, Some, None}
+use Rattle.std.specs.Option.{option_map}
+use Rattle.std.specs.List.{flat_map}
+use Rattle.bmx_graph.specs.State.{put}
 use Rattle.bmx_protocol.specs.declared.inputs.Input.{Input}
 use Rattle.bmx_protocol.specs.declared.inputs.Sending.{Sending}
 use Rattle.bmx_protocol.specs.declared.inputs.Done.{Done}
 use Rattle.bmx_protocol.specs.declared.views.Entry.{Entry}
 use Rattle.bmx_protocol.specs.declared.views.View.{View}
 use Rattle.bmx_protocol.specs.Nodes.{Setting, NodeState, Known, entry_of, AreNumbers, Shows}
-use Rattle.bmx_protocol.specs.Rows.{Post, Row}
-use Rattle.bmx_protocol.specs.Steps.{Hint, hint_of, row_of, numbered, issued_after, with_given, with_names, with_records, letters_of, closed, done_of}
+use Rattle.bmx_protocol.specs.Changes.{Change, after_changes, with_step}
+use Rattle.bmx_protocol.specs.Rules.{Draft, Outcome}
+use Rattle.bmx_protocol.specs.Steps.{Told, rule, numbered, letters_of, sent_changes, closed, done_of}
 use Rattle.bmx_protocol.specs.Histories.{IsInputOf}
 use Rattle.bmx_protocol.specs.Laws.{ShownStepsAgree}
-use Rattle.bmx_protocol.proofs.Alike.{SameBelow, Alike, AlikeRows, put_same, row_same}
+use Rattle.bmx_protocol.proofs.Alike.{SameBelow, Alike, alike_by, put_same, changes_alike, rule_same}
 
 -- ## what a view shows
 
@@ -80,7 +80,7 @@ alike_shown nodes v s t same a = record {
   made = a.made ∙ same.made;
 }
 
--- ## rows
+-- ## rules
 
 -- alike states differ by registers and counts alone
 reframed : (nodes : ℕ) (s t : NodeState) → Alike nodes s t → record s { register = t.register; issued = t.issued; taken = t.taken } ≡ t
@@ -94,11 +94,11 @@ reframed nodes s t same = λ i. record {
   made = same.made i;
 }
 
-rows_alike : (st : Setting) (me : ℕ) (s t : NodeState) (h : Hint) (i : Input) → Alike st.nodes s t → IsInputOf st i →
-    AlikeRows st.nodes (row_of st me s h i) (row_of st me t h i)
-rows_alike st me s t h i same ok =
-    subst (λ u. AlikeRows st.nodes (row_of st me s h i) (row_of st me u h i)) (reframed st.nodes s t same)
-    (row_same st.nodes s t.register t.issued t.taken same.register same.issued same.taken st refl me h i ok)
+rules_same : (st : Setting) (me : ℕ) (s t : NodeState) (told : Told) (i : Input) → Alike st.nodes s t → IsInputOf st i →
+    rule st me s told i ≡ rule st me t told i
+rules_same st me s t told i same ok =
+    subst (λ u. rule st me s told i ≡ rule st me u told i) (reframed st.nodes s t same)
+    (rule_same s t.register t.issued t.taken same.register st same.taken me told i ok)
 
 -- ## letters
 
@@ -106,87 +106,39 @@ rows_alike st me s t h i same ok =
 abbrev Within : ℕ → List Sending → Type 0
 Within nodes letters = All (λ l. l.to < nodes) letters
 
-numbered_same : (nodes stamp : ℕ) (f g : ℕ → ℕ) (posts : List Post) → SameBelow nodes f g → Within nodes (numbered f stamp posts) →
-    numbered f stamp posts ≡ numbered g stamp posts
+numbered_same : (nodes stamp : ℕ) (f g : ℕ → ℕ) (drafts : List Draft) → SameBelow nodes f g → Within nodes (numbered f stamp drafts) →
+    numbered f stamp drafts ≡ numbered g stamp drafts
 numbered_same nodes stamp f g [] same within = refl
-numbered_same nodes stamp f g (p ∷ posts) same within =
-    let first : Sending = record { to = p.to; letter = record { seq = f p.to + 1; stamp = stamp; msg = p.msg } } in
-    let lt : p.to < nodes = within 0 first (omega arith) in
-    let count : f p.to + 1 ≡ g p.to + 1 = ap (λ k. k + 1) (same p.to lt) in
-    let rest : numbered (put f p.to (f p.to + 1)) stamp posts ≡ numbered (put g p.to (g p.to + 1)) stamp posts =
-    numbered_same nodes stamp (put f p.to (f p.to + 1)) (put g p.to (g p.to + 1)) posts
-    (put_same nodes p.to (f p.to + 1) (g p.to + 1) f g same (λ _. count))
-    (λ k d below. within (suc k) d (omega arith)) in
-    λ i. record { to = p.to; letter = record { seq = count i; stamp = stamp; msg = p.msg } } ∷ rest i
-
-issued_same : (nodes : ℕ) (f g : ℕ → ℕ) (posts : List Post) → SameBelow nodes f g → SameBelow nodes (issued_after f posts) (issued_after g posts)
-issued_same nodes f g [] same = same
-issued_same nodes f g (p ∷ posts) same =
-    issued_same nodes (put f p.to (f p.to + 1)) (put g p.to (g p.to + 1)) posts
-    (put_same nodes p.to (f p.to + 1) (g p.to + 1) f g same (λ lt. ap (λ k. k + 1) (same p.to lt)))
-
--- ## records
-
-given_alike : (nodes : ℕ) (s t : NodeState) (to seq name : ℕ) → Alike nodes s t → Alike nodes (with_given s to seq name) (with_given t to seq name)
-given_alike nodes s t to seq name same = record {
-  known = same.known;
-  register = same.register;
-  entering = λ i. put_at (same.entering i) name to
-      (Some (sent_by seq (unwrap_or (same.entering i name to) (blank name (option_map_or (λ k. k.bunch) (same.known i name) 0) to))));
-  issued = same.issued;
-  taken = same.taken;
-  clock = same.clock;
-  made = same.made;
-}
-
-names_alike : (nodes : ℕ) (s t : NodeState) (to seq : ℕ) (names : List ℕ) → Alike nodes s t → Alike nodes (with_names s to seq names) (with_names t to seq names)
-names_alike nodes s t to seq [] same = same
-names_alike nodes s t to seq (name ∷ names) same =
-    names_alike nodes (with_given s to seq name) (with_given t to seq name) to seq names (given_alike nodes s t to seq name same)
-
-records_alike : (nodes : ℕ) (s t : NodeState) (letters : List Sending) → Alike nodes s t → Alike nodes (with_records s letters) (with_records t letters)
-records_alike nodes s t [] same = same
-records_alike nodes s t (l ∷ letters) same =
-    records_alike nodes (with_names s l.to l.letter.seq (given l.letter.msg)) (with_names t l.to l.letter.seq (given l.letter.msg)) letters
-    (names_alike nodes s t l.to l.letter.seq (given l.letter.msg) same)
+numbered_same nodes stamp f g (d ∷ drafts) same within =
+    let first : Sending = record { to = d.to; letter = record { seq = f d.to + 1; stamp = stamp; msg = d.msg } } in
+    let lt : d.to < nodes = within 0 first (omega arith) in
+    let count : f d.to + 1 ≡ g d.to + 1 = ap (λ k. k + 1) (same d.to lt) in
+    let rest : numbered (put f d.to (f d.to + 1)) stamp drafts ≡ numbered (put g d.to (g d.to + 1)) stamp drafts =
+    numbered_same nodes stamp (put f d.to (f d.to + 1)) (put g d.to (g d.to + 1)) drafts
+    (put_same nodes d.to (f d.to + 1) (g d.to + 1) f g same (λ _. count))
+    (λ k e below. within (suc k) e (omega arith)) in
+    λ i. record { to = d.to; letter = record { seq = count i; stamp = stamp; msg = d.msg } } ∷ rest i
 
 -- ## the step
 
-letters_same : (nodes stamp : ℕ) (a b : Row) → AlikeRows nodes a b → Within nodes (letters_of stamp a) → letters_of stamp a ≡ letters_of stamp b
-letters_same nodes stamp a b same within =
-    numbered_same nodes stamp a.after.issued b.after.issued a.posts same.after.issued within
-    ∙ ap (numbered b.after.issued stamp) same.posts
-
-closed_alike : (nodes stamp : ℕ) (a b : Row) → AlikeRows nodes a b → Within nodes (letters_of stamp a) → Alike nodes (closed stamp a) (closed stamp b)
-closed_alike nodes stamp a b same within =
-    let letters : letters_of stamp a ≡ letters_of stamp b = letters_same nodes stamp a b same within in
-    let u : NodeState = with_records a.after (letters_of stamp a) in
-    let v : NodeState = with_records b.after (letters_of stamp b) in
-    let states : Alike nodes u v =
-    subst (λ l. Alike nodes u (with_records b.after l)) letters (records_alike nodes a.after b.after (letters_of stamp a) same.after) in
-    record {
-      known = states.known;
-      register = states.register;
-      entering = states.entering;
-      issued = subst (λ posts. SameBelow nodes (issued_after u.issued a.posts) (issued_after v.issued posts)) same.posts
-          (issued_same nodes u.issued v.issued a.posts states.issued);
-      taken = states.taken;
-      clock = ap (λ k. k + 1) states.clock;
-      made = states.made;
-    }
-
 pub shown_steps_agree : ShownStepsAgree
-shown_steps_agree st me stamp i n m n' m' c d v w shows_n shows_m hints ok n_step m_step within shows =
-    let h : Hint = hint_of st me n i in
-    let a : Row = row_of st me n.state h i in
-    let b : Row = row_of st me m.state h i in
-    let row_m : b ≡ row_of st me m.state (hint_of st me m i) i = ap (λ hint. row_of st me m.state hint i) hints in
-    let same : AlikeRows st.nodes a b = rows_alike st me n.state m.state h i (shown_alike st.nodes v n.state m.state shows_n shows_m) ok in
-    let letters : c.letters ≡ letters_of stamp a = ap (λ (x : Done). x.letters) n_step.outcome in
-    let near : Within st.nodes (letters_of stamp a) = subst (Within st.nodes) letters within in
-    let outcome : done_of stamp a ≡ done_of stamp b = λ j. record { answer = same.answer j; letters = letters_same st.nodes stamp a b same near j } in
-    let outcomes : c ≡ d = n_step.outcome ∙ outcome ∙ ap (done_of stamp) row_m ∙ sym m_step.outcome in
-    let m_state : closed stamp b ≡ m'.state = ap (closed stamp) row_m ∙ sym m_step.state in
-    let states : Alike st.nodes (closed stamp a) (closed stamp b) = closed_alike st.nodes stamp a b same near in
-    let n_shows : Shows st.nodes w (closed stamp a) = subst (Shows st.nodes w) n_step.state shows in
-    (outcomes, subst (Shows st.nodes w) m_state (alike_shown st.nodes w (closed stamp a) (closed stamp b) states n_shows))
+shown_steps_agree st me stamp i n m n' m' c d v w a b shows_n shows_m told ok within shows =
+    let o : Outcome = rule st me n.state a.told i in
+    let same : Alike st.nodes n.state m.state = shown_alike st.nodes v n.state m.state shows_n shows_m in
+    let rules : o ≡ rule st me m.state b.told i = rules_same st me n.state m.state a.told i same ok ∙ ap (λ told. rule st me m.state told i) told in
+    let near : Within st.nodes (letters_of stamp n.state o) = subst (Within st.nodes) (ap (λ (x : Done). x.letters) a.outcome) within in
+    let letters : letters_of stamp n.state o ≡ letters_of stamp m.state o = numbered_same st.nodes stamp n.state.issued m.state.issued o.drafts same.issued near in
+    let outcome : done_of stamp n.state o ≡ done_of stamp m.state o = λ j. record { answer = o.answer; letters = letters j } in
+    let changes : List Change = o.changes ++ flat_map sent_changes (letters_of stamp n.state o) in
+    let after : Alike st.nodes (after_changes n.state changes) (after_changes m.state changes) = changes_alike st.nodes changes n.state m.state same in
+    let closed_alike : Alike st.nodes (closed stamp n.state o) (with_step (after_changes m.state changes)) = stepped_alike st.nodes (after_changes n.state changes) (after_changes m.state changes) after in
+    let m_state : with_step (after_changes m.state changes) ≡ m'.state =
+    ap (λ (l : List Sending). with_step (after_changes m.state (o.changes ++ flat_map sent_changes l))) letters
+    ∙ ap (closed stamp m.state) rules ∙ sym b.state in
+    let n_shows : Shows st.nodes w (closed stamp n.state o) = subst (Shows st.nodes w) a.state shows in (
+      a.outcome ∙ outcome ∙ ap (done_of stamp m.state) rules ∙ sym b.outcome,
+      subst (Shows st.nodes w) m_state (alike_shown st.nodes w (closed stamp n.state o) (with_step (after_changes m.state changes)) closed_alike n_shows),
+    )
+  where
+    stepped_alike : (nodes : ℕ) (s t : NodeState) → Alike nodes s t → Alike nodes (with_step s) (with_step t)
+    stepped_alike nodes s t a = alike_by nodes _ _ a.known a.register a.entering a.issued a.taken (ap (λ k. k + 1) a.clock) a.made

@@ -1,158 +1,114 @@
--- A row that answers Wait issues a letter, or changes nothing but entries.
-use Rattle.std.proofs.Common.{◌≡◌, ℕ, refl, ap, sym, ◌∙◌, Bool, true, false, List, [], ◌∷◌, subst}
+-- An outcome that answers Wait changes only what is known of names.
+use Rattle.std.proofs.Common.{◌≡◌, ℕ, refl, ap, sym, ◌∙◌, Bool, true, false, List, [], ◌∷◌, ◌++◌, cond, subst}
 use Rattle.std.specs.Prelude.{Option, Some, None}
 use Rattle.bmx_types.specs.declared.commands.Command.{Command}
-use Rattle.bmx_types.specs.declared.commands.Command.TheVariants as command
-use Rattle.bmx_types.specs.declared.numbers.Mode.{Mode}
-use Rattle.bmx_types.specs.declared.numbers.Mode.TheVariants as mode
 use Rattle.bmx_types.specs.declared.addresses.Place.{Place}
 use Rattle.bmx_graph.specs.declared.answers.Answer.{Answer}
 use Rattle.bmx_graph.specs.declared.answers.Answer.TheVariants as graph
-use Rattle.bmx_graph.specs.Step.{answer_of, target_of}
-use Rattle.bmx_token.specs.declared.parts.Part.{Part}
-use Rattle.bmx_token.specs.declared.answers.Acquire.{Acquire}
-use Rattle.bmx_token.specs.declared.answers.Acquire.TheVariants as acquire_is
-use Rattle.bmx_token.specs.declared.answers.Release.{Release}
-use Rattle.bmx_token.specs.declared.answers.Release.TheVariants as release_is
-use Rattle.bmx_token.specs.declared.answers.Served.{Served}
-use Rattle.bmx_token.specs.declared.answers.Served.TheVariants as served_is
+use Rattle.bmx_graph.specs.Step.{answer_of, target_of, effect}
+use Rattle.bmx_token.specs.Turns.{Share, Turn, Act, Serves, turn_of}
 use Rattle.bmx_protocol.specs.declared.inputs.Input.{Input}
 use Rattle.bmx_protocol.specs.declared.inputs.Input.TheVariants as input
 use Rattle.bmx_protocol.specs.declared.inputs.NodeAnswer.{NodeAnswer}
 use Rattle.bmx_protocol.specs.declared.inputs.NodeAnswer.TheVariants as answer
 use Rattle.bmx_protocol.specs.declared.inputs.Done.{Done}
-use Rattle.bmx_protocol.specs.Nodes.{Setting, NodeState, Known, seen_graph}
+use Rattle.bmx_protocol.specs.Nodes.{Setting, NodeState, Known, seen_graph, share_of}
 use Rattle.bmx_protocol.specs.Places.{Places}
-use Rattle.bmx_protocol.specs.Rows.{Post, Row, acquired, acquire_known, acquire_row, released, release_known, release_row, answered, graph_row, effect_of, do_row, served, serve_known}
-use Rattle.bmx_protocol.specs.Steps.{Node, Hint, hint_of, row_of, letters_of, closed, MovesTo}
-use Rattle.bmx_protocol.specs.Laws.{with_step, WaitKeeps}
-use Rattle.bmx_protocol.proofs.Refusals.{IsTaken, Took, Strayed, letter_taken, made_keeps}
+use Rattle.bmx_protocol.specs.Changes.{Change, after_changes, with_step}
+use Rattle.bmx_protocol.specs.Rules.{Draft, Outcome, known_change, act_answer, acted, act_rule, About, Token, Fields, Making, Nothing, about, graph_changes, answered, graph_rule, token_rule, knows, command_rule, Outcome}
+use Rattle.bmx_protocol.specs.Steps.{Node, Told, rule, letter_rule, numbered, closed, MovesTo}
+use Rattle.bmx_protocol.specs.Laws.{WaitKeeps}
+use Rattle.bmx_protocol.proofs.Refusals.{IsLetterAnswer, Took, Strayed, letter_answers}
 
--- the row waits, with these entries
-abbrev waiting : NodeState → (ℕ → Option Known) → Row
-waiting s known = record { after = record s { known = known }; posts = []; answer = answer.Wait }
+-- the changes are of what is known alone
+abbrev OnlyKnow : List Change → Type 0
+OnlyKnow changes = (s : NodeState) → after_changes s changes ≡ record s { known = (after_changes s changes).known }
 
--- it posts something, or changes at most entries
-pub data PostsOrKeeps (s : NodeState) (row : Row) : Type 0 where
-  Posts : (p : Post) (more : List Post) → row.posts ≡ p ∷ more → PostsOrKeeps s row
-  Keeps : (known : ℕ → Option Known) → row ≡ waiting s known → PostsOrKeeps s row
+-- an outcome that waits changes only that
+abbrev Waits : Outcome → Type 0
+Waits o = o.answer ≡ answer.Wait → OnlyKnow o.changes
 
--- a row that waits does so
-abbrev Waits : NodeState → Row → Type 0
-Waits s row = row.answer ≡ answer.Wait → PostsOrKeeps s row
+known_waits : (name : ℕ) (k : Option Known) (fields : _) (h : Option Share) → OnlyKnow (known_change name k fields h)
+known_waits name None fields h s = refl
+known_waits name (Some k) fields None s = refl
+known_waits name (Some k) fields (Some h) s = refl
 
-acquired_waits : (me : ℕ) (s : NodeState) (name : ℕ) (k : Known) (m : Mode) (p : Part) (a : Acquire) → Waits s (acquired me s name k m p a)
-acquired_waits me s name k m p acquire_is.Held h = cc
-acquired_waits me s name k m p (acquire_is.Asks parent) h = Posts _ _ refl
-acquired_waits me s name k m p acquire_is.Waits h = Keeps _ refl
-acquired_waits me s name k m p acquire_is.Refused h = cc
+act_waits : (me : ℕ) (s : NodeState) (lies : ℕ → Place) (a : Act) (unknown : NodeAnswer) (name : ℕ) (k : Option Known) → Waits (act_rule me s lies a unknown name k)
+act_waits me s lies a unknown name None h = λ _. refl
+act_waits me s lies a unknown name (Some k) h = by_turn (turn_of me a (share_of k))
+  where
+    by_turn : (t : Option Turn) → OnlyKnow (acted s lies name k (act_answer me a (share_of k)) t).changes
+    by_turn None = λ _. refl
+    by_turn (Some t) = known_waits name (Some k) k.copy t.after
 
-acquire_known_waits : (me : ℕ) (s : NodeState) (m : Mode) (name : ℕ) (k : Option Known) → Waits s (acquire_known me s m name k)
-acquire_known_waits me s m name None h = cc
-acquire_known_waits me s m name (Some k) h = acquired_waits me s name k m _ _ h
+answered_waits : (changes : List Change) (a : Answer) → Waits (answered changes a)
+answered_waits changes graph.Nil h = absurd cc
+answered_waits changes (graph.Value v) h = absurd cc
+answered_waits changes graph.Yes h = absurd cc
+answered_waits changes graph.No h = absurd cc
+answered_waits changes graph.Wait h = λ _. refl
+answered_waits changes (graph.Refused why) h = λ _. refl
 
-acquire_waits : (me : ℕ) (s : NodeState) (m : Mode) (name : Option ℕ) → Waits s (acquire_row me s m name)
-acquire_waits me s m None h = cc
-acquire_waits me s m (Some name) h = acquire_known_waits me s m name (s.known name) h
+graph_waits : (me : ℕ) (s : NodeState) (c : Command) → Waits (graph_rule me s c)
+graph_waits me s c = answered_waits (graph_changes me s (effect (seen_graph me s) me c)) (answer_of (seen_graph me s) me c)
 
-released_waits : (s : NodeState) (name : ℕ) (k : Known) (p : Part) (r : Release) → Waits s (released s name k p r)
-released_waits s name k p release_is.Free h = cc
-released_waits s name k p (release_is.Answers owner) h = cc
-released_waits s name k p release_is.Refused h = cc
+token_waits : (me : ℕ) (s : NodeState) (lies : ℕ → Place) (a : Act) (name : Option ℕ) → Waits (token_rule me s lies a name)
+token_waits me s lies a None h = λ _. refl
+token_waits me s lies a (Some name) h = act_waits me s lies a _ name (s.known name) h
 
-release_known_waits : (s : NodeState) (name : ℕ) (k : Option Known) → Waits s (release_known s name k)
-release_known_waits s name None h = cc
-release_known_waits s name (Some k) h = released_waits s name k _ _ h
+either_waits : (b : Bool) (o p : Outcome) → Waits o → Waits p → Waits (cond b o p)
+either_waits true o p h k = h
+either_waits false o p h k = k
 
-release_waits : (s : NodeState) (name : Option ℕ) → Waits s (release_row s name)
-release_waits s None h = cc
-release_waits s (Some name) h = release_known_waits s name (s.known name) h
+command_waits : (me : ℕ) (s : NodeState) (full : Bool) (lies : ℕ → Place) (c : Command) (what : About) → Waits (command_rule me s full lies c what)
+command_waits me s full lies c (Token a on) = token_waits me s lies a (target_of (seen_graph me s) me on)
+command_waits me s full lies c (Fields on) = either_waits (knows s (target_of (seen_graph me s) me on)) _ _ (graph_waits me s c) (λ _ _. refl)
+command_waits me s full lies c Making = either_waits full _ _ (λ _ _. refl) (graph_waits me s c)
+command_waits me s full lies c Nothing = graph_waits me s c
 
-answered_waits : (s t : NodeState) (a : Answer) → Waits s (answered s t a)
-answered_waits s t graph.Nil h = cc
-answered_waits s t (graph.Value v) h = cc
-answered_waits s t graph.Yes h = cc
-answered_waits s t graph.No h = cc
-answered_waits s t graph.Wait h = Keeps s.known refl
-answered_waits s t (graph.Refused why) h = cc
+letter_waits : (o : Outcome) → IsLetterAnswer o → Waits o
+letter_waits o (Took nil) h = (let both : answer.Nil ≡ answer.Wait = sym nil ∙ h in absurd cc)
+letter_waits o (Strayed is) h = (let both : answer.Stray ≡ answer.Wait = sym (ap (λ (r : Outcome). r.answer) is) ∙ h in absurd cc)
 
-graph_waits : (me : ℕ) (s : NodeState) (c : Command) → Waits s (graph_row me s c)
-graph_waits me s c h = answered_waits s (effect_of me s c) (answer_of (seen_graph me s) me c) h
+rule_waits : (st : Setting) (me : ℕ) (s : NodeState) (t : Told) (i : Input) → Waits (rule st me s t i)
+rule_waits st me s t (input.Do c) = command_waits me s t.full t.lies c (about c)
+rule_waits st me s t (input.Serve name) = act_waits me s t.lies Serves answer.Idle name (s.known name)
+rule_waits st me s t (input.Take from l) = letter_waits _ (letter_answers st me s t from l)
 
-new_waits : (me : ℕ) (s : NodeState) (full : Bool) (r b n : ℕ) → Waits s (do_row me s full (command.New r b n))
-new_waits me s true r b n h = cc
-new_waits me s false r b n h = graph_waits me s (command.New r b n) h
+-- the places of what waits
+places_wait : (st : Setting) (me : ℕ) (n : Node) (t : Told) (i : Input) (places : Places) →
+    (rule st me n.state t i).answer ≡ answer.Wait → MovesTo me n t i answer.Wait places → places ≡ n.places
+places_wait st me n t (input.Do c) places h moved = moved
+places_wait st me n t (input.Serve name) places h moved = moved
+places_wait st me n t (input.Take from l) places h moved = absurd (no_wait (letter_rule st me n.state t from l) (letter_answers st me n.state t from l) h)
+  where
+    no_wait : (o : Outcome) → IsLetterAnswer o → o.answer ≡ answer.Wait → ⊥
+    no_wait o (Took nil) h = (let both : answer.Nil ≡ answer.Wait = sym nil ∙ h in cc)
+    no_wait o (Strayed is) h = (let both : answer.Stray ≡ answer.Wait = sym (ap (λ (r : Outcome). r.answer) is) ∙ h in cc)
 
-do_waits : (me : ℕ) (s : NodeState) (full : Bool) (c : Command) → Waits s (do_row me s full c)
-do_waits me s full (command.New r b n) h = new_waits me s full r b n h
-do_waits me s full (command.Copy r v) h = graph_waits me s (command.Copy r v) h
-do_waits me s full (command.Drop r) h = graph_waits me s (command.Drop r) h
-do_waits me s full (command.Read on) h = acquire_waits me s mode.Read (target_of (seen_graph me s) me on) h
-do_waits me s full (command.Write on) h = acquire_waits me s mode.Write (target_of (seen_graph me s) me on) h
-do_waits me s full (command.Done on) h = release_waits s (target_of (seen_graph me s) me on) h
-do_waits me s full (command.Set on i v) h = graph_waits me s (command.Set on i v) h
-do_waits me s full (command.Add on i by) h = graph_waits me s (command.Add on i by) h
-do_waits me s full (command.Get r on i) h = graph_waits me s (command.Get r on i) h
-do_waits me s full (command.Show on i) h = graph_waits me s (command.Show on i) h
-do_waits me s full (command.Same a b) h = graph_waits me s (command.Same a b) h
-
--- no serve and no letter waits
-served_answers : (s : NodeState) (lies : ℕ → Place) (name : ℕ) (k : Known) (p : Part) (r : Served) → (served s lies name k p r).answer ≡ answer.Wait → ⊥
-served_answers s lies name k p served_is.Idle h = cc
-served_answers s lies name k p served_is.Ready h = cc
-served_answers s lies name k p (served_is.Read a) h = cc
-served_answers s lies name k p (served_is.Revokes nodes) h = cc
-served_answers s lies name k p (served_is.Moves to rest) h = cc
-
-serve_answers : (me : ℕ) (s : NodeState) (lies : ℕ → Place) (name : ℕ) (k : Option Known) → (serve_known me s lies name k).answer ≡ answer.Wait → ⊥
-serve_answers me s lies name None h = cc
-serve_answers me s lies name (Some k) h = served_answers s lies name k _ _ h
-
-letter_answers : (s : NodeState) (row : Row) → IsTaken s row → row.answer ≡ answer.Wait → ⊥
-letter_answers s row (Took nil) h = cc
-letter_answers s row (Strayed is) h =
-    let strays : row.answer ≡ answer.Stray = ap (λ (r : Row). r.answer) is in
-    cc
-
-row_waits : (st : Setting) (me : ℕ) (s : NodeState) (h : Hint) (i : Input) → Waits s (row_of st me s h i)
-row_waits st me s h (input.Do c) w = do_waits me s h.full c w
-row_waits st me s h (input.Serve name) w = absurd (serve_answers me s h.lies name (s.known name) w)
-row_waits st me s h (input.Take from l) w = absurd (letter_answers s _ (letter_taken st me s h.clash from l) w)
-
--- ## the places
-
-places_wait : (st : Setting) (me : ℕ) (n : Node) (h : Hint) (i : Input) (places : Places) →
-    let row : Row = row_of st me n.state h i in
-    row.answer ≡ answer.Wait → MovesTo me n i row.answer places → places ≡ n.places
-places_wait st me n h (input.Do c) places w moved = moved ∙ made_keeps me n c _ (λ nil. cc)
-places_wait st me n h (input.Serve name) places w moved = moved
-places_wait st me n h (input.Take from l) places w moved = absurd (letter_answers n.state _ (letter_taken st me n.state h.clash from l) w)
-
--- ## the step
-
--- a row without letters has no posts
-posts_nothing : (stamp : ℕ) (row : Row) (p : Post) (more : List Post) → row.posts ≡ p ∷ more → letters_of stamp row ≡ [] → ⊥
-posts_nothing stamp row p more is none =
-    let some : letters_of stamp row ≡ letters_of stamp (record row { posts = p ∷ more }) = ap (λ posts. letters_of stamp (record row { posts = posts })) is in
-    cc
-
--- a row that posts nothing and changes at most entries only counts its step where it changes none
-closed_keeps : (stamp : ℕ) (s : NodeState) (row : Row) → PostsOrKeeps s row → letters_of stamp row ≡ [] → (closed stamp row).known ≡ s.known → closed stamp row ≡ with_step s
-closed_keeps stamp s row (Posts p more is) none same = absurd (posts_nothing stamp row p more is none)
-closed_keeps stamp s row (Keeps known is) none same =
-    let after : closed stamp row ≡ closed stamp (waiting s known) = ap (closed stamp) is in
-    let known_same : known ≡ s.known = sym (ap (λ (t : NodeState). t.known) after) ∙ same in
-    after ∙ ap (λ k. closed stamp (waiting s k)) known_same
+-- no letter means no draft
+none_numbered : (issued : ℕ → ℕ) (stamp : ℕ) (drafts : List Draft) → numbered issued stamp drafts ≡ [] → drafts ≡ []
+none_numbered issued stamp [] h = refl
+none_numbered issued stamp (d ∷ drafts) h = absurd cc
 
 pub wait_keeps : WaitKeeps
 wait_keeps st me stamp i n n' d step waits none same =
-    let row : Row = row_of st me n.state (hint_of st me n i) i in
-    let answered : d.answer ≡ row.answer = ap (λ (x : Done). x.answer) step.outcome in
-    let wait : row.answer ≡ answer.Wait = sym answered ∙ waits in
-    let letters : letters_of stamp row ≡ [] = sym (ap (λ (x : Done). x.letters) step.outcome) ∙ none in
-    let known : (closed stamp row).known ≡ n.state.known = sym (ap (λ (t : NodeState). t.known) step.state) ∙ same in
-    let state : n'.state ≡ with_step n.state =
-    step.state ∙ closed_keeps stamp n.state row (row_waits st me n.state (hint_of st me n i) i wait) letters known in
-    let moved : MovesTo me n i row.answer n'.places = subst (λ (a : NodeAnswer). MovesTo me n i a n'.places) answered step.places in
-    let places : n'.places ≡ n.places = places_wait st me n (hint_of st me n i) i n'.places wait moved in
-    λ j. record { state = state j; places = places j }
+    let o : Outcome = rule st me n.state step.told i in
+    let answers : o.answer ≡ answer.Wait = sym (ap (λ (x : Done). x.answer) step.outcome) ∙ waits in
+    let drafts : o.drafts ≡ [] =
+    none_numbered n.state.issued stamp o.drafts (sym (ap (λ (x : Done). x.letters) step.outcome) ∙ none) in
+    let quiet : o ≡ record o { drafts = [] } = λ j. record o { drafts = drafts j } in
+    let after : n'.state ≡ with_step (after_changes n.state o.changes) = step.state ∙ ap (closed stamp n.state) quiet ∙ closed_quiet stamp n.state o in
+    let known : (after_changes n.state o.changes).known ≡ n.state.known = sym (ap (λ (s : NodeState). s.known) after) ∙ same in
+    let kept : after_changes n.state o.changes ≡ n.state =
+    rule_waits st me n.state step.told i answers n.state ∙ (λ j. record (n.state) { known = known j }) in
+    let moved : MovesTo me n step.told i answer.Wait n'.places = subst (λ (a : NodeAnswer). MovesTo me n step.told i a n'.places) waits step.places in
+    let places : n'.places ≡ n.places = places_wait st me n step.told i n'.places answers moved in
+    (λ j. record { state = (after ∙ ap with_step kept) j; places = places j })
+  where
+    no_more : (changes : List Change) → changes ++ [] ≡ changes
+    no_more [] = refl
+    no_more (c ∷ changes) = ap (λ (l : List Change). c ∷ l) (no_more changes)
+
+    closed_quiet : (stamp : ℕ) (s : NodeState) (o : Outcome) → closed stamp s (record o { drafts = [] }) ≡ with_step (after_changes s o.changes)
+    closed_quiet stamp s o = ap (λ (l : List Change). with_step (after_changes s l)) (no_more o.changes)

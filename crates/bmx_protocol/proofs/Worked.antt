@@ -9,9 +9,9 @@ use Rattle.bmx_protocol.specs.declared.inputs.Input.TheVariants as input
 use Rattle.bmx_protocol.specs.declared.inputs.NodeAnswer.{NodeAnswer}
 use Rattle.bmx_protocol.specs.declared.inputs.NodeAnswer.TheVariants as answer
 use Rattle.bmx_protocol.specs.Nodes.{Setting}
-use Rattle.bmx_protocol.specs.Steps.{Node, first_node, hint_of, row_of, done_of, closed, MovesTo, IsStep}
+use Rattle.bmx_protocol.specs.Steps.{Node, first_node, Told, rule, done_of, closed, MovesTo, IsStep}
 use Rattle.bmx_protocol.specs.Histories.{Fits, Replays}
-use Rattle.bmx_protocol.specs.Cases.{places_after, one_bunch, told_of_the_object}
+use Rattle.bmx_protocol.specs.Cases.{told_at, places_after, one_bunch, told_of_the_object}
 use Rattle.bmx_protocol.specs.Laws.{WorkedRunIsLegal}
 use Rattle.bmx_protocol.proofs.Prefixes.{joined, not_empty}
 
@@ -63,7 +63,7 @@ fit_each st past (x ∷ xs) fit (y ∷ q) r e h =
 
 after_event : Setting → (ℕ → Node) → Event → Node
 after_event st nodes e = record {
-  state = closed e.stamp (row_of st e.node (nodes e.node).state (hint_of st e.node (nodes e.node) e.input) e.input);
+  state = closed e.stamp (nodes e.node).state (rule st e.node (nodes e.node).state (told_at st e.node (nodes e.node) e.input) e.input);
   places = places_after e.node (nodes e.node) e.input e.done.answer;
 }
 
@@ -71,13 +71,13 @@ abbrev StepAll : Setting → (ℕ → Node) → List Event → Type 0
 unfolding after_event
 StepAll st nodes [] = Unit {0}
 StepAll st nodes (e ∷ events) =
-    (e.done ≡ done_of e.stamp (row_of st e.node (nodes e.node).state (hint_of st e.node (nodes e.node) e.input) e.input))
+    (e.done ≡ done_of e.stamp (nodes e.node).state (rule st e.node (nodes e.node).state (told_at st e.node (nodes e.node) e.input) e.input))
     × StepAll st (put nodes e.node (after_event st nodes e)) events
 
-moves : (me : ℕ) (n : Node) (i : Input) (a : NodeAnswer) → MovesTo me n i a (places_after me n i a)
-moves me n (input.Do c) a = refl
-moves me n (input.Serve name) a = refl
-moves me n (input.Take from l) a = refl
+moves : (me : ℕ) (n : Node) (t : Told) (i : Input) (a : NodeAnswer) → MovesTo me n t i a (places_after me n i a)
+moves me n t (input.Do c) a = refl
+moves me n t (input.Serve name) a = refl
+moves me n t (input.Take from l) a = refl
 
 replay_all : (st : Setting) (nodes : ℕ → Node) (events : List Event) → StepAll st nodes events →
     (last : ℕ → Node) × Replays st nodes events last
@@ -87,7 +87,13 @@ replay_all st nodes (e ∷ events) h =
     let t : (last : ℕ → Node) × Replays st (put nodes e.node (after_event st nodes e)) events last =
     replay_all st (put nodes e.node (after_event st nodes e)) events h.1 in
     let step : IsStep st e.node (nodes e.node) e.stamp e.input e.done (after_event st nodes e) =
-    record { outcome = h.0; state = refl; places = moves e.node (nodes e.node) e.input e.done.answer } in
+    record {
+      told = told_at st e.node (nodes e.node) e.input;
+      is_told = record { full = refl; clash = refl; lies = λ name. refl };
+      outcome = h.0;
+      state = refl;
+      places = moves e.node (nodes e.node) (told_at st e.node (nodes e.node) e.input) e.input e.done.answer;
+    } in
     (t.0, (after_event st nodes e, step, t.1))
 
 -- ## stamps rise

@@ -2,7 +2,7 @@
 -- bunch the anchor has its chain, its parent answers for it, its copy is current, and a view shows node 1.
 use Rattle.std.proofs.Common.{◌≡◌, ℕ, zero, suc, ◌<◌, ◌==◌, Bool, true, false, cond, [], ◌∷◌, replicate, find, refl, sym, ap, ◌∙◌, subst, arith, inl}
 use Rattle.std.specs.Prelude.{nat_lt, ◌&&◌, Option, Some, None, slice_get}
-use Rattle.std.specs.Option.{option_map}
+use Rattle.std.specs.Option.{option_map, option_map_or}
 use Rattle.std.proofs.lemmas.Bool.{cond_both}
 use Rattle.std.proofs.lemmas.Bool.Decides.{nat_tests}
 use Rattle.std.proofs.lemmas.List.{get_or-replicate}
@@ -10,12 +10,11 @@ use Rattle.std.proofs.lemmas.Option.{slice_get-get_or}
 use Rattle.bmx_types.specs.declared.values.Val.TheVariants as val
 use Rattle.bmx_types.specs.declared.openings.Birth.{Birth}
 use Rattle.bmx_graph.specs.State.{opening_state}
-use Rattle.bmx_protocol.specs.declared.inputs.NodeAnswer.TheVariants as answer
+use Rattle.bmx_token.specs.Turns.{can_serve}
 use Rattle.bmx_protocol.specs.declared.views.Entry.{Entry}
 use Rattle.bmx_protocol.specs.declared.views.View.{View}
 use Rattle.bmx_protocol.specs.Nodes.{Setting, Known, owned_birth, heard_birth, birth_of, is_anchor, first_known, first_state, entry_of, AreNumbers, Shows}
-use Rattle.bmx_protocol.specs.Rows.{serve_known}
-use Rattle.bmx_protocol.specs.Steps.{Node, first_node}
+use Rattle.bmx_protocol.specs.Steps.{first_node}
 use Rattle.bmx_protocol.specs.Worlds.{World, world_of, Has, Kept, Here, On, HasChain, IsCurrent, IsHandedOver, AnswersFor, IsIdle, IsAtRest}
 use Rattle.bmx_protocol.specs.Runs.Programs.{CanServe, IsQuiet}
 use Rattle.bmx_protocol.specs.Cases.{one_bunch}
@@ -48,19 +47,22 @@ opening_is_at_rest st = record {
 }
 
 -- nothing can be served
-serves_nothing : (st : Setting) (n x : ℕ) (o : Option Known) → first_known st n x ≡ o →
-    (serve_known n (first_state st n) (λ _. record { address = 0; moves = 0 }) x o).answer ≡ answer.Idle
+serves_nothing : (st : Setting) (n x : ℕ) (o : Option Known) → first_known st n x ≡ o → option_map_or (λ k. can_serve n k.part) o false ≡ false
 serves_nothing st n x None e = refl
-serves_nothing st n x (Some k) e =
-    at_first_all (λ k. (serve_known n (first_state st n) (λ _. record { address = 0; moves = 0 }) x (Some k)).answer ≡ answer.Idle)
-    (λ b. refl) (λ b. refl) st n x k e
+serves_nothing st n x (Some k) e = at_first_all (λ k. can_serve n k.part ≡ false) (λ b. refl) (λ b. refl) st n x k e
+
+pub none_served : (st : Setting) (n name : ℕ) → CanServe n (first_node st n).state name → ⊥
+none_served st n name serves =
+    let none : option_map_or (λ k. can_serve n k.part) (first_known st n name) false ≡ false = serves_nothing st n name (first_known st n name) refl in
+    let both : true ≡ false = sym serves ∙ none in
+    cc
 
 opening_is_quiet : (st : Setting) → IsQuiet st []
 opening_is_quiet st = record {
   no_letter = λ n m _ _. refl;
-  no_serve = λ nodes n name after _ serves.
-      let idle = serves_nothing st n name (first_known st n name) refl in
-      (subst (λ (f : ℕ → Node). CanServe n (f n).state name) (sym after) serves) idle;
+  nodes = first_node st;
+  lead = refl;
+  no_serve = λ n name _ serves. none_served st n name serves;
 }
 
 -- ## two nodes and one bunch

@@ -1,6 +1,7 @@
 -- Runs of nodes worked by hand, each closed by computing: what nodes do, and at each step the stamp, the
 -- answer and the letters.
-use Rattle.std.specs.Prelude.{◌≡◌, ℕ, ◌+◌, ◌*◌, ◌^◌, ◌==◌, pos, if◌then◌else◌, List, [], ◌∷◌, ◌++◌, map, replicate, Some, None, refl}
+use Rattle.std.specs.Prelude.{◌≡◌, ℕ, ◌+◌, ◌*◌, ◌^◌, ◌==◌, pos, if◌then◌else◌, List, [], ◌∷◌, ◌++◌, map, replicate, Some, None, unwrap_or, true, false, refl}
+use Rattle.std.specs.Option.{option_map_or}
 use Rattle.bmx_types.specs.declared.values.Val.TheVariants as val
 use Rattle.bmx_types.specs.Words.{address_word}
 use Rattle.bmx_types.specs.declared.addresses.Info.{Info}
@@ -21,9 +22,10 @@ use Rattle.bmx_protocol.specs.declared.inputs.NodeAnswer.TheVariants as answer
 use Rattle.bmx_protocol.specs.declared.inputs.Sending.{Sending}
 use Rattle.bmx_protocol.specs.declared.events.Event.{Event}
 use Rattle.bmx_protocol.specs.Nodes.{Setting}
-use Rattle.bmx_protocol.specs.Places.{Places}
-use Rattle.bmx_protocol.specs.Rows.{Row}
-use Rattle.bmx_protocol.specs.Steps.{Node, first_node, hint_of, row_of, done_of, closed, made_places, told_places, stamp_after}
+use Rattle.bmx_protocol.specs.Places.{Places, with_all_learnt}
+use Rattle.bmx_protocol.specs.Rules.{Outcome, infos}
+use Rattle.bmx_protocol.specs.Strays.{some_clash}
+use Rattle.bmx_protocol.specs.Steps.{Node, first_node, command_in, letter_in, Told, nowhere, finds_full, rule, done_of, closed, made_places, is_nil, is_taken, stamp_after}
 use Rattle.bmx_protocol.specs.Histories.{on_way}
 
 -- ## running
@@ -55,11 +57,19 @@ abbrev pub stamp_of : ℕ → ℕ → List Event → ℕ
 stamp_of n stamp [] = stamp
 stamp_of n stamp (e ∷ events) = stamp_of n (if e.node == n then e.stamp else stamp) events
 
+-- what its rule is told
+abbrev pub told_at : Setting → ℕ → Node → Input → Told
+told_at st me n i = record {
+  full = option_map_or (finds_full st n.places) (command_in i) false;
+  clash = option_map_or (λ (l : ℕ × Letter). some_clash me l.0 n.state.known n.places (infos l.1.msg)) (letter_in i) false;
+  lies = λ name. unwrap_or (n.places.place name) nowhere;
+}
+
 -- the places after an input
 abbrev pub places_after : ℕ → Node → Input → NodeAnswer → Places
-places_after me n (input.Do c) a = made_places me n c a
+places_after me n (input.Do c) a = if is_nil a then made_places me n c else n.places
 places_after me n (input.Serve name) a = n.places
-places_after me n (input.Take from l) a = told_places n.places l.msg a
+places_after me n (input.Take from l) a = if is_taken a then with_all_learnt n.places (infos l.msg) else n.places
 
 -- nodes and what has happened
 pub record Play : Type 0 where
@@ -67,15 +77,15 @@ pub record Play : Type 0 where
   pub past : List Event
 
 -- one step more
-abbrev pub with_row : Play → ℕ → ℕ → Input → Row → Play
-with_row p me stamp i row = record {
-  nodes = put p.nodes me (record { state = closed stamp row; places = places_after me (p.nodes me) i row.answer });
-  past = p.past ++ record { node = me; stamp = stamp; input = i; done = done_of stamp row } ∷ [];
+abbrev pub with_outcome : Play → ℕ → ℕ → Input → Outcome → Play
+with_outcome p me stamp i o = record {
+  nodes = put p.nodes me (record { state = closed stamp (p.nodes me).state o; places = places_after me (p.nodes me) i o.answer });
+  past = p.past ++ record { node = me; stamp = stamp; input = i; done = done_of stamp (p.nodes me).state o } ∷ [];
 }
 
 abbrev pub with_input : Setting → Play → ℕ → Input → Play
 with_input st p me i =
-    with_row p me (stamp_after (stamp_of me 0 p.past) i) i (row_of st me (p.nodes me).state (hint_of st me (p.nodes me) i) i)
+    with_outcome p me (stamp_after (stamp_of me 0 p.past) i) i (rule st me (p.nodes me).state (told_at st me (p.nodes me) i) i)
 
 abbrev pub play : Setting → Play → List Move → Play
 play st p [] = p
@@ -307,7 +317,7 @@ wanting = (played (one_bunch 2) (Do 1 (command.Read anchor) ∷ [])).nodes 1
 abbrev answer_to : ℕ → ℕ → ℕ → Msg → NodeAnswer
 answer_to from seq stamp m =
     let i : Input = input.Take from (record { seq = seq; stamp = stamp; msg = m }) in
-    (row_of (one_bunch 2) 1 wanting.state (hint_of (one_bunch 2) 1 wanting i) i).answer
+    (rule (one_bunch 2) 1 wanting.state (told_at (one_bunch 2) 1 wanting i) i).answer
 
 -- it answers so to that message in the first letter from node 0
 abbrev answer_to_first : Msg → NodeAnswer
@@ -392,3 +402,31 @@ an_invalidation_of_an_unknown_object_is_taken = refl
 
 a_request_for_an_unknown_object : answer_to_first (msg.ReadReq 2 0) ≡ answer.Stray
 a_request_for_an_unknown_object = refl
+
+-- ## what a rule is told
+
+-- a store of one segment, with its anchor and 27 objects of 32 fields: 16 words are left
+abbrev one_segment : Setting
+one_segment = record (one_bunch 1) { limit = 1 }
+
+abbrev filled : Play
+filled = played one_segment (replicate 27 (Do 0 (command.New 0 0 32)))
+
+a_larger_object_is_told_to_find_no_segment : (told_at one_segment 0 (filled.nodes 0) (input.Do (command.New 1 0 13))).full ≡ true
+a_larger_object_is_told_to_find_no_segment = refl
+
+a_smaller_one_finds_room : (told_at one_segment 0 (filled.nodes 0) (input.Do (command.New 1 0 12))).full ≡ false
+a_smaller_one_finds_room = refl
+
+no_other_command_is_full : (told_at one_segment 0 (filled.nodes 0) (input.Do (command.Read anchor))).full ≡ false
+no_other_command_is_full = refl
+
+-- an Info whose place is taken clashes, and one whose place is free doesn't
+abbrev told_of : Info → Told
+told_of info = told_at (one_bunch 2) 1 wanting (input.Take 0 (record { seq = 1; stamp = 3; msg = grant_with info }))
+
+a_taken_place_clashes : (told_of (object 2 0x100000023 0)).clash ≡ true
+a_taken_place_clashes = refl
+
+a_free_place_does_not : (told_of the_object).clash ≡ false
+a_free_place_does_not = refl

@@ -1,5 +1,6 @@
 -- Histories: the letters that were issued and taken, and when a history is legal.
-use Rattle.std.specs.Prelude.{◌≡◌, ℕ, ◌+◌, ◌^◌, ◌<◌, ◌≤◌, ◌==◌, Bool, true, false, if◌then◌else◌, List, [], ◌∷◌, ◌++◌, length, drop, filter, filter_map, count_by, slice_get, Contains, Option, Some, None}
+use Rattle.std.specs.Prelude.{◌≡◌, ℕ, ◌+◌, ◌^◌, ◌<◌, ◌≤◌, ◌==◌, Bool, true, false, if◌then◌else◌, List, [], ◌∷◌, ◌++◌, length, drop, filter, filter_map, count_by, slice_get, Contains, Option, Some, None, IfSome}
+use Rattle.std.specs.Option.{option_map_or, option_and_then}
 use Rattle.bmx_types.specs.Openings.{bunches_of}
 use Rattle.bmx_types.specs.declared.commands.Operand.{Operand}
 use Rattle.bmx_types.specs.declared.commands.Operand.TheVariants as operand
@@ -14,7 +15,7 @@ use Rattle.bmx_protocol.specs.declared.inputs.NodeAnswer.TheVariants as answer
 use Rattle.bmx_protocol.specs.declared.inputs.Sending.{Sending}
 use Rattle.bmx_protocol.specs.declared.events.Event.{Event}
 use Rattle.bmx_protocol.specs.Nodes.{Setting}
-use Rattle.bmx_protocol.specs.Steps.{Node, first_node, IsStep}
+use Rattle.bmx_protocol.specs.Steps.{Node, first_node, IsStep, command_in, letter_in, is_taken}
 
 -- ## letters
 
@@ -31,20 +32,7 @@ issued n m (e ∷ events) =
 
 -- the letter that an input takes from node n
 abbrev pub letter_from : ℕ → Input → Option Letter
-letter_from n (input.Do c) = None
-letter_from n (input.Serve name) = None
-letter_from n (input.Take from letter) = if from == n then Some letter else None
-
--- a stray letter doesn't count as taken
-abbrev pub is_taken : NodeAnswer → Bool
-is_taken answer.Nil = true
-is_taken (answer.Value v) = true
-is_taken answer.Yes = true
-is_taken answer.No = true
-is_taken answer.Wait = true
-is_taken (answer.Refused why) = true
-is_taken answer.Idle = true
-is_taken answer.Stray = false
+letter_from n i = option_and_then (λ (l : ℕ × Letter). if l.0 == n then Some l.1 else None) (letter_in i)
 
 -- the letters from node n that came to node m, in order, the stray ones among them
 abbrev pub arrived : ℕ → ℕ → List Event → List Letter
@@ -89,23 +77,21 @@ IsInputOf st (input.Take from letter) = from < st.nodes
 
 -- a letter that is taken is the next from its sender to the node, whole, and was issued before
 abbrev pub IsNext : List Event → ℕ → Input → Type 0
-IsNext past m (input.Do c) = Unit {0}
-IsNext past m (input.Serve name) = Unit {0}
-IsNext past m (input.Take from letter) =
-    slice_get (issued from m past) (length (arrived from m past)) ≡ Some letter
+IsNext past m i =
+    IfSome (letter_in i) (λ (l : ℕ × Letter). slice_get (issued l.0 m past) (length (arrived l.0 m past)) ≡ Some l.1)
 
 -- a letter that is taken has a smaller stamp
 abbrev pub IsLater : Input → ℕ → Type 0
-IsLater (input.Do c) stamp = Unit {0}
-IsLater (input.Serve name) stamp = Unit {0}
-IsLater (input.Take from letter) stamp = letter.stamp < stamp
+IsLater i stamp = IfSome (letter_in i) (λ (l : ℕ × Letter). l.1.stamp < stamp)
+
+-- a command is to be given again
+abbrev pub is_wait : NodeAnswer → Bool
+is_wait answer.Wait = true
+is_wait a = false
 
 -- the command that a node waits with after an input, by what it waited with before
 abbrev pub waits_after : Option Command → Input → NodeAnswer → Option Command
-waits_after w (input.Do c) answer.Wait = Some c
-waits_after w (input.Do c) a = None
-waits_after w (input.Serve name) a = w
-waits_after w (input.Take from letter) a = w
+waits_after w i a = option_map_or (λ c. if is_wait a then Some c else None) (command_in i) w
 
 -- the command that node n waits with after events
 abbrev pub waits_with : ℕ → Option Command → List Event → Option Command
@@ -115,10 +101,7 @@ waits_with n w (e ∷ events) =
 
 -- a node that waits gives the same command again
 abbrev pub IsAgain : Option Command → Input → Type 0
-IsAgain None i = Unit {0}
-IsAgain (Some w) (input.Do c) = c ≡ w
-IsAgain (Some w) (input.Serve name) = Unit {0}
-IsAgain (Some w) (input.Take from letter) = Unit {0}
+IsAgain w i = IfSome w (λ c. IfSome (command_in i) (λ d. d ≡ c))
 
 -- an event may come after those before it, but for what its step makes of the node
 pub record Fits (st : Setting) (past : List Event) (e : Event) : Type 0 where

@@ -6,9 +6,11 @@ use Rattle.bmx_protocol.specs.declared.inputs.NodeAnswer.TheVariants as answer
 use Rattle.bmx_protocol.specs.declared.inputs.Done.{Done}
 use Rattle.bmx_protocol.specs.declared.events.Event.{Event}
 use Rattle.bmx_protocol.specs.declared.views.View.{View}
-use Rattle.bmx_protocol.specs.Nodes.{Setting, NodeState, Shows}
-use Rattle.bmx_protocol.specs.Steps.{Node, IsStep, hint_of}
+use Rattle.bmx_protocol.specs.Nodes.{Setting, NodeState, AreAll, Shows}
+use Rattle.bmx_protocol.specs.Changes.{with_step}
+use Rattle.bmx_protocol.specs.Steps.{Node, Told, IsTold, IsStep}
 use Rattle.bmx_protocol.specs.Histories.{AreAfter, IsLegal, IsInputOf, issued}
+use Rattle.bmx_protocol.specs.Runs.Programs.{CanServe}
 use Rattle.bmx_protocol.specs.Cases.{one_bunch, told_of_the_object}
 
 -- the answers of a step that is refused: it is stray, has nothing to serve, or may not be done
@@ -22,16 +24,17 @@ IsRefusal (answer.Refused why) = Unit {0}
 IsRefusal answer.Idle = Unit {0}
 IsRefusal answer.Stray = Unit {0}
 
--- the state with one step more counted
-abbrev pub with_step : NodeState → NodeState
-with_step s = record s { clock = s.clock + 1 }
+-- for each node and input there is what its rule is told, and it is one
+pub record ToldIsDetermined : Type 0 where
+  pub some : (st : Setting) (me : ℕ) (n : Node) (i : Input) → (t : Told) × IsTold st me n i t
+  pub one : (st : Setting) (me : ℕ) (n : Node) (i : Input) (t u : Told) → IsTold st me n i t → IsTold st me n i u → t ≡ u
 
--- the state and the outcome of a step are a function of the state, the input, its stamp, and of what the
--- places tell; with the places themselves all of the node is
+-- the state and the outcome of a step are a function of the state, the input, its stamp, and of what its rule
+-- is told; with the places themselves all of the node is
 pub record StepIsDetermined : Type 0 where
-  pub states : (st : Setting) (me stamp : ℕ) (i : Input) (n m n' m' : Node) (c d : Done) →
-      n.state ≡ m.state → hint_of st me n i ≡ hint_of st me m i →
-      IsStep st me n stamp i c n' → IsStep st me m stamp i d m' → (c ≡ d) × (n'.state ≡ m'.state)
+  pub states : (st : Setting) (me stamp : ℕ) (i : Input) (n m n' m' : Node) (c d : Done)
+      (a : IsStep st me n stamp i c n') (b : IsStep st me m stamp i d m') →
+      n.state ≡ m.state → a.told ≡ b.told → (c ≡ d) × (n'.state ≡ m'.state)
   pub nodes : (st : Setting) (me stamp : ℕ) (i : Input) (n n' m' : Node) (c d : Done) →
       IsStep st me n stamp i c n' → IsStep st me n stamp i d m' → (c ≡ d) × (n' ≡ m')
 
@@ -88,9 +91,14 @@ StateHasOneView = (nodes : ℕ) (s : NodeState) (v w : View) → Shows nodes v s
 -- and a view that shows the one after the step shows the other
 abbrev pub ShownStepsAgree : Type 0
 ShownStepsAgree =
-    (st : Setting) (me stamp : ℕ) (i : Input) (n m n' m' : Node) (c d : Done) (v w : View) →
-    Shows st.nodes v n.state → Shows st.nodes v m.state →
-    hint_of st me n i ≡ hint_of st me m i → IsInputOf st i →
-    IsStep st me n stamp i c n' → IsStep st me m stamp i d m' →
+    (st : Setting) (me stamp : ℕ) (i : Input) (n m n' m' : Node) (c d : Done) (v w : View)
+    (a : IsStep st me n stamp i c n') (b : IsStep st me m stamp i d m') →
+    Shows st.nodes v n.state → Shows st.nodes v m.state → a.told ≡ b.told → IsInputOf st i →
     All (λ l. l.to < st.nodes) c.letters →
     Shows st.nodes w n'.state → (c ≡ d) × Shows st.nodes w m'.state
+
+-- after events the names that can be served at a node can be listed
+abbrev pub ServedAreListed : Type 0
+ServedAreListed =
+    (st : Setting) (history : List Event) (nodes : ℕ → Node) → AreAfter st history nodes →
+    (n : ℕ) → (names : List ℕ) × AreAll (CanServe n (nodes n).state) names

@@ -1,6 +1,7 @@
 pub mod Nodes
 pub mod Places
-pub mod Rows
+pub mod Changes
+pub mod Rules
 pub mod Strays
 pub mod Steps
 pub mod Histories

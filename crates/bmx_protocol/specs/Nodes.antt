@@ -1,16 +1,18 @@
 -- A node's state by names: what it knows of each object, its registers, its records and its counts.
 -- Functions of numbers stand for the lists of a `View`; `Shows` says that a view lists exactly them.
-use Rattle.std.specs.Prelude.{◌≡◌, ℕ, ◌<◌, ◌==◌, ◌&&◌, nat_lt, nat_le, Bool, if◌then◌else◌, List, length, map, find, slice_get, slice_set, AllPairs, Option, Some, None}
+use Rattle.std.specs.Prelude.{◌≡◌, ℕ, ◌<◌, ◌==◌, ◌&&◌, nat_lt, nat_le, Bool, if◌then◌else◌, List, length, map, find, slice_get, slice_set, AllPairs, Contains, ◌↔◌, Option, Some, None, is_some}
 use Rattle.std.specs.Option.{option_map, option_map_or}
+use Rattle.std.specs.List.Sorted.{IsStrictlyIncreasing}
 use Rattle.bmx_types.specs.Openings.{bunches_of}
 use Rattle.bmx_types.specs.declared.values.Val.{Val}
 use Rattle.bmx_types.specs.declared.values.Val.TheVariants as val
 use Rattle.bmx_types.specs.declared.openings.Birth.{Birth}
 use Rattle.bmx_token.specs.declared.parts.Part.{Part}
 use Rattle.bmx_token.specs.Tokens.{owner_part, child_part}
+use Rattle.bmx_token.specs.Turns.{Share}
 use Rattle.bmx_owner.specs.declared.entering.Record.{Record}
 use Rattle.bmx_owner.specs.Records.{IsInOrder, find_record, blank}
-use Rattle.bmx_graph.specs.State.{put, put_at, State}
+use Rattle.bmx_graph.specs.State.{State}
 use Rattle.bmx_protocol.specs.declared.views.Entry.{Entry}
 use Rattle.bmx_protocol.specs.declared.views.View.{View}
 use Rattle.bmx_protocol.specs.declared.views.ViewField.{ViewField}
@@ -59,31 +61,20 @@ value_in field.Null = val.Null
 value_in (field.Int k) = val.Int k
 value_in (field.Ref name) = val.Ref name
 
--- ## changes
+-- ## what a node has of an object
 
--- the node knows this of the name
-abbrev pub with_known : NodeState → ℕ → Known → NodeState
-with_known s name k = record s { known = put s.known name (Some k) }
-
--- a register holds the value
-abbrev pub with_register : NodeState → ℕ → Val → NodeState
-with_register s r v = record s { register = put s.register r v }
-
--- the record of the name and the node
-abbrev pub with_entering : NodeState → ℕ → ℕ → Record → NodeState
-with_entering s name node r = record s { entering = put_at s.entering name node (Some r) }
-
--- the token of what is known is this
-abbrev pub with_part : Known → Part → Known
-with_part k p = record k { part = p }
-
--- the copy is given up
-abbrev pub without_copy : Known → Known
-without_copy k = record k { copy = None }
+-- whether it has a copy, and its token there
+abbrev pub share_of : Known → Share
+share_of k = record { copy = is_some k.copy; part = k.part }
 
 -- a field of the copy holds the value
 abbrev pub with_field : ℕ → Val → Known → Known
 with_field index v k = record k { copy = option_map (λ fields. slice_set fields index (field_of v)) k.copy }
+
+-- numbers rise, and are all that have a property
+pub record AreAll (Has : ℕ → Type 0) (numbers : List ℕ) : Type 0 where
+  pub rising : IsStrictlyIncreasing numbers
+  pub all : (n : ℕ) → Contains numbers n ↔ Has n
 
 -- ## the part of the graph that a node sees
 
@@ -92,13 +83,13 @@ abbrev pub fields_known : Option Known → Option (List Val)
 fields_known None = None
 fields_known (Some k) = option_map (map value_in) k.copy
 
--- its own copies, registers and tokens, as a graph
+-- its own copies, registers and tokens, as a graph: it sees nothing of other nodes
 abbrev pub seen_graph : ℕ → NodeState → State
 seen_graph me s = record {
   object = λ name. fields_known (s.known name);
-  register = λ n r. s.register r;
+  register = λ n r. if n == me then s.register r else val.Null;
   held = λ n name. if n == me then option_map_or (λ k. k.part.held) (s.known name) None else None;
-  made = λ n. s.made;
+  made = λ n. if n == me then s.made else 0;
 }
 
 -- ## the opening

@@ -1,6 +1,7 @@
 -- Where objects lie at one node: beside the view, and seen by no program. A node hands out the words of
 -- its own segments in order and once, and keeps a header in front of each object that it knows.
 use Rattle.std.specs.Prelude.{ℕ, zero, suc, ◌+◌, ◌==◌, ◌&&◌, ◌||◌, not, nat_lt, nat_le, Bool, true, false, if◌then◌else◌, List, [], ◌∷◌, ◌++◌, length, filter, Option, Some, None}
+use Rattle.std.specs.Option.{option_map_or}
 use Rattle.bmx_types.specs.Words.{address_word, home_of, segment_of, index_of}
 use Rattle.bmx_types.specs.Openings.{bunches_of}
 use Rattle.bmx_types.specs.declared.addresses.Place.{Place}
@@ -93,12 +94,17 @@ abbrev pub any_below : ℕ → (ℕ → Bool) → Bool
 any_below zero test = false
 any_below (suc n) test = test n || any_below n test
 
--- a header keeps an object of that name and size from an address: another object's at the address
--- itself, or any that begins elsewhere and shares a word with it
-abbrev pub is_in_the_way : Option Header → Bool → ℕ → ℕ → ℕ → ℕ → Bool
-is_in_the_way None here name size i j = false
-is_in_the_way (Some h) true name size i j = not (h.name == name && h.size == size)
-is_in_the_way (Some h) false name size i j = overlaps i (4 + size) j (4 + h.size)
+-- the header at an address itself is of another name or size
+abbrev pub is_another : ℕ → ℕ → Header → Bool
+is_another name size h = not (h.name == name && h.size == size)
+
+-- the header at word j of the segment, or the object behind it, shares a word with an object of that size from word i
+abbrev pub is_across : ℕ → ℕ → ℕ → Header → Bool
+is_across size i j h = overlaps i (4 + size) j (4 + h.size)
+
+-- the header at word j keeps an object of that name and size from word i
+abbrev pub is_in_the_way : ℕ → ℕ → ℕ → ℕ → Header → Bool
+is_in_the_way name size i j h = if j == i then is_another name size h else is_across size i j h
 
 -- an object of that name and size can't lie at an address: it would leave the segment, meet a header
 -- in the way, or lie in words of this node's own that were never handed out
@@ -109,7 +115,7 @@ is_barred me a name size address =
     let i : ℕ = index_of address in
     nat_lt 1024 (i + (4 + size))
     || (home == me && nat_lt (a.handed segment) (i + (4 + size)))
-    || any_below 1024 (λ j. is_in_the_way (a.header (address_word home segment j)) (j == i) name size i j)
+    || any_below 1024 (λ j. option_map_or (is_in_the_way name size i j) (a.header (address_word home segment j)) false)
 
 -- an address went over to another
 abbrev pub with_went : Places → ℕ → ℕ → Places
@@ -185,8 +191,8 @@ abbrev pub with_told : Places → Places → List Birth → Places
 with_told told a [] = a
 with_told told a (b ∷ bs) = with_told told (told_place a (told.place b.name) b) bs
 
--- where objects lie at a node at first
+-- where objects lie at a node at first; a number that is no node of the store has nothing
 abbrev pub first_places : Setting → ℕ → Places
 first_places st me =
     if me == 0 then owner_places st
-    else with_told (owner_places st) no_places (filter (λ b. is_anchor st b.name) st.births)
+    else (if nat_lt me st.nodes then with_told (owner_places st) no_places (filter (λ b. is_anchor st b.name) st.births) else no_places)

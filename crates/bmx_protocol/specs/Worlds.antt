@@ -1,6 +1,7 @@
 -- All nodes and the letters on their way, and what is said of them together: who owns an object, what
 -- its current copy is, how a node finds its owner, which objects are reached, and when all is at rest.
 use Rattle.std.specs.Prelude.{◌≡◌, ℕ, suc, ◌<◌, ◌≤◌, false, List, [], ◌∷◌, Contains, IsSome, map, Some, None, ◌⊎◌}
+use Rattle.std.specs.Option.{option_map_or}
 use Rattle.bmx_types.specs.Openings.{bunches_of}
 use Rattle.bmx_types.specs.declared.values.Val.{Val}
 use Rattle.bmx_types.specs.declared.addresses.Info.{Info}
@@ -15,18 +16,20 @@ use Rattle.bmx_types.specs.declared.numbers.Mode.TheVariants as mode
 use Rattle.bmx_token.specs.declared.parts.Role.TheVariants as role
 use Rattle.bmx_protocol.specs.declared.events.Event.{Event}
 use Rattle.bmx_protocol.specs.Nodes.{Setting, Known, NodeState, fields_known, value_in}
-use Rattle.bmx_protocol.specs.Rows.{heard_field}
+use Rattle.bmx_protocol.specs.Places.{Places}
+use Rattle.bmx_protocol.specs.Rules.{heard_field, name_in, grant_in}
 use Rattle.bmx_protocol.specs.Steps.{Node}
 use Rattle.bmx_protocol.specs.Histories.{on_way}
 
--- the states of all nodes, and the letters on their way from one to another
+-- the states of all nodes, where objects lie at each, and the letters on their way from one to another
 pub record World : Type 0 where
   pub state : ℕ → NodeState
+  pub places : ℕ → Places
   pub way : ℕ → ℕ → List Letter
 
 -- the world of nodes after a history
 abbrev pub world_of : (ℕ → Node) → List Event → World
-world_of nodes history = record { state = λ n. (nodes n).state; way = λ n m. on_way n m history }
+world_of nodes history = record { state = λ n. (nodes n).state; places = λ n. (nodes n).places; way = λ n m. on_way n m history }
 
 -- ## owners
 
@@ -77,14 +80,9 @@ HasChain st w x n = (steps : ℕ) × (steps ≤ st.nodes) × Leads w x n steps
 
 -- ## what is to hold of every name in every legal history
 
--- the names of a message: what it is about, and the targets of the fields that it tells
+-- the names of a message: what it is about, and the targets of the fields that it brings
 abbrev pub names_in : Msg → List ℕ
-names_in (msg.ReadReq name asker) = name ∷ []
-names_in (msg.WriteReq name asker) = name ∷ []
-names_in (msg.ReadGrant info fields) = info.name ∷ targets fields
-names_in (msg.WriteGrant info fields) = info.name ∷ targets fields
-names_in (msg.Inval name) = name ∷ []
-names_in (msg.InvAck name) = name ∷ []
+names_in m = name_in m ∷ option_map_or (λ (g : Info × List Field). targets g.1) (grant_in m) []
 
 -- a letter speaks of a name: it asks for it, tells of it, or takes it back
 abbrev pub Speaks : Letter → ℕ → Type 0

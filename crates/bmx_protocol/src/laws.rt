@@ -1,4 +1,10 @@
-ghost use Rattle.bmx_protocol.specs.Laws.{StepIsDetermined, RefusalKeeps, WaitKeeps, EmptyIsLegal, PrefixIsLegal, ReplayIsDetermined, StampIsWithinPlace, WorkedRunIsLegal, IssuedIsCounted, StateHasOneView, ShownStepsAgree};
+ghost use Rattle.bmx_protocol.specs.Laws.{ToldIsDetermined, StepIsDetermined, RefusalKeeps, WaitKeeps, EmptyIsLegal, PrefixIsLegal, ReplayIsDetermined, StampIsWithinPlace, WorkedRunIsLegal, IssuedIsCounted, StateHasOneView, ShownStepsAgree, ServedAreListed};
+
+/// The law that for each node and input there is what its rule is told beside the state, and that it is
+/// one. It does nothing.
+pub fn told_is_determined()
+    ensures { ToldIsDetermined }
+{}
 
 /// The law that a step makes one outcome and one node of a node, an input and a stamp. It does nothing.
 pub fn step_is_determined()
@@ -58,4 +64,10 @@ pub fn state_has_one_view()
 /// outcome, and one view shows what they lead to. It does nothing.
 pub fn shown_steps_agree()
     ensures { ShownStepsAgree }
+{}
+
+/// The law that after events the names that can be served at a node are finitely many, and can be listed by
+/// rising name. It does nothing.
+pub fn served_are_listed()
+    ensures { ServedAreListed }
 {}

@@ -13,6 +13,7 @@ pub use events::{Event, History};
 pub use inputs::{Done, Input, NodeAnswer, Sending, Sent};
 pub use laws::{
     empty_is_legal, issued_is_counted, prefix_is_legal, refusal_keeps, replay_is_determined,
-    stamp_is_within_place, step_is_determined, worked_run_is_legal,
+    served_are_listed, shown_steps_agree, stamp_is_within_place, state_has_one_view, step_is_determined,
+    told_is_determined, wait_keeps, worked_run_is_legal,
 };
 pub use views::{Entries, Entry, Numbers, View, ViewField, ViewFields};

@@ -1,6 +1,6 @@
 -- What a node makes of one object's token, with its copy beside, and what it then says of the token to other
 -- nodes: the calls of Tokens as turns. The rules of a store and the model of one object both cite them.
-use Rattle.std.specs.Prelude.{◌≡◌, ℕ, Bool, true, false, List, [], ◌∷◌, map, Option, Some, None, refl}
+use Rattle.std.specs.Prelude.{◌≡◌, ℕ, ◌==◌, ◌&&◌, Bool, true, false, if◌then◌else◌, List, [], ◌∷◌, map, Option, Some, None, refl}
 use Rattle.bmx_types.specs.declared.numbers.Mode.{Mode}
 use Rattle.bmx_types.specs.declared.numbers.Mode.TheVariants.{Read, Write}
 use Rattle.bmx_token.specs.declared.parts.Ask.{Ask}
@@ -29,6 +29,26 @@ pub data Note : Type 0 where
   Grants : (m : Mode) → Note
   Recalls : Note
   Returns : Note
+
+-- two modes are the same
+abbrev pub same_mode : Mode → Mode → Bool
+same_mode Read Read = true
+same_mode Read Write = false
+same_mode Write Read = false
+same_mode Write Write = true
+
+-- a note is the request of a node in a mode, or the grant of a mode
+abbrev pub is_request_of : Mode → ℕ → Note → Bool
+is_request_of m a (Asks n b) = same_mode m n && (b == a)
+is_request_of m a (Grants n) = false
+is_request_of m a Recalls = false
+is_request_of m a Returns = false
+
+abbrev pub is_grant_of : Mode → Note → Bool
+is_grant_of m (Asks n b) = false
+is_grant_of m (Grants n) = same_mode m n
+is_grant_of m Recalls = false
+is_grant_of m Returns = false
 
 -- a note to a node
 pub record Send : Type 0 where
@@ -95,16 +115,17 @@ turn_of me (Acquires m) h = let a : Part × Acquire = acquire me h.part m h.copy
 turn_of me Releases h = let r : Part × Release = release h.part in released h r.0 r.1
 turn_of me Serves h = let r : Part × Served = serve me h.part in served h r.0 r.1
 
+-- something was served
+abbrev pub is_served : Served → Bool
+is_served served_is.Idle = false
+is_served served_is.Ready = true
+is_served (served_is.Read asker) = true
+is_served (served_is.Revokes nodes) = true
+is_served (served_is.Moves to rest) = true
+
 -- the head of the queue can be served at node me
 abbrev pub can_serve : ℕ → Part → Bool
 can_serve me p = is_served (serve me p).1
-  where
-    is_served : Served → Bool
-    is_served served_is.Idle = false
-    is_served served_is.Ready = true
-    is_served (served_is.Read asker) = true
-    is_served (served_is.Revokes nodes) = true
-    is_served (served_is.Moves to rest) = true
 
 -- ## what a node makes of a note
 

@@ -1,17 +1,17 @@
 -- Programs in phases, and the histories that run or follow them.
-use Rattle.std.specs.Prelude.{◌≡◌, ℕ, ◌+◌, ◌<◌, ◌==◌, ◌⊎◌, Bool, true, false, if◌then◌else◌, List, [], ◌∷◌, ◌++◌, map, filter, filter_map, slice_get, Option, Some, None}
+use Rattle.std.specs.Prelude.{◌≡◌, ℕ, ◌+◌, ◌<◌, ◌==◌, ◌⊎◌, Bool, true, false, if◌then◌else◌, List, [], ◌∷◌, ◌++◌, map, length, filter, filter_map, slice_get, Option, Some, None}
+use Rattle.std.specs.Option.{option_map_or, option_and_then}
 use Rattle.bmx_types.specs.declared.commands.Command.{Command}
 use Rattle.bmx_types.specs.declared.commands.Command.TheVariants as command
 use Rattle.bmx_graph.specs.State.{put}
 use Rattle.bmx_protocol.specs.declared.inputs.Input.{Input}
-use Rattle.bmx_protocol.specs.declared.inputs.Input.TheVariants as input
 use Rattle.bmx_protocol.specs.declared.inputs.NodeAnswer.{NodeAnswer}
 use Rattle.bmx_protocol.specs.declared.inputs.NodeAnswer.TheVariants as answer
 use Rattle.bmx_protocol.specs.declared.events.Event.{Event}
 use Rattle.bmx_protocol.specs.Nodes.{Setting, NodeState}
-use Rattle.bmx_protocol.specs.Rows.{serve_known}
-use Rattle.bmx_protocol.specs.Steps.{Node}
-use Rattle.bmx_protocol.specs.Histories.{AreAfter, on_way}
+use Rattle.bmx_token.specs.Turns.{can_serve}
+use Rattle.bmx_protocol.specs.Steps.{Node, command_in}
+use Rattle.bmx_protocol.specs.Histories.{AreAfter, on_way, is_wait}
 
 -- a line of a script's body: a command of a node, with the line's number, or the end of a phase
 pub data Body : Type 0 where
@@ -54,12 +54,13 @@ program (Gives node line c ∷ body) n =
 program (Phase ∷ body) n = program body n
 program (Quiet ∷ body) n = program body n
 
+-- the commands of a node's program in a phase
+abbrev pub commands_in : Stage → ℕ → List Command
+commands_in s n = map (λ g. g.command) (program_in s n)
+
 -- the command that an input and an answer complete: one that doesn't wait
 abbrev pub completion : Input → NodeAnswer → Option Command
-completion (input.Do c) answer.Wait = None
-completion (input.Do c) a = Some c
-completion (input.Serve name) a = None
-completion (input.Take from letter) a = None
+completion i a = option_and_then (λ c. if is_wait a then None else Some c) (command_in i)
 
 -- the commands that a node completed in events, in order
 abbrev pub completed : ℕ → List Event → List Command
@@ -67,28 +68,32 @@ completed n events = filter_map (λ e. if e.node == n then completion e.input e.
 
 -- the head of the queue of a name can be served at a node
 abbrev pub CanServe : ℕ → NodeState → ℕ → Type 0
-CanServe n s name =
-    (serve_known n s (λ _. record { address = 0; moves = 0 }) name (s.known name)).answer ≡ answer.Idle → ⊥
+CanServe n s name = option_map_or (λ k. can_serve n k.part) (s.known name) false ≡ true
 
 -- after events no letter is on its way and nothing can be served
 pub record IsQuiet (st : Setting) (past : List Event) : Type 0 where
   pub no_letter : (n m : ℕ) → n < st.nodes → m < st.nodes → on_way n m past ≡ []
-  pub no_serve : (nodes : ℕ → Node) (n name : ℕ) → AreAfter st past nodes → n < st.nodes → CanServe n (nodes n).state name → ⊥
+  pub nodes : ℕ → Node
+  pub lead : AreAfter st past nodes
+  pub no_serve : (n name : ℕ) → n < st.nodes → CanServe n (nodes n).state name → ⊥
 
 -- where a phase ends quietly
 abbrev pub EndsAs : Setting → Bool → List Event → Type 0
 EndsAs st true past = IsQuiet st past
 EndsAs st false past = Unit {0}
 
--- events do a phase after those before it: each node completes its program of the phase, in order
-pub record DoesStage (st : Setting) (past : List Event) (s : Stage) (events : List Event) : Type 0 where
-  pub done : (n : ℕ) → n < st.nodes → completed n events ≡ map (λ g. g.command) (program_in s n)
-  pub ended : EndsAs st s.quiet (past ++ events)
+-- events begin a phase: each command that is tried in them, also one that waits, is the next of its node's
+-- program there, the one behind those that the node completed before
+abbrev pub BeginsStage : Stage → List Event → Type 0
+BeginsStage s events =
+    (before rest : List Event) (e : Event) (c : Command) → before ++ e ∷ rest ≡ events → command_in e.input ≡ Some c →
+    slice_get (commands_in s e.node) (length (completed e.node before)) ≡ Some c
 
--- events do the beginning of a phase: each node completes a beginning of its program
-abbrev pub BeginsStage : Setting → Stage → List Event → Type 0
-BeginsStage st s events =
-    (n : ℕ) → n < st.nodes → (rest : List Command) × (completed n events ++ rest ≡ map (λ g. g.command) (program_in s n))
+-- events do a phase after those before it: they begin it, and each node completes its program
+pub record DoesStage (st : Setting) (past : List Event) (s : Stage) (events : List Event) : Type 0 where
+  pub begun : BeginsStage s events
+  pub done : (n : ℕ) → n < st.nodes → completed n events ≡ commands_in s n
+  pub ended : EndsAs st s.quiet (past ++ events)
 
 -- events after those before them do phases, one part of them each
 abbrev pub DoAll : Setting → List Event → List Stage → List Event → Type 0
@@ -100,7 +105,7 @@ DoAll st past (s ∷ more) events =
 abbrev pub DoSome : Setting → List Event → List Stage → List Event → Type 0
 DoSome st past [] events = events ≡ []
 DoSome st past (s ∷ more) events =
-    BeginsStage st s events
+    BeginsStage s events
     ⊎ ((part : List Event) × (later : List Event) × (events ≡ part ++ later) × DoesStage st past s part × DoSome st (past ++ part) more later)
 
 -- a history runs a body

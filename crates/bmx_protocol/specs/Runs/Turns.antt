@@ -1,19 +1,19 @@
 -- The serial turn: the actions that are enabled in a phase, in their order, and which one is picked.
-use Rattle.std.specs.Prelude.{◌≡◌, ℕ, zero, suc, ◌%◌, ◌<◌, ◌↔◌, ◌⊎◌, Bool, false, if◌then◌else◌, List, [], ◌∷◌, ◌++◌, map, length, Contains, slice_get, Option, Some, None}
+use Rattle.std.specs.Prelude.{◌≡◌, ℕ, zero, suc, ◌%◌, ◌<◌, ◌⊎◌, Bool, false, if◌then◌else◌, List, [], ◌∷◌, ◌++◌, map, length, slice_get, Option, Some, None}
 use Rattle.std.specs.Option.{option_map_or}
-use Rattle.std.specs.List.Sorted.{IsStrictlyIncreasing}
 use Rattle.rand_core.specs.Pcg32Seed.{pcg32_seed}
 use Rattle.rand_pcg.specs.Lcg.{Lcg, advance}
 use Rattle.rand_pcg.specs.Pcg.{pcg32, pcg32_of_seed, multiplier_64}
 use Rattle.bmx_types.specs.declared.commands.Operand.{Operand}
 use Rattle.bmx_types.specs.declared.commands.Command.{Command}
-use Rattle.bmx_types.specs.declared.commands.Command.TheVariants as command
 use Rattle.bmx_graph.specs.Step.{target_of}
 use Rattle.bmx_msg.specs.declared.letters.Letter.{Letter}
+use Rattle.bmx_token.specs.Turns.{Acquires, Releases, Serves as Serving}
 use Rattle.bmx_protocol.specs.declared.inputs.Input.{Input}
 use Rattle.bmx_protocol.specs.declared.inputs.Input.TheVariants as input
 use Rattle.bmx_protocol.specs.declared.events.Event.{Event}
-use Rattle.bmx_protocol.specs.Nodes.{Setting, NodeState, seen_graph}
+use Rattle.bmx_protocol.specs.Nodes.{Setting, NodeState, AreAll, seen_graph}
+use Rattle.bmx_protocol.specs.Rules.{About, Token, Fields, Making, Nothing, about}
 use Rattle.bmx_protocol.specs.Steps.{Node}
 use Rattle.bmx_protocol.specs.Histories.{AreAfter, on_way, waits_with}
 use Rattle.bmx_protocol.specs.Runs.Programs.{Body, Given, Stage, stages, program_in, completed, CanServe, DoesStage}
@@ -37,17 +37,15 @@ input_of (Takes n from l) = input.Take from l
 
 -- the operand of a command that takes a token
 abbrev pub wanted_by : Command → Option Operand
-wanted_by (command.New register bunch size) = None
-wanted_by (command.Copy register value) = None
-wanted_by (command.Drop register) = None
-wanted_by (command.Read on) = Some on
-wanted_by (command.Write on) = Some on
-wanted_by (command.Done on) = None
-wanted_by (command.Set on index value) = None
-wanted_by (command.Add on index by) = None
-wanted_by (command.Get register on index) = None
-wanted_by (command.Show on index) = None
-wanted_by (command.Same left right) = None
+wanted_by c = wanted_in (about c)
+  where
+    wanted_in : About → Option Operand
+    wanted_in (Token (Acquires m) on) = Some on
+    wanted_in (Token Releases on) = None
+    wanted_in (Token Serving on) = None
+    wanted_in (Fields on) = None
+    wanted_in Making = None
+    wanted_in Nothing = None
 
 -- the token of a name is ready at a node
 abbrev pub ready_at : NodeState → Option ℕ → Bool
@@ -56,11 +54,7 @@ ready_at s (Some name) = option_map_or (λ k. k.part.ready) (s.known name) false
 
 -- the token that a command waits for is ready
 abbrev pub is_ready : ℕ → NodeState → Command → Bool
-is_ready n s c = by_operand (wanted_by c)
-  where
-    by_operand : Option Operand → Bool
-    by_operand None = false
-    by_operand (Some on) = ready_at s (target_of (seen_graph n s) n on)
+is_ready n s c = option_map_or (λ on. ready_at s (target_of (seen_graph n s) n on)) (wanted_by c) false
 
 -- a node's next command of its program, where it doesn't wait, or waits and may be tried again
 abbrev pub command_action : ℕ → NodeState → Option Command → Option Given → List Action
@@ -77,11 +71,6 @@ letter_action n from (l ∷ letters) = Takes n from l ∷ []
 abbrev pub letter_actions : List Event → ℕ → ℕ → List Action
 letter_actions past n zero = []
 letter_actions past n (suc from) = letter_actions past n from ++ letter_action n from (on_way from n past)
-
--- names are all that can be served at a node, by rising name
-pub record AreServes (n : ℕ) (s : NodeState) (names : List ℕ) : Type 0 where
-  pub rising : IsStrictlyIncreasing names
-  pub all : (name : ℕ) → Contains names name ↔ CanServe n s name
 
 -- the actions of a node in a phase, of which `part` has happened, with the names that it can serve: its
 -- command, its serves, its letters
@@ -117,14 +106,20 @@ pub record IsTurn (st : Setting) (seed : ℕ) (stage : Stage) (past part : List 
 
 -- ## serial histories
 
+-- an event comes next in a phase: it is the serial turn's at the nodes that the events before it lead to, with
+-- all names that can be served there
+pub record ComesNext (st : Setting) (seed : ℕ) (stage : Stage) (past part : List Event) (e : Event) : Type 0 where
+  pub nodes : ℕ → Node
+  pub lead : AreAfter st (past ++ part) nodes
+  pub names : ℕ → List ℕ
+  pub served : (n : ℕ) → n < st.nodes → AreAll (CanServe n (nodes n).state) (names n)
+  pub turn : IsTurn st seed stage past part nodes names e
+
 -- events of a phase, after those before it, are the serial turn's, each while the phase hasn't ended
 abbrev pub TakesTurns : Setting → ℕ → List Event → Stage → List Event → Type 0
 TakesTurns st seed past stage events =
     (part rest : List Event) (e : Event) → part ++ e ∷ rest ≡ events →
-    (DoesStage st past stage part → ⊥)
-    × ((nodes : ℕ → Node) (names : ℕ → List ℕ) → AreAfter st (past ++ part) nodes →
-    ((n : ℕ) → n < st.nodes → AreServes n (nodes n).state (names n)) →
-    IsTurn st seed stage past part nodes names e)
+    (DoesStage st past stage part → ⊥) × ComesNext st seed stage past part e
 
 -- events after those before them take turns phase after phase: each phase ends as soon as it can
 abbrev pub TakeTurns : Setting → ℕ → List Event → List Stage → List Event → Type 0

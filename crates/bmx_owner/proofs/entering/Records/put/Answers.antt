@@ -1,7 +1,7 @@
 use Rattle.std.proofs.Common.{is_ok, insert, sym, subst, ap, ◌∙◌}
 use Rattle.std.proofs.lemmas.Bool.{cond_both}
 use Rattle.bmx_owner.specs.Records.{Entering, IsInOrder, with_record}
-use Rattle.bmx_owner.specs.Search.{StandsAt, FitsAt}
+use Rattle.bmx_owner.specs.Inside.Search.{StandsAt, FitsAt}
 use Rattle.bmx_owner.proofs.Places.{with_record-at, with_record-inserted}
 use Rattle.bmx_owner.proofs.Found.{IsInOrder-with_record}
 use Rattle.bmx_owner.proofs.entering.Records.put.Goals as goal

@@ -3,7 +3,7 @@ use Rattle.std.specs.List.Sorted.{IsPartitionPoint, IsPartitionedBy}
 use Rattle.std.proofs.lemmas.List.{get_or_default}
 use Rattle.std.proofs.lemmas.List.Sorted.{IsPartitionPoint-from_clause}
 use Rattle.bmx_owner.specs.Records.{Entering, is_ahead, is_of}
-use Rattle.bmx_owner.specs.Search.{StandsAt, FitsAt}
+use Rattle.bmx_owner.specs.Inside.Search.{StandsAt, FitsAt}
 use Rattle.bmx_owner.proofs.Places.{is_ahead-partitioned, StandsAt-from_point, FitsAt-from_point}
 use Rattle.bmx_owner.proofs.entering.Records.search.Goals as goal
 
