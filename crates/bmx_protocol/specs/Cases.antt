@@ -26,7 +26,7 @@ use Rattle.bmx_protocol.specs.Places.{Places, with_all_learnt}
 use Rattle.bmx_protocol.specs.Rules.{Outcome, infos}
 use Rattle.bmx_protocol.specs.Strays.{some_clash}
 use Rattle.bmx_protocol.specs.Steps.{Node, first_node, command_in, letter_in, Told, nowhere, finds_full, rule, done_of, closed, made_places, is_nil, is_taken, stamp_after}
-use Rattle.bmx_protocol.specs.Histories.{on_way}
+use Rattle.bmx_protocol.specs.Histories.{in_flight}
 
 -- ## running
 
@@ -42,11 +42,11 @@ mover (Do n c) = n
 mover (Serve n name) = n
 mover (Next from to) = to
 
--- its input: of letters the first that is on its way
+-- its input: of letters the first that is in flight
 abbrev pub input_of : List Event → Move → Input
 input_of past (Do n c) = input.Do c
 input_of past (Serve n name) = input.Serve name
-input_of past (Next from to) = first (on_way from to past)
+input_of past (Next from to) = first (in_flight from to past)
   where
     first : List Letter → Input
     first [] = input.Serve 0

@@ -42,9 +42,9 @@ arrived n m events = filter_map (λ e. if e.node == m then letter_from n e.input
 abbrev pub taken : ℕ → ℕ → List Event → List Letter
 taken n m events = arrived n m (filter (λ e. is_taken e.done.answer) events)
 
--- the letters from node n to node m that are on their way: issued and not taken
-abbrev pub on_way : ℕ → ℕ → List Event → List Letter
-on_way n m events = drop (length (taken n m events)) (issued n m events)
+-- the letters from node n to node m that are in flight: issued and not taken
+abbrev pub in_flight : ℕ → ℕ → List Event → List Letter
+in_flight n m events = drop (length (taken n m events)) (issued n m events)
 
 -- ## what is said of one event, with those before it
 

@@ -1,4 +1,4 @@
--- All nodes and the letters on their way, and what is said of them together: who owns an object, what
+-- All nodes and the letters in flight, and what is said of them together: who owns an object, what
 -- its current copy is, how a node finds its owner, which objects are reached, and when all is at rest.
 use Rattle.std.specs.Prelude.{◌≡◌, ℕ, suc, ◌<◌, ◌≤◌, false, List, [], ◌∷◌, Contains, IsSome, map, Some, None, ◌⊎◌}
 use Rattle.std.specs.Option.{option_map_or}
@@ -19,17 +19,17 @@ use Rattle.bmx_protocol.specs.Nodes.{Setting, Known, NodeState, fields_known, va
 use Rattle.bmx_protocol.specs.Places.{Places}
 use Rattle.bmx_protocol.specs.Rules.{heard_field, name_in, grant_in}
 use Rattle.bmx_protocol.specs.Steps.{Node}
-use Rattle.bmx_protocol.specs.Histories.{on_way}
+use Rattle.bmx_protocol.specs.Histories.{in_flight}
 
--- the states of all nodes, where objects lie at each, and the letters on their way from one to another
+-- the states of all nodes, where objects lie at each, and the letters in flight from one to another
 pub record World : Type 0 where
   pub state : ℕ → NodeState
   pub places : ℕ → Places
-  pub way : ℕ → ℕ → List Letter
+  pub channel : ℕ → ℕ → List Letter
 
 -- the world of nodes after a history
 abbrev pub world_of : (ℕ → Node) → List Event → World
-world_of nodes history = record { state = λ n. (nodes n).state; places = λ n. (nodes n).places; way = λ n m. on_way n m history }
+world_of nodes history = record { state = λ n. (nodes n).state; places = λ n. (nodes n).places; channel = λ n m. in_flight n m history }
 
 -- ## owners
 
@@ -38,18 +38,18 @@ pub record HasOwned (w : World) (x n : ℕ) (k : Known) : Type 0 where
   pub known : (w.state n).known x ≡ Some k
   pub owns : k.part.role ≡ role.Owner
 
--- a grant of ownership is on its way
+-- a grant of ownership is in flight
 pub record IsMoving (w : World) (x from to : ℕ) (l : Letter) (info : Info) (fields : List Field) : Type 0 where
-  pub there : Contains (w.way from to) l
+  pub there : Contains (w.channel from to) l
   pub grants : l.msg ≡ msg.WriteGrant info fields
   pub named : info.name ≡ x
 
--- node n owns x: it has the role, or the grant of ownership is on its way to it
+-- node n owns x: it has the role, or the grant of ownership is in flight to it
 pub data Owns (w : World) (x n : ℕ) : Type 0 where
   Has : (k : Known) → HasOwned w x n k → Owns w x n
   Gets : (from : ℕ) (l : Letter) (info : Info) (fields : List Field) → IsMoving w x from n l info fields → Owns w x n
 
--- the fields of x at its owner: those of the owner's copy, or of the grant on its way
+-- the fields of x at its owner: those of the owner's copy, or of the grant in flight
 pub data HasCurrent (w : World) (x : ℕ) (fields : List Val) : Type 0 where
   Kept : (n : ℕ) (k : Known) → HasOwned w x n k → fields_known (Some k) ≡ Some fields → HasCurrent w x fields
   Sent : (from to : ℕ) (l : Letter) (info : Info) (told : List Field) → IsMoving w x from to l info told →
@@ -88,10 +88,10 @@ names_in m = name_in m ∷ option_map_or (λ (g : Info × List Field). targets g
 abbrev pub Speaks : Letter → ℕ → Type 0
 Speaks l x = Contains (names_in l.msg) x
 
--- a name stands somewhere: a node knows it, or a letter on its way speaks of it
+-- a name stands somewhere: a node knows it, or a letter in flight speaks of it
 pub data IsSomewhere (st : Setting) (w : World) (x : ℕ) : Type 0 where
   At : (n : ℕ) (k : Known) → n < st.nodes → (w.state n).known x ≡ Some k → IsSomewhere st w x
-  Between : (n m : ℕ) (l : Letter) → n < st.nodes → m < st.nodes → Contains (w.way n m) l → Speaks l x → IsSomewhere st w x
+  Between : (n m : ℕ) (l : Letter) → n < st.nodes → m < st.nodes → Contains (w.channel n m) l → Speaks l x → IsSomewhere st w x
 
 -- one node owns x, and no other
 pub record HasOneOwner (w : World) (x : ℕ) : Type 0 where
@@ -116,7 +116,7 @@ WritesExclude st w =
 abbrev pub EachHasChain : Setting → World → Type 0
 EachHasChain st w = (n x : ℕ) (k : Known) → n < st.nodes → (w.state n).known x ≡ Some k → HasChain st w x n
 
--- a grant of ownership of x is on its way from one node to another
+-- a grant of ownership of x is in flight from one node to another
 pub record IsHandedOver (w : World) (x from to : ℕ) : Type 0 where
   pub letter : Letter
   pub info : Info
@@ -124,7 +124,7 @@ pub record IsHandedOver (w : World) (x from to : ℕ) : Type 0 where
   pub moves : IsMoving w x from to letter info fields
 
 -- a parent answers for x to a node that asks it: it knows x, and has a record of x from that node unless
--- a grant of ownership of x is on its way from the node to it; then it wants x
+-- a grant of ownership of x is in flight from the node to it; then it wants x
 pub record AnswersFor (w : World) (x child parent : ℕ) : Type 0 where
   pub known : Known
   pub knows : (w.state parent).known x ≡ Some known
@@ -144,9 +144,9 @@ pub record IsIdle (k : Known) : Type 0 where
   pub want : k.part.want ≡ None
   pub ready : k.part.ready ≡ false
 
--- no letter is on its way, and no node holds or wants a token
+-- no letter is in flight, and no node holds or wants a token
 pub record IsAtRest (st : Setting) (w : World) : Type 0 where
-  pub no_letter : (n m : ℕ) → n < st.nodes → m < st.nodes → w.way n m ≡ []
+  pub no_letter : (n m : ℕ) → n < st.nodes → m < st.nodes → w.channel n m ≡ []
   pub no_token : (n x : ℕ) (k : Known) → n < st.nodes → (w.state n).known x ≡ Some k → IsIdle k
 
 -- ## reached objects

@@ -11,7 +11,7 @@ use Rattle.bmx_protocol.specs.declared.events.Event.{Event}
 use Rattle.bmx_protocol.specs.Nodes.{Setting, NodeState}
 use Rattle.bmx_token.specs.Turns.{can_serve}
 use Rattle.bmx_protocol.specs.Steps.{Node, command_in}
-use Rattle.bmx_protocol.specs.Histories.{AreAfter, on_way, is_wait}
+use Rattle.bmx_protocol.specs.Histories.{AreAfter, in_flight, is_wait}
 
 -- a line of a script's body: a command of a node, with the line's number, or the end of a phase
 pub data Body : Type 0 where
@@ -25,7 +25,7 @@ pub record Given : Type 0 where
   pub line : ℕ
   pub command : Command
 
--- the commands of a phase in order, and whether it ends quietly: with no letter on its way and nothing
+-- the commands of a phase in order, and whether it ends quietly: with no letter in flight and nothing
 -- to serve
 pub record Stage : Type 0 where
   pub commands : List Given
@@ -70,9 +70,9 @@ completed n events = filter_map (λ e. if e.node == n then completion e.input e.
 abbrev pub CanServe : ℕ → NodeState → ℕ → Type 0
 CanServe n s name = option_map_or (λ k. can_serve n k.part) (s.known name) false ≡ true
 
--- after events no letter is on its way and nothing can be served
+-- after events no letter is in flight and nothing can be served
 pub record IsQuiet (st : Setting) (past : List Event) : Type 0 where
-  pub no_letter : (n m : ℕ) → n < st.nodes → m < st.nodes → on_way n m past ≡ []
+  pub no_letter : (n m : ℕ) → n < st.nodes → m < st.nodes → in_flight n m past ≡ []
   pub nodes : ℕ → Node
   pub lead : AreAfter st past nodes
   pub no_serve : (n name : ℕ) → n < st.nodes → CanServe n (nodes n).state name → ⊥

@@ -15,7 +15,7 @@ use Rattle.bmx_protocol.specs.declared.events.Event.{Event}
 use Rattle.bmx_protocol.specs.Nodes.{Setting, NodeState, AreAll, seen_graph}
 use Rattle.bmx_protocol.specs.Rules.{About, Token, Fields, Making, Nothing, about}
 use Rattle.bmx_protocol.specs.Steps.{Node}
-use Rattle.bmx_protocol.specs.Histories.{AreAfter, on_way, waits_with}
+use Rattle.bmx_protocol.specs.Histories.{AreAfter, in_flight, waits_with}
 use Rattle.bmx_protocol.specs.Runs.Programs.{Body, Given, Stage, stages, program_in, completed, CanServe, DoesStage}
 
 -- what a node may do next: its next command, a serve, or the next letter from a node
@@ -70,7 +70,7 @@ letter_action n from (l ∷ letters) = Takes n from l ∷ []
 -- the next letters from the first so many nodes, by rising sender
 abbrev pub letter_actions : List Event → ℕ → ℕ → List Action
 letter_actions past n zero = []
-letter_actions past n (suc from) = letter_actions past n from ++ letter_action n from (on_way from n past)
+letter_actions past n (suc from) = letter_actions past n from ++ letter_action n from (in_flight from n past)
 
 -- the actions of a node in a phase, of which `part` has happened, with the names that it can serve: its
 -- command, its serves, its letters

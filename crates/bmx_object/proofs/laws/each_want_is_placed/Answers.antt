@@ -1,5 +1,0 @@
-use Rattle.bmx_object.proofs.Stated.{each_want_is_placed}
-use Rattle.bmx_object.proofs.laws.each_want_is_placed.Goals as goal
-
-pub returns : goal.returns
-returns c = each_want_is_placed

@@ -1,5 +1,0 @@
-use Rattle.bmx_object.proofs.Stated.{no_letter_is_stray}
-use Rattle.bmx_object.proofs.laws.no_letter_is_stray.Goals as goal
-
-pub returns : goal.returns
-returns c = no_letter_is_stray

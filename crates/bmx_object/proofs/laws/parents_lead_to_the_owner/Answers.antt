@@ -1,5 +1,0 @@
-use Rattle.bmx_object.proofs.Stated.{parents_lead}
-use Rattle.bmx_object.proofs.laws.parents_lead_to_the_owner.Goals as goal
-
-pub returns : goal.returns
-returns c = parents_lead

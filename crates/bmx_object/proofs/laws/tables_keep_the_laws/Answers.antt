@@ -1,5 +1,0 @@
-use Rattle.bmx_object.proofs.Stated.{tables_keep_the_laws}
-use Rattle.bmx_object.proofs.laws.tables_keep_the_laws.Goals as goal
-
-pub returns : goal.returns
-returns c = tables_keep_the_laws

@@ -1,5 +1,0 @@
-use Rattle.bmx_ownership.proofs.Lifted.{names_are_counted}
-use Rattle.bmx_ownership.proofs.laws.names_are_counted.Goals as goal
-
-pub returns : goal.returns
-returns c = names_are_counted

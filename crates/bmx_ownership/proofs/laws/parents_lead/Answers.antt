@@ -1,5 +1,0 @@
-use Rattle.bmx_ownership.proofs.Lifted.{parents_lead_always}
-use Rattle.bmx_ownership.proofs.laws.parents_lead.Goals as goal
-
-pub returns : goal.returns
-returns c = parents_lead_always

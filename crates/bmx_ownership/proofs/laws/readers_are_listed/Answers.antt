@@ -1,5 +1,0 @@
-use Rattle.bmx_ownership.proofs.Lifted.{readers_are_listed_always}
-use Rattle.bmx_ownership.proofs.laws.readers_are_listed.Goals as goal
-
-pub returns : goal.returns
-returns c = readers_are_listed_always

@@ -1,5 +1,0 @@
-use Rattle.bmx_ownership.proofs.Lifted.{wants_stand_once}
-use Rattle.bmx_ownership.proofs.laws.wants_stand_once.Goals as goal
-
-pub returns : goal.returns
-returns c = wants_stand_once

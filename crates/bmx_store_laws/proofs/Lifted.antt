@@ -1,0 +1,57 @@
+-- The laws of the model of one object, over legal histories.
+use Rattle.std.proofs.Common.{ℕ, ◌≤◌, inl, inr}
+use Rattle.bmx_types.specs.Words.{maker, count_of}
+use Rattle.bmx_protocol.specs.Worlds.{world_of}
+use Rattle.bmx_token_model.specs.Laws.{HasOneSeat, ReadersListed, WriteExcludes as Excludes}
+use Rattle.bmx_token_model.proofs.Requests.{IsRequested, requested_run}
+use Rattle.bmx_token_model.proofs.Parents.{IsPointed, pointed_run}
+use Rattle.bmx_token_model.specs.Laws.{WantsArePlaced, ParentsLead as Leads}
+use Rattle.bmx_token_model.proofs.Stated.{each_want_is_placed, parents_lead}
+use Rattle.bmx_token_model.proofs.Owners.{ownership_is_one}
+use Rattle.bmx_token_model.proofs.Readers.{readers_are_listed}
+use Rattle.bmx_token_model.proofs.Shared.{tokens_exclude}
+use Rattle.bmx_store_laws.specs.Laws.{OneOwner, OneSeat, ReadersAreListed, WriteExcludes, WantsStandOnce, ParentsAnswer, ParentsLead, NamesAreCounted}
+use Rattle.bmx_store_laws.proofs.Openings.{IsNamed}
+use Rattle.bmx_store_laws.proofs.Histories.{came_after, each_name}
+use Rattle.bmx_store_laws.proofs.Owners.{not_nowhere, each_owner, each_seat, writes_exclude}
+use Rattle.bmx_store_laws.proofs.Readers.{each_reader}
+use Rattle.bmx_store_laws.proofs.Wants.{wants_stand}
+use Rattle.bmx_store_laws.proofs.Parents.{parents_answer}
+use Rattle.bmx_store_laws.proofs.Chains.{chains}
+
+pub one_owner : OneOwner
+one_owner st history nodes opening legal after =
+    each_owner st (world_of nodes history) (each_name HasOneSeat ownership_is_one st history nodes opening legal after)
+
+pub one_seat : OneSeat
+one_seat st history nodes opening legal after =
+    each_seat st (world_of nodes history) (each_name HasOneSeat ownership_is_one st history nodes opening legal after)
+
+pub write_excludes : WriteExcludes
+write_excludes st history nodes opening legal after =
+    writes_exclude st (world_of nodes history) (each_name Excludes tokens_exclude st history nodes opening legal after)
+
+pub readers_are_listed_always : ReadersAreListed
+readers_are_listed_always st history nodes opening legal after =
+    each_reader (world_of nodes history) (each_name ReadersListed readers_are_listed st history nodes opening legal after)
+
+pub wants_stand_once : WantsStandOnce
+wants_stand_once st history nodes opening legal after x =
+    wants_stand (world_of nodes history) x (each_name WantsArePlaced each_want_is_placed st history nodes opening legal after x)
+
+pub parents_answer_always : ParentsAnswer
+parents_answer_always st history nodes opening legal after =
+    parents_answer st (world_of nodes history) (each_name IsPointed pointed_run st history nodes opening legal after)
+    (each_name IsRequested requested_run st history nodes opening legal after)
+
+pub parents_lead_always : ParentsLead
+parents_lead_always st history nodes opening legal after =
+    chains st (world_of nodes history) (each_name Leads parents_lead st history nodes opening legal after)
+    (λ x n none. (came_after st history nodes opening legal after x).beyond n none)
+
+pub names_are_counted : NamesAreCounted
+names_are_counted st history nodes opening legal after x somewhere = by_named (came_after st history nodes opening legal after x).named
+  where
+    by_named : IsNamed x nodes history → count_of x ≤ (nodes (maker x)).state.made
+    by_named (inl counted) = counted
+    by_named (inr nowhere) = absurd (not_nowhere st (world_of nodes history) x somewhere nowhere)
