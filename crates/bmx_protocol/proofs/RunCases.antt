@@ -116,8 +116,8 @@ nothing_served : (n : ℕ) → AreAll (CanServe n (first_node (one_bunch 1) n).s
 nothing_served n = record {
   rising = λ k within. absurd (omega (arith, within));
   all = λ name. (
-      λ c. absurd (omega (arith, c.1)),
-      λ serves. absurd (none_served (one_bunch 1) n name serves),
+    λ c. absurd (omega (arith, c.1)),
+    λ serves. absurd (none_served (one_bunch 1) n name serves),
   );
 }
 

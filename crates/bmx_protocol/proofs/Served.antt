@@ -1,6 +1,6 @@
 -- The names that can be served at a node can be listed: a node knows finitely many.
-use Rattle.std.proofs.Common.{◌≡◌, ◌⊎◌, inl, inr, ℕ, zero, suc, ◌+◌, ◌<◌, ◌≤◌, arith, refl, ap, sym, subst, ◌∙◌, Bool, true, false, cond, List, [], ◌∷◌, ◌++◌, length}
-use Rattle.std.specs.Prelude.{◌==◌, ◌↔◌, max, nat_lt, ◌&&◌, Option, Some, None, is_some, find, Contains, slice_index, slice_index_or}
+use Rattle.std.proofs.Common.{◌≡◌, ℕ, zero, suc, ◌+◌, ◌<◌, ◌≤◌, arith, refl, ap, sym, subst, ◌∙◌, Bool, true, false, cond, List, [], ◌∷◌, length}
+use Rattle.std.specs.Prelude.{◌==◌, max, nat_lt, ◌&&◌, Option, Some, None, is_some, find, Contains, slice_index}
 use Rattle.std.specs.Option.{option_map, option_map_or}
 use Rattle.std.specs.List.Sorted.{IsStrictlyIncreasing}
 use Rattle.std.proofs.lemmas.Bool.{eqb-true, eqb-false}
@@ -8,8 +8,8 @@ use Rattle.bmx_types.specs.declared.openings.Birth.{Birth}
 use Rattle.bmx_graph.specs.State.{put}
 use Rattle.bmx_token.specs.Turns.{can_serve}
 use Rattle.bmx_protocol.specs.declared.events.Event.{Event}
-use Rattle.bmx_protocol.specs.Nodes.{Setting, NodeState, Known, AreAll, birth_of, is_anchor, owned_birth, heard_birth, first_known}
-use Rattle.bmx_protocol.specs.Changes.{Change, Sets, Makes, Knows, Hears, Gives, Gets, Issues, Takes, heard_of, heard, after_change, after_changes}
+use Rattle.bmx_protocol.specs.Nodes.{Setting, NodeState, Known, birth_of, is_anchor, owned_birth, heard_birth, first_known}
+use Rattle.bmx_protocol.specs.Changes.{Change, Sets, Makes, Knows, Hears, Gives, Gets, Issues, Takes, heard_of, after_change, after_changes}
 use Rattle.bmx_protocol.specs.Steps.{Node, first_node, rule, changes_of}
 use Rattle.bmx_protocol.specs.Histories.{Replays}
 use Rattle.bmx_protocol.specs.Runs.Programs.{CanServe}

@@ -15,7 +15,7 @@ use Rattle.bmx_protocol.specs.declared.views.Entry.{Entry}
 use Rattle.bmx_protocol.specs.declared.views.View.{View}
 use Rattle.bmx_protocol.specs.Nodes.{Setting, Known, owned_birth, heard_birth, birth_of, is_anchor, first_known, first_state, entry_of, AreNumbers, Shows}
 use Rattle.bmx_protocol.specs.Steps.{first_node}
-use Rattle.bmx_protocol.specs.Worlds.{World, world_of, Has, Kept, Here, On, HasChain, IsCurrent, IsHandedOver, AnswersFor, IsIdle, IsAtRest}
+use Rattle.bmx_protocol.specs.Worlds.{World, world_of, Owned, Kept, Here, On, HasChain, IsCurrent, IsHandedOver, AnswersFor, IsIdle, IsAtRest}
 use Rattle.bmx_protocol.specs.Runs.Programs.{CanServe, IsQuiet}
 use Rattle.bmx_protocol.specs.Cases.{one_bunch}
 
@@ -78,7 +78,7 @@ the_anchor_has_its_chain = (
   1,
   omega arith,
   On (heard_birth the_birth) (record { known = refl; asks = refl })
-      (Here (Has (owned_birth the_birth) (record { known = refl; owns = refl }))),
+      (Here (Owned (owned_birth the_birth) (record { known = refl; owns = refl }))),
 )
 
 nothing_is_handed_over : (x child parent : ℕ) → IsHandedOver (at_first two) x child parent → ⊥

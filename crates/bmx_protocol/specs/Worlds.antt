@@ -1,6 +1,6 @@
 -- All nodes and the letters in flight, and what is said of them together: who owns an object, what
 -- its current copy is, how a node finds its owner, which objects are reached, and when all is at rest.
-use Rattle.std.specs.Prelude.{◌≡◌, ℕ, suc, ◌<◌, ◌≤◌, false, List, [], ◌∷◌, Contains, IsSome, map, Some, None, ◌⊎◌}
+use Rattle.std.specs.Prelude.{◌≡◌, ℕ, suc, ◌<◌, false, List, [], ◌∷◌, Contains, IsSome, map, Some, None, ◌⊎◌}
 use Rattle.std.specs.Option.{option_map_or}
 use Rattle.bmx_types.specs.Openings.{bunches_of}
 use Rattle.bmx_types.specs.declared.values.Val.{Val}
@@ -55,8 +55,8 @@ pub data HasCurrent (w : World) (x : ℕ) (fields : List Val) : Type 0 where
   Sent : (from to : ℕ) (l : Letter) (info : Info) (told : List Field) → IsMoving w x from to l info told →
       map (λ f. value_in (heard_field f)) told ≡ fields → HasCurrent w x fields
 
--- the current copy of x is as the graph has x: the graph has it, and its owner's copy or the grant on its
--- way has the same fields
+-- the current copy of x is as the graph has x: the graph has it, and its owner's copy or the grant in
+-- flight has the same fields
 pub record IsCurrent (w : World) (g : State) (x : ℕ) : Type 0 where
   pub fields : List Val
   pub in_graph : g.object x ≡ Some fields
@@ -69,16 +69,28 @@ pub record HasParent (w : World) (x n parent : ℕ) (k : Known) : Type 0 where
   pub known : (w.state n).known x ≡ Some k
   pub asks : k.part.role ≡ role.Parent parent
 
--- from node n, through parents, to the owner of x, in so many steps
+-- a grant of ownership of x is in flight from one node to another
+pub record IsHandedOver (w : World) (x from to : ℕ) : Type 0 where
+  pub letter : Letter
+  pub info : Info
+  pub fields : List Field
+  pub moves : IsMoving w x from to letter info fields
+
+-- where parents end: at the owner, or at a node that gave ownership to its parent in a letter in flight
+pub data Ends (w : World) (x n : ℕ) : Type 0 where
+  Owned : (k : Known) → HasOwned w x n k → Ends w x n
+  Gave : (to : ℕ) (k : Known) → HasParent w x n to k → IsHandedOver w x n to → Ends w x n
+
+-- from node n, through parents, to where they end, in so many steps
 pub data Leads (w : World) (x : ℕ) : ℕ → ℕ → Type 0 where
-  Here : {n : ℕ} → Owns w x n → Leads w x n 0
+  Here : {n : ℕ} → Ends w x n → Leads w x n 0
   On : {n parent steps : ℕ} (k : Known) → HasParent w x n parent k → Leads w x parent steps → Leads w x n (suc steps)
 
--- the parents of x lead from a node to the owner, in at most as many steps as there are nodes
+-- the parents of x lead from a node to the owner, or to who gave ownership, in fewer steps than there are nodes
 abbrev pub HasChain : Setting → World → ℕ → ℕ → Type 0
-HasChain st w x n = (steps : ℕ) × (steps ≤ st.nodes) × Leads w x n steps
+HasChain st w x n = (steps : ℕ) × (steps < st.nodes) × Leads w x n steps
 
--- ## what is to hold of every name in every legal history
+-- ## what holds of every name in every legal history, by the laws of stores
 
 -- the names of a message: what it is about, and the targets of the fields that it brings
 abbrev pub names_in : Msg → List ℕ
@@ -110,26 +122,19 @@ WritesExclude st w =
     (w.state n).known x ≡ Some j → (w.state m).known x ≡ Some k →
     j.part.held ≡ Some mode.Write → IsSome k.part.held → m ≡ n
 
--- ## chains: what a law to come is to state of every legal history
+-- ## parents
 
--- from each node that knows a name its parents lead to the owner
+-- from each node that knows a name its parents lead to the owner, or to who gave ownership
 abbrev pub EachHasChain : Setting → World → Type 0
 EachHasChain st w = (n x : ℕ) (k : Known) → n < st.nodes → (w.state n).known x ≡ Some k → HasChain st w x n
 
--- a grant of ownership of x is in flight from one node to another
-pub record IsHandedOver (w : World) (x from to : ℕ) : Type 0 where
-  pub letter : Letter
-  pub info : Info
-  pub fields : List Field
-  pub moves : IsMoving w x from to letter info fields
-
 -- a parent answers for x to a node that asks it: it knows x, and has a record of x from that node unless
--- a grant of ownership of x is in flight from the node to it; then it wants x
+-- a grant of ownership of x is in flight from the node to it; then it wants to write x
 pub record AnswersFor (w : World) (x child parent : ℕ) : Type 0 where
   pub known : Known
   pub knows : (w.state parent).known x ≡ Some known
   pub recorded : IsSome ((w.state parent).entering x child) ⊎ IsHandedOver w x child parent
-  pub wants : IsHandedOver w x child parent → IsSome known.part.want
+  pub wants : IsHandedOver w x child parent → known.part.want ≡ Some mode.Write
 
 -- each parent answers for what it is asked for
 abbrev pub EachParentAnswers : Setting → World → Type 0

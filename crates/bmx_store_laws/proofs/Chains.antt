@@ -1,13 +1,13 @@
--- What the model's law of chains says of a store: from each node that knows a name its parents lead to the owner.
-use Rattle.std.proofs.Common.{◌≡◌, inl, inr, ℕ, suc, ◌+◌, ◌<◌, ◌≤◌, arith, refl, ap, sym, subst, ◌∙◌, Bool, true, false, cond, List, [], ◌∷◌, map}
+-- What the model's law of chains says of a store: from each node that knows a name its parents lead to the owner,
+-- or to who gave ownership.
+use Rattle.std.proofs.Common.{◌≡◌, inl, inr, ℕ, suc, ◌<◌, arith, refl, ap, sym, ◌∙◌, Bool, true, false, List, [], ◌∷◌, map}
 use Rattle.std.proofs.lemmas.Bool.Decides.{nat_tests}
-use Rattle.std.specs.Prelude.{◌⊎◌, nat_lt, Option, Some, None, Contains}
+use Rattle.std.specs.Prelude.{◌⊎◌, nat_lt, Some, None, Contains}
 use Rattle.bmx_msg.specs.declared.letters.Letter.{Letter}
-use Rattle.bmx_token.specs.declared.parts.Role.{Role}
 use Rattle.bmx_token.specs.declared.parts.Role.TheVariants as role
 use Rattle.bmx_token.specs.Turns.{Share}
 use Rattle.bmx_protocol.specs.Nodes.{Setting, Known, share_of}
-use Rattle.bmx_protocol.specs.Worlds.{World, HasOwned, HasParent, Owns, Has, Gets, Leads, Here, On, HasChain, EachHasChain}
+use Rattle.bmx_protocol.specs.Worlds.{World, HasParent, Owned, Gave, Leads, Here, On, HasChain, EachHasChain}
 use Rattle.bmx_token_model.specs.Machine.{Message, brings}
 use Rattle.bmx_token_model.specs.Laws.{IsBrought, Ends, IsBelow, ParentsLead}
 use Rattle.bmx_token_model.specs.Laws as model
@@ -47,19 +47,18 @@ parent_in w x n parent h has asks =
     let k : (j : Known) × ((w.state n).known x ≡ Some j) × (share_of j ≡ h) = known_seen ((w.state n).known x) h has in
     (k.0, record { known = k.1; asks = ap (λ (j : Share). j.part.role) k.2 ∙ asks })
 
--- a chain of the model is one of the store: who gave ownership asks who gets it
-chain_in : (w : World) (x n steps : ℕ) → model.Leads (seen x w) n steps → (more : ℕ) × (more ≤ suc steps) × Leads w x n more
+-- a chain of the model is one of the store
+chain_in : (w : World) (x n steps : ℕ) → model.Leads (seen x w) n steps → Leads w x n steps
 chain_in w x n steps (model.Here (model.Owns h has owns)) =
     let k : (j : Known) × ((w.state n).known x ≡ Some j) × (share_of j ≡ h) = known_seen ((w.state n).known x) h has in
-    (0, omega arith, Here (Has k.0 (record { known = k.1; owns = ap (λ (j : Share). j.part.role) k.2 ∙ owns })))
+    Here (Owned k.0 (record { known = k.1; owns = ap (λ (j : Share). j.part.role) k.2 ∙ owns }))
 chain_in w x n steps (model.Here (model.Gave h to has asks brought)) =
     let k : (j : Known) × HasParent w x n to j = parent_in w x n to h has asks in
     let b : HandsAmong x (w.channel n to) = brought_in x (w.channel n to) brought in
-    (1, omega arith, On k.0 k.1 (Here (Gets n b.letter b.info b.fields (record { there = b.there; grants = b.grants; named = b.named }))))
+    Here (Gave to k.0 k.1 (record { letter = b.letter; info = b.info; fields = b.fields; moves = record { there = b.there; grants = b.grants; named = b.named } }))
 chain_in w x n steps (model.On {parent = parent} {steps = fewer} h has asks rest) =
     let k : (j : Known) × HasParent w x n parent j = parent_in w x n parent h has asks in
-    let r : (more : ℕ) × (more ≤ suc fewer) × Leads w x parent more = chain_in w x parent fewer rest in
-    (suc r.0, omega (arith, r.1), On k.0 k.1 r.2)
+    On k.0 k.1 (chain_in w x parent fewer rest)
 
 pub chains : (st : Setting) (w : World) → ((x : ℕ) → ParentsLead (seen x w)) → ((x n : ℕ) → (n < st.nodes → ⊥) → (seen x w).holds n ≡ None) → EachHasChain st w
 chains st w leads beyond n x k real has = by_chain ((leads x).chains st.nodes below n (share_of k) (ap seen_known has))
@@ -75,6 +74,4 @@ chains st w leads beyond n x k real has = by_chain ((leads x).chains st.nodes be
         by_test false q d = absurd (nothing m h (beyond x m (d refl)) known)
 
     by_chain : (steps : ℕ) × (steps < st.nodes) × model.Leads (seen x w) n steps → HasChain st w x n
-    by_chain c =
-        let r : (more : ℕ) × (more ≤ suc c.0) × Leads w x n more = chain_in w x n c.0 c.2 in
-        (r.0, omega (arith, r.1, c.1), r.2)
+    by_chain c = (c.0, c.1, chain_in w x n c.0 c.2)

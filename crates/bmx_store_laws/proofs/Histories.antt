@@ -55,7 +55,7 @@ pub record Came (st : Setting) (x : ℕ) (start : Object) (past : List Event) (n
   pub channels : Channels past nodes
   pub few : (n : ℕ) → (nodes n).state.made ≤ 320000 + steps_of n past
   pub aware : (n : ℕ) → n < st.nodes → IsAware st x (nodes n).state
-  pub named : IsNamed x nodes past
+  pub named : IsNamed st x nodes past
   -- a number that is no node of the store knows nothing
   pub beyond : (n : ℕ) → (n < st.nodes → ⊥) → seen_known ((nodes n).state.known x) ≡ None
   pub run : Run start (seen x (world_of nodes past))
@@ -75,13 +75,13 @@ count_is : (n c : ℕ) → c < 2 ^ 56 → count_of (name_word n c) ≡ c
 count_is n c h = mod-mul-add n (2 ^ 56) c h
 
 -- it stands nowhere yet
-new_nowhere : (x me : ℕ) (nodes : ℕ → Node) (past : List Event) → IsNamed x nodes past → (nodes me).state.made + 1 < 2 ^ 56 →
+new_nowhere : (st : Setting) (x me : ℕ) (nodes : ℕ → Node) (past : List Event) → IsNamed st x nodes past → (nodes me).state.made + 1 < 2 ^ 56 →
     x ≡ next_name me (nodes me).state → IsNowhere (seen x (world_of nodes past))
-new_nowhere x me nodes past (inr nowhere) few new = nowhere
-new_nowhere x me nodes past (inl counted) few new =
+new_nowhere st x me nodes past (inr nowhere) few new = nowhere
+new_nowhere st x me nodes past (inl counted) few new =
     let number : count_of x ≡ (nodes me).state.made + 1 = ap count_of new ∙ count_is me ((nodes me).state.made + 1) few in
     let at_most : count_of x ≤ (nodes me).state.made =
-    subst (λ (z : ℕ). count_of x ≤ (nodes z).state.made) (ap maker new ∙ maker_is me ((nodes me).state.made + 1) few) counted in
+    subst (λ (z : ℕ). count_of x ≤ (nodes z).state.made) (ap maker new ∙ maker_is me ((nodes me).state.made + 1) few) counted.made in
     absurd (omega (arith, number, at_most))
 
 -- ## one more event
@@ -160,11 +160,20 @@ module _ (st : Setting) (x : ℕ) (start : Object) (past : List Event) (nodes : 
   abbrev after_object : Object
   after_object = seen x (world_of (put nodes me after) (past ++ e ∷ []))
 
-  -- its maker has counted x, or x stands nowhere
-  named_after : Happened x me s own before_object after_object → IsNamed x (put nodes me after) (past ++ e ∷ [])
-  named_after (Made new one is) = inl (subst (λ (z : ℕ). count_of x ≤ (put nodes me after z).state.made) (sym (ap maker new ∙ maker_is me (s.made + 1) enough))
-      (subst (λ (b : Bool). count_of x ≤ (cond b after (nodes me)).state.made) (sym (eqb_of {a = me} refl))
-      (omega (arith, ap count_of new ∙ count_is me (s.made + 1) enough, made_is, one))))
+  -- a node has counted x, or x stands nowhere
+  named_after : Happened x me s own before_object after_object → IsNamed st x (put nodes me after) (past ++ e ∷ [])
+  named_after (Made new one is) = inl (record {
+    by_a_node = subst (λ (z : ℕ). z < st.nodes) (sym made_by) ev.real;
+    from_one = omega (arith, number);
+    made = subst (λ (z : ℕ). count_of x ≤ (put nodes me after z).state.made) (sym made_by)
+        (subst (λ (b : Bool). count_of x ≤ (cond b after (nodes me)).state.made) (sym (eqb_of {a = me} refl)) (omega (arith, number, made_is, one)));
+  })
+    where
+      made_by : maker x ≡ me
+      made_by = ap maker new ∙ maker_is me (s.made + 1) enough
+
+      number : count_of x ≡ s.made + 1
+      number = ap count_of new ∙ count_is me (s.made + 1) enough
   named_after (Calmly calm) = by_named ev.came.named
     where
       by_test : (b : Bool) → (b ≡ true → me ≡ maker x) → count_of x ≤ (nodes (maker x)).state.made → count_of x ≤ (cond b after (nodes (maker x))).state.made
@@ -173,12 +182,16 @@ module _ (st : Setting) (x : ℕ) (start : Object) (past : List Event) (nodes : 
           omega (arith, counted, same, made_is, ev.at_least)
       by_test false q counted = counted
 
-      by_named : IsNamed x nodes past → IsNamed x (put nodes me after) (past ++ e ∷ [])
-      by_named (inl counted) = inl (by_test (me == maker x) (eqb_is me (maker x)) counted)
+      by_named : IsNamed st x nodes past → IsNamed st x (put nodes me after) (past ++ e ∷ [])
+      by_named (inl counted) = inl (record {
+        by_a_node = counted.by_a_node;
+        from_one = counted.from_one;
+        made = by_test (me == maker x) (eqb_is me (maker x)) counted.made;
+      })
       by_named (inr nowhere) = inr (nowhere_calm before_object after_object calm nowhere)
 
   run_after : Happened x me s own before_object after_object → Run start after_object
-  run_after (Made new one is) = Goes ev.came.run (MakesIt me (new_nowhere x me nodes past ev.came.named enough new) is)
+  run_after (Made new one is) = Goes ev.came.run (MakesIt me (new_nowhere st x me nodes past ev.came.named enough new) is)
   run_after (Calmly calm) = calm_run start before_object after_object ev.came.run calm
 
   beyond_after : (n : ℕ) → (n < st.nodes → ⊥) → seen_known ((put nodes me after n).state.known x) ≡ None

@@ -1,6 +1,5 @@
 -- The laws of the model of one object, over legal histories.
-use Rattle.std.proofs.Common.{ℕ, ◌≤◌, inl, inr}
-use Rattle.bmx_types.specs.Words.{maker, count_of}
+use Rattle.std.proofs.Common.{inl, inr}
 use Rattle.bmx_protocol.specs.Worlds.{world_of}
 use Rattle.bmx_token_model.specs.Laws.{HasOneSeat, ReadersListed, WriteExcludes as Excludes}
 use Rattle.bmx_token_model.proofs.Requests.{IsRequested, requested_run}
@@ -10,7 +9,7 @@ use Rattle.bmx_token_model.proofs.Stated.{each_want_is_placed, parents_lead}
 use Rattle.bmx_token_model.proofs.Owners.{ownership_is_one}
 use Rattle.bmx_token_model.proofs.Readers.{readers_are_listed}
 use Rattle.bmx_token_model.proofs.Shared.{tokens_exclude}
-use Rattle.bmx_store_laws.specs.Laws.{OneOwner, OneSeat, ReadersAreListed, WriteExcludes, WantsStandOnce, ParentsAnswer, ParentsLead, NamesAreCounted}
+use Rattle.bmx_store_laws.specs.Laws.{IsCounted, OneOwner, OneSeat, ReadersAreListed, WriteExcludes, WantsStandOnce, ParentsAnswer, ParentsLead, NamesAreCounted}
 use Rattle.bmx_store_laws.proofs.Openings.{IsNamed}
 use Rattle.bmx_store_laws.proofs.Histories.{came_after, each_name}
 use Rattle.bmx_store_laws.proofs.Owners.{not_nowhere, each_owner, each_seat, writes_exclude}
@@ -52,6 +51,6 @@ parents_lead_always st history nodes opening legal after =
 pub names_are_counted : NamesAreCounted
 names_are_counted st history nodes opening legal after x somewhere = by_named (came_after st history nodes opening legal after x).named
   where
-    by_named : IsNamed x nodes history → count_of x ≤ (nodes (maker x)).state.made
+    by_named : IsNamed st x nodes history → IsCounted st (world_of nodes history) x
     by_named (inl counted) = counted
     by_named (inr nowhere) = absurd (not_nowhere st (world_of nodes history) x somewhere nowhere)

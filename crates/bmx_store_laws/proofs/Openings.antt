@@ -21,6 +21,7 @@ use Rattle.bmx_protocol.specs.declared.events.Event.{Event}
 use Rattle.bmx_protocol.specs.Nodes.{NodeState}
 use Rattle.bmx_protocol.specs.Steps.{Node}
 use Rattle.bmx_protocol.specs.Worlds.{world_of}
+use Rattle.bmx_store_laws.specs.Laws.{IsCounted}
 use Rattle.bmx_store_laws.specs.Inside.Seen.{seen, seen_known, seen_record, first_world}
 use Rattle.bmx_store_laws.proofs.Basics.{eqb_of, eqb_is, eqb_apart}
 use Rattle.bmx_store_laws.proofs.Ruled.{HasNo, NoRefs, FreeOf}
@@ -31,9 +32,9 @@ use Rattle.bmx_store_laws.proofs.Channels.{Channels}
 abbrev pub IsAware : Setting → ℕ → NodeState → Type 0
 IsAware st x s = seen_known (s.known x) ≡ None → IsFree x s × IsUnborn st x
 
--- its maker has counted x among its names, or x stands nowhere
-abbrev pub IsNamed : ℕ → (ℕ → Node) → List Event → Type 0
-IsNamed x nodes past = (count_of x ≤ (nodes (maker x)).state.made) ⊎ IsNowhere (seen x (world_of nodes past))
+-- a node has counted x among its names, or x stands nowhere
+abbrev pub IsNamed : Setting → ℕ → (ℕ → Node) → List Event → Type 0
+IsNamed st x nodes past = IsCounted st (world_of nodes past) x ⊎ IsNowhere (seen x (world_of nodes past))
 
 -- ## births
 
@@ -268,12 +269,16 @@ nowhere_first st x none = record {
     empty [] l after is = cc
     empty (b ∷ before) l after is = cc
 
-pub named_first : (st : Setting) → IsOpening st.nodes st.limit st.births → (x : ℕ) → IsNamed x (first_node st) []
+pub named_first : (st : Setting) → IsOpening st.nodes st.limit st.births → (x : ℕ) → IsNamed st x (first_node st) []
 named_first st opening x = by_birth (birth_of st x) refl
   where
-    by_birth : (b : Option Birth) → birth_of st x ≡ b → IsNamed x (first_node st) []
+    by_birth : (b : Option Birth) → birth_of st x ≡ b → IsNamed st x (first_node st) []
     by_birth None is = inr (nowhere_first st x is)
-    by_birth (Some b) is = inl (subst (λ (z : ℕ). count_of x ≤ cond (z == 0) (length st.births) 0) (sym by_first) at_most)
+    by_birth (Some b) is = inl (record {
+      by_a_node = omega (arith, by_first, opening.a_node);
+      from_one = omega (arith, one_or_more, tiny);
+      made = subst (λ (z : ℕ). count_of x ≤ cond (z == 0) (length st.births) 0) (sym by_first) at_most;
+    })
       where
         at : (i : ℕ) × (slice_get st.births i ≡ Some b) × (b.name ≡ x)
         at = found_birth st.births x b is
@@ -282,6 +287,12 @@ named_first st opening x = by_birth (birth_of st x) refl
         small =
             let number : b.name ≡ at.0 + 1 = opening.born.named at.0 b at.1 in
             let below : at.0 < length st.births = slice_get_within st.births at.0 b at.1 in
+            let same : b.name ≡ x = at.2 in
+            omega arith
+
+        one_or_more : 1 ≤ x
+        one_or_more =
+            let number : b.name ≡ at.0 + 1 = opening.born.named at.0 b at.1 in
             let same : b.name ≡ x = at.2 in
             omega arith
 

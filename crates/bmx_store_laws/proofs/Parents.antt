@@ -1,15 +1,13 @@
 -- What the model's law of parents says of a store: each parent answers for what it is asked for.
-use Rattle.std.proofs.Common.{◌≡◌, inl, inr, ℕ, ◌+◌, ◌≤◌, arith, refl, ap, sym, subst, ◌∙◌, Bool, true, false, cond, List, [], ◌∷◌, map}
+use Rattle.std.proofs.Common.{◌≡◌, inl, inr, ℕ, ◌+◌, ◌≤◌, arith, refl, ap, sym, ◌∙◌, Bool, true, false, List, [], ◌∷◌}
 use Rattle.std.specs.Prelude.{◌⊎◌, Option, Some, None, IsSome, is_some}
 use Rattle.std.specs.Option.{option_to_list}
 use Rattle.std.proofs.lemmas.List.Sums.{sum_by-cons}
 use Rattle.bmx_types.specs.declared.numbers.Mode.{Mode}
 use Rattle.bmx_types.specs.declared.numbers.Mode.TheVariants as mode
 use Rattle.bmx_owner.specs.declared.entering.Record.{Record}
-use Rattle.bmx_token.specs.declared.parts.Role.{Role}
-use Rattle.bmx_token.specs.declared.parts.Role.TheVariants as role
 use Rattle.bmx_protocol.specs.Nodes.{Setting, Known, share_of}
-use Rattle.bmx_protocol.specs.Worlds.{World, HasParent, IsHandedOver, AnswersFor, EachParentAnswers}
+use Rattle.bmx_protocol.specs.Worlds.{World, IsHandedOver, EachParentAnswers}
 use Rattle.bmx_token_model.specs.Machine.{Message, brings}
 use Rattle.bmx_token_model.specs.Laws.{handovers_in}
 use Rattle.bmx_token_model.proofs.Tallies.{notes, tally, tally-append, handover, handover-brings}
@@ -17,8 +15,7 @@ use Rattle.bmx_token_model.proofs.Roles.{Under, stance, stance_as}
 use Rattle.bmx_token_model.proofs.Requests.{unwanting, unwanting_as, IsRequested}
 use Rattle.bmx_token_model.proofs.Parents.{IsPointed, granted_wants}
 use Rattle.bmx_token_model.proofs.Parents as model
-use Rattle.bmx_store_laws.specs.Inside.Seen.{seen, seen_message, seen_known, seen_record}
-use Rattle.bmx_store_laws.specs.Laws.{handovers_of}
+use Rattle.bmx_store_laws.specs.Inside.Seen.{seen, seen_known, seen_record}
 use Rattle.bmx_store_laws.proofs.Owners.{one_if, hands_in, HandsAmong, among, moving_counted}
 
 -- the letters that bring ownership are those that the model tallies
@@ -51,12 +48,14 @@ record_there : (r : Option Record) → is_some (seen_record r) ≡ true → IsSo
 record_there None e = absurd cc
 record_there (Some r) e = refl
 
-want_there : (k : Known) → unwanting mode.Write (Some (share_of k)) ≡ 0 → IsSome k.part.want
+want_there : (k : Known) → unwanting mode.Write (Some (share_of k)) ≡ 0 → k.part.want ≡ Some mode.Write
 want_there k e = by_want k.part.want k.part.ready e
   where
-    by_want : (want : Option Mode) (ready : Bool) → unwanting_as mode.Write want ready ≡ 0 → IsSome want
+    by_want : (want : Option Mode) (ready : Bool) → unwanting_as mode.Write want ready ≡ 0 → want ≡ Some mode.Write
     by_want None ready e = absurd (omega (arith, e))
-    by_want (Some m) ready e = refl
+    by_want (Some m) true e = absurd (omega (arith, e))
+    by_want (Some mode.Read) false e = absurd (omega (arith, e))
+    by_want (Some mode.Write) false e = refl
 
 pub parents_answer : (st : Setting) (w : World) → ((x : ℕ) → IsPointed (seen x w)) → ((x : ℕ) → IsRequested (seen x w)) → EachParentAnswers st w
 parents_answer st w pointed requested n x parent k real has = record {

@@ -1,4 +1,4 @@
--- What the machine's law of readers says of a store: each reader is among the owner's.
+-- What the model's law of readers says of a store: each reader is among the owner's.
 use Rattle.std.proofs.Common.{◌≡◌, inl, inr, ℕ, arith, List, [], ◌∷◌, map, suc, refl, ap, sym, subst, ◌∙◌, true, cond}
 use Rattle.std.specs.Prelude.{◌⊎◌, Option, Some, None, IsSome, is_some, Contains}
 use Rattle.bmx_types.specs.declared.addresses.Info.{Info}

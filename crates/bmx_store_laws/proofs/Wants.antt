@@ -13,7 +13,7 @@ use Rattle.bmx_protocol.specs.Worlds.{World}
 use Rattle.bmx_token_model.specs.Machine.{Message}
 use Rattle.bmx_token_model.specs.Laws.{same_spot, count_notes, queue_at, standing, WantsArePlaced}
 use Rattle.bmx_token_model.specs.Laws as model
-use Rattle.bmx_store_laws.specs.Inside.Seen.{seen, seen_message, seen_note, seen_known}
+use Rattle.bmx_store_laws.specs.Inside.Seen.{seen, seen_message, seen_known}
 use Rattle.bmx_store_laws.specs.Laws.{Spot, Asked, Queued, Granted, letters_about, times_at, IsWaiting, StandsOnce, WantsStand}
 use Rattle.bmx_store_laws.proofs.Owners.{one_if}
 use Rattle.bmx_store_laws.proofs.Readers.{known_seen}

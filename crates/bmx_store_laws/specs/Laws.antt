@@ -1,5 +1,5 @@
 -- What holds of every name in every legal history.
-use Rattle.std.specs.Prelude.{◌≡◌, ℕ, ◌≤◌, ◌==◌, ◌&&◌, Bool, false, List, Contains, Some, IsSome, count_by}
+use Rattle.std.specs.Prelude.{◌≡◌, ℕ, ◌<◌, ◌≤◌, ◌==◌, ◌&&◌, Bool, false, List, Contains, Some, IsSome, count_by}
 use Rattle.std.specs.Option.{option_map_or}
 use Rattle.bmx_types.specs.declared.numbers.Mode.{Mode}
 use Rattle.bmx_token.specs.declared.parts.Ask.{Ask}
@@ -122,15 +122,21 @@ WantsStandOnce = Always (λ st w. (x : ℕ) → WantsStand w x)
 abbrev pub ParentsAnswer : Type 0
 ParentsAnswer = Always EachParentAnswers
 
--- from each node that knows a name its parents lead to the owner
+-- from each node that knows a name its parents lead to the owner, or to who gave ownership
 abbrev pub ParentsLead : Type 0
 ParentsLead = Always EachHasChain
 
 -- ## names
 
+-- x is a name that a node has made: the node counts its names from 1
+pub record IsCounted (st : Setting) (w : World) (x : ℕ) : Type 0 where
+  pub by_a_node : maker x < st.nodes
+  pub from_one : 1 ≤ count_of x
+  pub made : count_of x ≤ (w.state (maker x)).made
+
 -- a name that stands somewhere is among those that its maker has counted
 abbrev pub NamesAreCounted : Type 0
-NamesAreCounted = Always (λ st w. (x : ℕ) → IsSomewhere st w x → count_of x ≤ (w.state (maker x)).made)
+NamesAreCounted = Always (λ st w. (x : ℕ) → IsSomewhere st w x → IsCounted st w x)
 
 -- the laws speak of something: a store of two nodes opens with one bunch, and a run worked by hand is legal
 -- there

@@ -24,8 +24,8 @@ pub fn readers_are_listed()
     ensures { ReadersAreListed }
 {}
 
-/// The law that in every legal history each want that isn't ready stands at one spot alone: in a request on its
-/// way, in a queue, or in a grant in flight to the node, of its mode; and nothing else is requested, queued
+/// The law that in every legal history each want that isn't ready stands at one spot alone: in a request in
+/// flight, in a queue, or in a grant in flight to the node, of its mode; and nothing else is requested, queued
 /// or granted. It does nothing.
 pub fn wants_stand_once()
     ensures { WantsStandOnce }
@@ -38,13 +38,13 @@ pub fn parents_answer()
 {}
 
 /// The law that in every legal history the parents of a name lead from each node that knows it to its owner, or
-/// to the node that ownership is in flight to, in at most as many steps as there are nodes. It does nothing.
+/// to who gave ownership in a letter in flight, in fewer steps than there are nodes. It does nothing.
 pub fn parents_lead()
     ensures { ParentsLead }
 {}
 
-/// The law that in every legal history a name that stands anywhere is among those that its maker has counted.
-/// It does nothing.
+/// The law that in every legal history a name that stands anywhere is among those that its maker, which is a
+/// node, has counted. It does nothing.
 pub fn names_are_counted()
     ensures { NamesAreCounted }
 {}

@@ -1,5 +1,5 @@
-//! One owner for each object, which lists its readers, and a write that excludes, in every legal history: each name of a store, with
-//! the letters that speak of it, is a run of the machine of one object. It has definitions and laws alone.
+//! What holds of every name of a store in every legal history, whatever the interleaving: who owns an object
+//! and who may read or write it, where wants stand, and where parents lead. It has definitions and laws alone.
 #![tactic(auto)]
 
 mod laws;

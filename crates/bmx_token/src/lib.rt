@@ -1,6 +1,6 @@
 //! The token of one object at one node: many nodes may read it, or one may write it. One node owns it
 //! and keeps the readers and the queue of those who ask; the others know a node to ask. Each call is
-//! one column of the node's step, and knows nothing of addresses, fields and letters' numbers.
+//! one case of the node's step, and knows nothing of addresses, fields and letters' numbers.
 #![tactic(auto)]
 
 mod answers;

@@ -1,4 +1,4 @@
--- The runs worked by hand are runs of the machine: what comes next is a step, or nothing.
+-- The runs worked by hand are runs of the model: what comes next is a step, or nothing.
 use Rattle.std.proofs.Common.{◌≡◌, ◌≢◌, ℕ, arith, refl, ap, sym, subst, Bool, true, false, cond, List, [], ◌∷◌}
 use Rattle.std.specs.Prelude.{◌==◌, ◌&&◌, Option, Some, None}
 use Rattle.std.proofs.lemmas.Bool.{eqb-false}
@@ -11,7 +11,7 @@ use Rattle.bmx_token_model.proofs.Tallies.{eqb_true}
 use Rattle.bmx_token_model.proofs.Stated.{each_want_is_placed}
 use Rattle.bmx_token_model.specs.Cases.{Next, Do, Take, after_turn, did, took, next, after, first_holds, opening, letter, asked, handed_over, the_taker_waits, table_of_the_owner, tabled}
 
--- what comes next is a step of the machine, or nothing
+-- what comes next is a step of the model, or nothing
 did_runs : (o p : Object) → Run o p → (me : ℕ) (a : Act) (h : Option Share) → p.holds me ≡ h → Run o (did p me a h)
 did_runs o p run me a None has = run
 did_runs o p run me a (Some h) has = by_turn (turn_of me a h) refl

@@ -1,5 +1,5 @@
 -- Runs with tables: whatever tables are lost, late or taken more than once, what they clear nothing needs, so that the
--- object's steps are a run of its machine.
+-- object's steps are a run of its model.
 use Rattle.std.proofs.Common.{◌≡◌, ◌⊎◌, inl, inr, ℕ, ◌+◌, ◌≤◌, arith, List, [], ◌∷◌, ◌++◌, map, refl, ap, sym, subst, subst₂, ◌∙◌, Bool, true, false, cond}
 use Rattle.std.specs.Prelude.{◌==◌, Option, Some, None, Contains}
 use Rattle.bmx_types.specs.declared.numbers.Mode.TheVariants as mode
@@ -239,7 +239,7 @@ table_step o s t first run tabled (Clears n m may e f) =
           (cleared_tabled (traffic_of s.object) s.tables n m may.table may.numbers (contains_in may.table (s.tables m n) may.made) may.unlisted may.has may.taken may.sent may.got g.counted tabled),
     )
 
--- whatever steps are taken with tables, however late and often tables are taken, the object's are a run of its machine
+-- whatever steps are taken with tables, however late and often tables are taken, the object's are a run of its model
 pub table_run : (o : Object) (t : Tabled) → IsFirst o → TableRun (untabled o) t → Run o t.object × IsTabled (traffic_of t.object) t.tables
 table_run o t first Stays = (Run.Stays, first_tabled o first)
 table_run o t first (Goes {t = u} run step) =

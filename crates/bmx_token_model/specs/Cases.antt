@@ -1,4 +1,4 @@
--- Runs of the machine worked by hand, each closed by computing: node 0 owns an object, and node 1 has
+-- Runs of the model worked by hand, each closed by computing: node 0 owns an object, and node 1 has
 -- heard of it.
 use Rattle.std.specs.Prelude.{◌≡◌, ℕ, ◌==◌, ◌&&◌, true, false, if◌then◌else◌, List, [], ◌∷◌, Option, Some, None, IsSome, refl}
 use Rattle.bmx_graph.specs.State.{put_at}

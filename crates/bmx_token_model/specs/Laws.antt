@@ -184,7 +184,7 @@ EachOwesOneAnswer = (o p : Object) → IsFirst o → Run o p → AnswersAreOwed 
 
 -- ## letters
 
--- the first letter in flight to a node from another isn't stray there
+-- the first letter in flight to a node from another isn't stray there by what it says of the token
 abbrev pub NoneIsStray : Object → Type 0
 NoneIsStray o = (from me : ℕ) (l : Message) (rest : List Message) → from ≢ me → o.channel from me ≡ l ∷ rest → IsSome (letter_turn me from l (o.holds me))
 
@@ -223,7 +223,7 @@ pub record MayBeAsked (o : Object) (n by : ℕ) (letters : List Message) : Type 
 abbrev pub AskedAnswer : Object → Type 0
 AskedAnswer o = (n m : ℕ) (l : Message) (before after : List Message) → o.channel n m ≡ before ++ l ∷ after → asks l ≡ true → MayBeAsked o m n before
 
--- whatever steps are taken from an opening, who is asked knows the object and answers for the asker
+-- whatever steps are taken from an opening, who is asked knows the object and answers for the sender
 abbrev pub WhoIsAskedAnswers : Type 0
 WhoIsAskedAnswers = (o p : Object) → IsFirst o → Run o p → AskedAnswer p
 
@@ -279,6 +279,6 @@ IdleIsUnneeded = (o p : Object) → IsFirst o → Run o p → (me : ℕ) (h : Sh
 abbrev pub ClearedIsUnneeded : Type 0
 ClearedIsUnneeded = (o : Object) (s : Tabled) → IsFirst o → TableRun (untabled o) s → (n m : ℕ) → MayClear s n m → IsUnneededRecord s.object n m
 
--- and so the object's own steps are a run of the machine, of which the laws above hold
+-- and so the object's own steps are a run of the model, of which the laws above hold
 abbrev pub TablesKeepTheLaws : Type 0
 TablesKeepTheLaws = (o : Object) (s : Tabled) → IsFirst o → TableRun (untabled o) s → Run o s.object

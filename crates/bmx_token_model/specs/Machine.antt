@@ -151,7 +151,7 @@ said_turn me from (Some n) h = note_turn me from n h
 abbrev pub letter_turn : ℕ → ℕ → Message → Option Share → Option Turn
 letter_turn me from l h = option_map (λ (t : Turn). record t { after = hears l.tells from t.after }) (said_turn me from l.note h)
 
--- ## the steps of the machine
+-- ## the steps of the model
 
 -- a letter that says nothing of the object
 pub record IsSilent (l : Message) : Type 0 where

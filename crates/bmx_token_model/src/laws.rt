@@ -30,8 +30,8 @@ pub fn each_owes_one_answer()
     ensures { EachOwesOneAnswer }
 {}
 
-/// The law that nobody has to do with itself: no node is its own parent or reader, asks itself to read, or
-/// is on both ends of a letter with a note. It does nothing.
+/// The law that nobody has to do with itself: no node is its own parent or reader, or asks itself to read, and
+/// no letter from a node to itself has a note. (An owner does queue its own want to write.) It does nothing.
 pub fn nobody_asks_itself()
     ensures { NobodyAsksItself }
 {}
@@ -42,14 +42,14 @@ pub fn gifts_are_recorded()
     ensures { GiftsAreRecorded }
 {}
 
-/// The law that who is asked knows the object, and has a record of the asker or ownership in front of the
-/// request. It does nothing.
+/// The law that who is asked knows the object, and has a record of the request's sender or ownership in front
+/// of the request. It does nothing.
 pub fn who_is_asked_answers()
     ensures { WhoIsAskedAnswers }
 {}
 
-/// The law that no letter is stray: the first in flight to a node from another is taken there. It does
-/// nothing.
+/// The law that no letter is stray by what it says of the token: the first in flight to a node from another has
+/// its turn there. It does nothing.
 pub fn no_letter_is_stray()
     ensures { NoLetterIsStray }
 {}
@@ -66,13 +66,13 @@ pub fn idle_is_unneeded()
     ensures { IdleIsUnneeded }
 {}
 
-/// The law that nothing needs a record that a table may clear, however late and often tables are taken. It
-/// does nothing.
+/// The law that nothing needs a record that a table may clear, however late and often tables are taken, but
+/// never before the letters that its maker had issued until then. It does nothing.
 pub fn cleared_is_unneeded()
     ensures { ClearedIsUnneeded }
 {}
 
-/// The law that steps with tables are a run of the object's machine, so that each law of its runs holds of
+/// The law that steps with tables are a run of the object's model, so that each law of its runs holds of
 /// them. It does nothing.
 pub fn tables_keep_the_laws()
     ensures { TablesKeepTheLaws }

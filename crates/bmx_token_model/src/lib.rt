@@ -1,5 +1,5 @@
-//! One object's token over all nodes, as a machine: what each node has of the object, the letters on
-//! their way, and the steps that nodes take. Its laws hold whatever steps are taken: there is one owner, it
+//! One object's token over all nodes, as a model: what each node has of the object, the letters in
+//! flight, and the steps that nodes take. Its laws hold whatever steps are taken: there is one owner, it
 //! lists its readers, and a token for writing excludes; each want stands at one spot and each recall is
 //! answered once; no letter is stray; parents lead to the owner; and what is forgotten or cleared, by late
 //! tables too, nothing needs. It has definitions and laws alone.
