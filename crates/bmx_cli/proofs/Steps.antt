@@ -12,11 +12,7 @@ use Rattle.bmx_cli.specs.declared.runs.Runner.{Runner}
 use Rattle.bmx_cli.specs.Texts.{answer_line, step_text, text_of}
 use Rattle.bmx_cli.specs.Runs.{AreAnswers, AreAnswersOf, rooms_after_all, Order, order_of, program, done_by, act_of, opening_of, graph_after, anchors, anchor_birth, Follows}
 use Rattle.bmx_cli.specs.Inside.Progress.{heap_of, IsReady, SameSteps, Acts, GoesBy, Goes, IsAt, IsStopped}
-use Rattle.bmx_types.specs.declared.values.Val.{Val}
-use Rattle.bmx_types.specs.declared.values.Val.TheVariants as val
 use Rattle.bmx_types.specs.declared.commands.Command.{Command}
-use Rattle.bmx_types.specs.declared.commands.Command.TheVariants as command
-use Rattle.bmx_types.specs.declared.numbers.Mode.{Mode}
 use Rattle.bmx_graph.specs.declared.answers.Answer.{Answer}
 use Rattle.bmx_graph.specs.declared.answers.Answer.TheVariants as answer
 use Rattle.bmx_local.specs.declared.solos.Solo.{Solo}

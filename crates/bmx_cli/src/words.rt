@@ -1,4 +1,4 @@
-ghost use Rattle.std.specs.Prelude.{◌≡◌, map, string_bytes, IfOk, [], ◌⊎◌};
+ghost use Rattle.std.specs.Prelude.{◌≡◌, map, string_bytes, IfOk, [], IsUtf8};
 ghost use Rattle.bmx_cli.specs.Words.{misfit_in};
 
 use bmx_types::NoMemory;
@@ -25,7 +25,8 @@ pub fn given_words<R: Env + AllocGlobal>(rt: &R) -> Result<Vec<String>, NoMemory
 
 /// The word of these bytes; the empty word where they aren't UTF-8.
 fn word_of(alloc: Global, bytes: &[u8]) -> Result<String, NoMemory>
-    ensures { IfOk result (λ word. (string_bytes word ≡ bytes.now) ⊎ (string_bytes word ≡ [])) }
+    ensures utf8 { IfOk result (λ word. IsUtf8 bytes.now → string_bytes word ≡ bytes.now) }
+    ensures others { IfOk result (λ word. (IsUtf8 bytes.now → ⊥) → string_bytes word ≡ []) }
 {
     match str::from_utf8(bytes) {
         Ok(word) => Ok(String::from_str(alloc, word)?),

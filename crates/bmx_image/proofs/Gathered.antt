@@ -18,7 +18,7 @@ use Rattle.bmx_image.specs.declared.images.ImageField.{ImageField}
 use Rattle.bmx_image.specs.declared.images.ImageObject.{ImageObject}
 use Rattle.bmx_image.specs.Images.{ObjectFits, StandsBehind, IsImage, is_size}
 use Rattle.bmx_image.specs.Gathering.{IsReached, Anchor, InField, DoesCross, IsLarge, Tells, TellsAll, IsImageFrom, CanGather, IsGathered}
-use Rattle.bmx_image.specs.Mentions.{Goes, GoesOn, HasGathered, IsMention, IsPlaced}
+use Rattle.bmx_image.specs.Inside.Mentions.{Goes, GoesOn, HasGathered, IsMention, IsPlaced}
 use Rattle.bmx_image.proofs.Mentioning.{TellsAll-kept, slice_get-push_cases, Contains-at, at-Contains, Contains-one}
 use Rattle.bmx_image.proofs.Steps.{fit_more, top_of_more}
 

@@ -17,7 +17,7 @@ use Rattle.bmx_image.specs.declared.images.ImageField.{ImageField}
 use Rattle.bmx_image.specs.declared.images.ImageField.TheVariants as field
 use Rattle.bmx_image.specs.Images.{FieldFits, FitsBehind, target, top_of_fields}
 use Rattle.bmx_image.specs.Gathering.{Tells, TellsAll}
-use Rattle.bmx_image.specs.Mentions.{Goes, GoesOn, IsMention, IsPlaced}
+use Rattle.bmx_image.specs.Inside.Mentions.{Goes, GoesOn, IsMention, IsPlaced}
 use Rattle.bmx_image.proofs.Steps.{fit_more, top_of_fields_more}
 
 -- one item keeps the places of those before it

@@ -13,7 +13,7 @@ use Rattle.bmx_image.specs.declared.reading.Read.{Read}
 use Rattle.bmx_image.specs.Spelling.{field_bytes, object_bytes, head_bytes, image_bytes}
 use Rattle.bmx_image.specs.Images.{EachFits, FieldFits, FitsBehind, ObjectFits, StandsBehind, IsImage, is_count, is_size, target, top_of, top_of_fields}
 use Rattle.bmx_image.specs.Faults.{field_fault, size_fault, HasFieldFault, IsObjectFault}
-use Rattle.bmx_image.specs.Reading.{IsImageOf, IsObject, IsRead}
+use Rattle.bmx_image.specs.Inside.Reading.{IsImageOf, IsObject, IsRead}
 use Rattle.bmx_image.proofs.Objects.{size_right}
 
 pub fit_more : {A : Type 0} (Fits : List A → A → Type 0) (before xs : List A) (x : A) → EachFits Fits before xs → Fits (before ++ xs) x → EachFits Fits before (xs ++ x ∷ [])

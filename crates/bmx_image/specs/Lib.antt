@@ -2,8 +2,7 @@ pub mod Spelling
 pub mod Images
 pub mod Faults
 pub mod Laws
-pub mod Reading
 pub mod Facts
 pub mod Cases
 pub mod Gathering
-pub mod Mentions
+pub mod Inside

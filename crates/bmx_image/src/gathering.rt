@@ -1,7 +1,7 @@
 ghost use Rattle.std.specs.Prelude.{◌≡◌, ◌∷◌, [], ℕ, ◌<◌, List, Option, Some, length, slice_get, IsSome, OnOk, IfOk};
 ghost use Rattle.bmx_types.specs.declared.values.Val.{Val};
 ghost use Rattle.bmx_image.specs.Gathering.{CanGather, IsGathered};
-ghost use Rattle.bmx_image.specs.Mentions.{GoesOn, IsMention, IsPlaced, told_field, told_fields};
+ghost use Rattle.bmx_image.specs.Inside.Mentions.{GoesOn, IsMention, IsPlaced, told_field, told_fields};
 
 use crate::images::{Image, ImageField, ImageObject};
 use bmx_types::{BunchNo, Items, Name, NoMemory, Val};

@@ -4,7 +4,7 @@ ghost use Rattle.byteorder.specs.Endian.{big_bytes, big_number};
 ghost use Rattle.bmx_image.specs.Spelling.{magic, field_bytes, head_bytes};
 ghost use Rattle.bmx_image.specs.Images.{FieldFits, is_count as is_count_lem, is_size as is_size_lem, target as target_lem};
 ghost use Rattle.bmx_image.specs.Faults.{short, field_fault, index_fault, size_fault, magic_fault, version_fault, count_fault, head_fault, IsAnswer};
-ghost use Rattle.bmx_image.specs.Reading.{IsObject, IsImageOf};
+ghost use Rattle.bmx_image.specs.Inside.Reading.{IsObject, IsImageOf};
 
 use crate::faults::{Fault, ImageCause, ImageError, Stop};
 use crate::images::{Image, ImageField, ImageObject};

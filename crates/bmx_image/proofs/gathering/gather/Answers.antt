@@ -4,7 +4,7 @@ use Rattle.bmx_image.specs.declared.gathering.GatherError.{GatherError}
 use Rattle.bmx_image.specs.declared.images.ImageField.{ImageField}
 use Rattle.bmx_image.specs.declared.images.ImageObject.{ImageObject}
 use Rattle.bmx_image.specs.Gathering.{IsGathered}
-use Rattle.bmx_image.specs.Mentions.{HasGathered}
+use Rattle.bmx_image.specs.Inside.Mentions.{HasGathered}
 use Rattle.bmx_image.proofs.Gathered.{there, gathered_none, gathered_more, gathers_no_further, whole, large, image, told}
 use Rattle.bmx_image.proofs.gathering.gather.Goals as goal
 

@@ -1,5 +1,5 @@
 use Rattle.std.proofs.Common.{◌-◌, ◌^◌, length}
-use Rattle.bmx_image.specs.Mentions.{HasGathered}
+use Rattle.bmx_image.specs.Inside.Mentions.{HasGathered}
 use Rattle.bmx_image.proofs.gathering.gather.Given as goal
 
 abbrev pub invariant-loop-name : goal.invariant-loop-name

@@ -4,7 +4,7 @@ use Rattle.std.proofs.lemmas.Bool.{eqb-true}
 use Rattle.bmx_types.specs.contracts.numbers.BunchNoPartialEq.TheImpl.{eq-value}
 use Rattle.bmx_types.specs.declared.values.Val.{Val}
 use Rattle.bmx_image.specs.declared.images.ImageField.TheVariants as field
-use Rattle.bmx_image.specs.Mentions.{Goes}
+use Rattle.bmx_image.specs.Inside.Mentions.{Goes}
 use Rattle.bmx_image.proofs.Mentioning.{goes_reference}
 use Rattle.bmx_image.proofs.gathering.Mentions.field.Goals as goal
 

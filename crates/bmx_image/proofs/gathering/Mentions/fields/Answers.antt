@@ -1,7 +1,7 @@
 use Rattle.std.proofs.Common.{Err, sym, subst}
 use Rattle.std.proofs.lemmas.Result.{err_from_is_err_and}
 use Rattle.bmx_image.specs.declared.gathering.GatherError.{GatherError}
-use Rattle.bmx_image.specs.Mentions.{GoesOn}
+use Rattle.bmx_image.specs.Inside.Mentions.{GoesOn}
 use Rattle.bmx_image.proofs.Mentioning.{goes_next, goes_no_further}
 use Rattle.bmx_image.proofs.gathering.Mentions.fields.Goals as goal
 

@@ -1,5 +1,5 @@
 use Rattle.std.proofs.Common.{take}
-use Rattle.bmx_image.specs.Mentions.{Goes}
+use Rattle.bmx_image.specs.Inside.Mentions.{Goes}
 use Rattle.bmx_image.proofs.gathering.Mentions.fields.Given as goal
 
 abbrev pub invariant-loop-i : goal.invariant-loop-i

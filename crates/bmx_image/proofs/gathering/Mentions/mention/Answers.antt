@@ -2,7 +2,7 @@ use Rattle.std.proofs.Common.{◌≡◌, ℕ, cond, nat_cmp, Some, None, sym, su
 use Rattle.std.specs.BTreeMap.{get}
 use Rattle.std.specs.Ordering.{is_eq}
 use Rattle.bmx_image.specs.declared.gathering.Mentions.{Mentions}
-use Rattle.bmx_image.specs.Mentions.{IsMention}
+use Rattle.bmx_image.specs.Inside.Mentions.{IsMention}
 use Rattle.bmx_image.proofs.Mentioning.{mention_new}
 use Rattle.bmx_image.proofs.gathering.Mentions.mention.Goals as goal
 

@@ -1,0 +1,3 @@
+-- For private functions and proofs alone.
+pub mod Reading
+pub mod Mentions
