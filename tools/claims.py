@@ -17,8 +17,6 @@ from functools import cache
 
 TOP = os.path.dirname(os.path.dirname(os.path.abspath(__file__)))
 PROGRAM = ("bmx_cli", "bmx")
-# laws that README names and whose crate doesn't hand them up yet: a note, and no failure
-NOT_YET = {"wait_keeps", "state_has_one_view", "shown_steps_agree"}
 
 NAME = r"[A-Za-z_][\w'\-+]*"
 HEAD = re.compile(rf"^(?:(?:abbrev|unfoldable|pub|record|data|axiom) +)*({NAME})")
@@ -232,10 +230,7 @@ def main():
         if not is_law and (crate, name) != PROGRAM:
             continue
         if not is_public:
-            if name in NOT_YET:
-                print(f"claims: note: {crate} doesn't hand up {name} yet")
-            else:
-                faults.append(f"README names {name}, and {crate} doesn't hand it up as a public function")
+            faults.append(f"README names {name}, and {crate} doesn't hand it up as a public function")
         found = reach(*words)
         by_crate.setdefault(crate, {}).update(found)
         print(f"{crate} {name}: {size(found)}")
