@@ -19,7 +19,8 @@ use Rattle.bmx_token_model.proofs.Owners.{owned_as}
 use Rattle.bmx_token_model.proofs.Sound.{IsSoundIf}
 use Rattle.bmx_token_model.proofs.Views.{reads_of, waits_of, due_to, due_as}
 use Rattle.bmx_token_model.proofs.Shared.{IsShared, shared_run}
-use Rattle.bmx_token_model.proofs.Requests.{IsRequested, queued, Spot, Unasked, Queued, IsAlone, stands, unwanting, wants_or_not, alone_elsewhere, requested_run}
+use Rattle.bmx_token_model.proofs.Spots.{Spot, Unasked, Queued, IsAlone, alone_elsewhere}
+use Rattle.bmx_token_model.proofs.Requests.{IsRequested, queued, stands, unwanting, wants_or_not, requested_run}
 
 pub record IsApart (o : Object) : Type 0 where
   pub parents : (n : ℕ) → stance (o.holds n) ≢ Under n

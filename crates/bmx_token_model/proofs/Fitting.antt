@@ -22,7 +22,8 @@ use Rattle.bmx_token_model.proofs.Times.{times, times-once}
 use Rattle.bmx_token_model.proofs.Sound.{IsSound, IsSoundIf}
 use Rattle.bmx_token_model.proofs.Views.{waits_of, due_to, due_as}
 use Rattle.bmx_token_model.proofs.Shared.{IsShared, read_is_owner, shared_run}
-use Rattle.bmx_token_model.proofs.Requests.{IsRequested, ask, granting, Spot, same_spot, Unasked, OnWay, Queued, Granted, IsAlone, stands, unwanting, unwanting_as, wants_or_not, alone_elsewhere, requested_run}
+use Rattle.bmx_token_model.proofs.Spots.{Spot, same_spot, Unasked, InFlight, Queued, Granted, IsAlone, alone_elsewhere}
+use Rattle.bmx_token_model.proofs.Requests.{IsRequested, ask, granting, stands, unwanting, unwanting_as, wants_or_not, requested_run}
 use Rattle.bmx_token_model.proofs.Letters.{Knows}
 use Rattle.bmx_token_model.proofs.Asked.{NoAsk, asked_run}
 
@@ -80,7 +81,7 @@ ask_fits p from me m a b r has some = by_role b.part.role refl
         by_case : Cases me a → Made (requested m a b (request_by me b.part a m Owner).0 (request_by me b.part a m Owner).1)
         by_case (Apart f t) = rw t refl
         by_case (Same f t) =
-            let w : IsWanted p m a (OnWay from me) = wanted p m a (OnWay from me) r refl some in
+            let w : IsWanted p m a (InFlight from me) = wanted p m a (InFlight from me) r refl some in
             absurd (not_owner p m a b r (ap p.holds (sym f) ∙ has) w.wants (w.alone (Queued a) refl) e)
 
 grant_fits : (p : Object) (from me : ℕ) (m : Mode) → IsRequested p → 1 ≤ tally (granting m) (notes (p.channel from me)) → Made (note_turn me from (Grants m) (p.holds me))

@@ -16,7 +16,8 @@ use Rattle.bmx_token_model.proofs.Roles.{stance, stance_as, Under}
 use Rattle.bmx_token_model.proofs.Owners.{IsAt, IsSeated, owned_as, seat_at, owning_owned, seated_run}
 use Rattle.bmx_token_model.proofs.Views.{waits_of}
 use Rattle.bmx_token_model.proofs.Shared.{IsShared, shared_run}
-use Rattle.bmx_token_model.proofs.Requests.{IsRequested, ask, Spot, same_spot, Unasked, OnWay, IsAlone, stands, unwanting, unwanting_as, alone_elsewhere}
+use Rattle.bmx_token_model.proofs.Spots.{Spot, same_spot, Unasked, InFlight, IsAlone, alone_elsewhere}
+use Rattle.bmx_token_model.proofs.Requests.{IsRequested, ask, stands, unwanting, unwanting_as}
 use Rattle.bmx_token_model.proofs.Letters.{IsIn, Recorded, NoGift, Knows}
 use Rattle.bmx_token_model.proofs.Parents.{IsKnown, known_run, granted_wants, pointed_run}
 use Rattle.bmx_token_model.proofs.Asked.{some_brings, fits_there, brings_over, has_record, asked_run}
@@ -174,7 +175,7 @@ unneeded o p first run me h has idle none = record {
 
         is : (l.note ≡ None) × (l.tells ≡ false)
         is = no_note l.note l.tells
-            (λ m a. at (ask m a) (not_wanted p m a (OnWay n k) known.requested (nobody_wants e m a) refl))
+            (λ m a. at (ask m a) (not_wanted p m a (InFlight n k) known.requested (nobody_wants e m a) refl))
             (at recall (omega (arith, (shared.pairs n k).waited, nobody_waits e n k)))
             (at return (omega (arith, (shared.pairs k n).waited, nobody_waits e k n)))
             (at handover (not_handed p n k known.requested (nobody_wants e mode.Write k)))

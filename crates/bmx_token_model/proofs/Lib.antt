@@ -13,6 +13,7 @@ pub mod Sound
 pub mod Views
 pub mod Shared
 pub mod Readers
+pub mod Spots
 pub mod Requests
 pub mod Letters
 pub mod Parents

@@ -14,7 +14,8 @@ use Rattle.bmx_token_model.proofs.Each.{moved_kept}
 use Rattle.bmx_token_model.proofs.Moves.{notes_to, sent, drafted, issue_notes, moved_notes, holds_moved, tally-sent, Taking, Nothing, Letter, Acting, does_acting, takes_acting, taking_holds, kept_object}
 use Rattle.bmx_token_model.proofs.Roles.{Under, stance, under_is, not_absent, not_owning, role_under, Looks, Stays, Meets, Turns, Gains, Hands, acts_look}
 use Rattle.bmx_token_model.proofs.Owners.{write_sends_one}
-use Rattle.bmx_token_model.proofs.Requests.{IsRequested, Spot, Unasked, Granted, IsAlone, granting, stands, unwanting, alone_elsewhere, requested_run}
+use Rattle.bmx_token_model.proofs.Spots.{Spot, Unasked, Granted, IsAlone, alone_elsewhere}
+use Rattle.bmx_token_model.proofs.Requests.{IsRequested, granting, stands, unwanting, requested_run}
 use Rattle.bmx_token_model.proofs.Letters.{issue_entering, popped_entering, popped_here, IsRecorded, IsOrderly, IsGiving, Knows, acts_knowing, knowing_stays, giver, orderly_run, giving_run}
 
 -- ## what a parent has

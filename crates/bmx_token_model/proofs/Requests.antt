@@ -1,6 +1,6 @@
 -- Requests: each want that isn't ready stands at one spot, in flight, in a queue or granted, and nothing else
 -- is asked or granted. Each step keeps it.
-use Rattle.std.proofs.Common.{◌≡◌, ◌≢◌, ◌⊎◌, inl, inr, ℕ, ◌+◌, ◌≤◌, arith, List, [], ◌∷◌, ◌++◌, map, zero, suc, refl, ap, sym, subst, ◌∙◌, Bool, true, false, cond}
+use Rattle.std.proofs.Common.{◌≡◌, ◌≢◌, ◌⊎◌, inl, inr, ℕ, ◌+◌, ◌≤◌, arith, List, [], ◌∷◌, ◌++◌, map, refl, ap, sym, subst, ◌∙◌, Bool, true, false, cond}
 use Rattle.std.specs.Prelude.{◌==◌, ◌&&◌, if◌then◌else◌, Option, Some, None}
 use Rattle.std.specs.Option.{option_to_list}
 use Rattle.bmx_types.specs.declared.numbers.Mode.{Mode}
@@ -13,7 +13,8 @@ use Rattle.bmx_token.specs.Turns.{Share, Note, Asks, Grants, Recalls, Returns, S
 use Rattle.bmx_token_model.specs.Machine.{Object, Run, IsFirst, with_holding}
 use Rattle.bmx_token_model.specs.Laws.{owned_at, queue_at}
 use Rattle.bmx_token.specs.Turns.{same_mode, is_request_of, is_grant_of}
-use Rattle.bmx_token_model.proofs.Tallies.{tally, notes, Cases, Same, Apart, cases, same_true, eqb_true}
+use Rattle.bmx_token_model.proofs.Spots.{Spot, Unasked, InFlight, Queued, Granted, IsAlone, at_spot, moves_spot, alone_elsewhere, at_most_one}
+use Rattle.bmx_token_model.proofs.Tallies.{tally, notes, Cases, Same, Apart, cases, same_true}
 use Rattle.bmx_token_model.proofs.First.{untouched, first_holds}
 use Rattle.bmx_token_model.proofs.Acts.{Alters, TakesWanted, Reads, Writes, Joins, Frees, Readies, Acts, Rests, Hears, AltersTo, Wants, Answers, GrantsRead, HandsOver, Revokes, Arrives, Forwards, GetsRead, GetsWrite, ReturnsNone, ReturnsNow, ReturnsLater, GetsBack}
 use Rattle.bmx_token_model.proofs.Moves.{notes_to, sent, came, Moves, Changes, Makes, Turns, Forgets, none_moves, kept_changes, tally-came, tally-sent, tally-before, tally-after, came-nothing, sent-nothing, tally-send, nothing-send, asks-send, recalls-nothing}
@@ -43,122 +44,6 @@ abbrev pub wanting : Mode → Option Share → ℕ
 wanting m None = 0
 wanting m (Some h) = wanting_as m h.part.want h.part.ready
 
--- ## spots
-
--- where a want of a node may stand
-pub data Spot : Type 0 where
-  Unasked : Spot
-  OnWay : (n k : ℕ) → Spot
-  Queued : (n : ℕ) → Spot
-  Granted : (n : ℕ) → Spot
-
-abbrev pub same_spot : Spot → Spot → Bool
-same_spot Unasked Unasked = true
-same_spot Unasked (OnWay j l) = false
-same_spot Unasked (Queued j) = false
-same_spot Unasked (Granted j) = false
-same_spot (OnWay n k) Unasked = false
-same_spot (OnWay n k) (OnWay j l) = (n == j) && (k == l)
-same_spot (OnWay n k) (Queued j) = false
-same_spot (OnWay n k) (Granted j) = false
-same_spot (Queued n) Unasked = false
-same_spot (Queued n) (OnWay j l) = false
-same_spot (Queued n) (Queued j) = n == j
-same_spot (Queued n) (Granted j) = false
-same_spot (Granted n) Unasked = false
-same_spot (Granted n) (OnWay j l) = false
-same_spot (Granted n) (Queued j) = false
-same_spot (Granted n) (Granted j) = n == j
-
-spot_is : (s t : Spot) → same_spot s t ≡ true → s ≡ t
-spot_is Unasked Unasked h = refl
-spot_is (OnWay n k) (OnWay j l) h = by_tests (n == j) (k == l) refl refl h
-  where
-    by_tests : (p q : Bool) → (n == j) ≡ p → (k == l) ≡ q → (p && q) ≡ true → OnWay n k ≡ OnWay j l
-    by_tests true true e f g = (λ i. OnWay (eqb_true n j e i) (eqb_true k l f i))
-    by_tests true false e f g = absurd cc
-    by_tests false q e f g = absurd cc
-spot_is (Queued n) (Queued j) h = ap (λ (x : ℕ). Queued x) (eqb_true n j h)
-spot_is (Granted n) (Granted j) h = ap (λ (x : ℕ). Granted x) (eqb_true n j h)
-spot_is Unasked (OnWay j l) h = absurd cc
-spot_is Unasked (Queued j) h = absurd cc
-spot_is Unasked (Granted j) h = absurd cc
-spot_is (OnWay n k) Unasked h = absurd cc
-spot_is (OnWay n k) (Queued j) h = absurd cc
-spot_is (OnWay n k) (Granted j) h = absurd cc
-spot_is (Queued n) Unasked h = absurd cc
-spot_is (Queued n) (OnWay j l) h = absurd cc
-spot_is (Queued n) (Granted j) h = absurd cc
-spot_is (Granted n) Unasked h = absurd cc
-spot_is (Granted n) (OnWay j l) h = absurd cc
-spot_is (Granted n) (Queued j) h = absurd cc
-
-spot_same : (s : Spot) → same_spot s s ≡ true
-spot_same Unasked = refl
-spot_same (OnWay n k) = rw (same_true n, same_true k) refl
-spot_same (Queued n) = same_true n
-spot_same (Granted n) = same_true n
-
--- a number at one spot, and 0 at each other
-abbrev pub at_spot : Spot → ℕ → Spot → ℕ
-at_spot x c t = cond (same_spot x t) c 0
-
--- 1 at one spot alone
-abbrev pub IsAlone : (Spot → ℕ) → Spot → Type 0
-IsAlone f s = (t : Spot) → f t ≡ at_spot s 1 t
-
--- what goes from one spot to another leaves one spot
-moves_spot : (f g : Spot → ℕ) (x y : Spot) (c : ℕ) → ((t : Spot) → g t + at_spot x c t ≡ f t + at_spot y c t) → (s : Spot) → IsAlone f s → (r : Spot) × IsAlone g r
-moves_spot f g x y zero h s a = (s, λ t. by_tests t (same_spot x t) (same_spot y t) (h t))
-  where
-    by_tests : (t : Spot) (p q : Bool) → g t + cond p 0 0 ≡ f t + cond q 0 0 → g t ≡ at_spot s 1 t
-    by_tests t true true e = omega (arith, a t, e)
-    by_tests t true false e = omega (arith, a t, e)
-    by_tests t false true e = omega (arith, a t, e)
-    by_tests t false false e = omega (arith, a t, e)
-moves_spot f g x y (suc c) h s a = by_place (same_spot y x) refl
-  where
-    stays : x ≡ y → (t : Spot) → g t ≡ at_spot s 1 t
-    stays e t = by_test (same_spot x t) (subst (λ z. g t + at_spot x (suc c) t ≡ f t + at_spot z (suc c) t) (sym e) (h t))
-      where
-        by_test : (p : Bool) → g t + cond p (suc c) 0 ≡ f t + cond p (suc c) 0 → g t ≡ at_spot s 1 t
-        by_test true e = omega (arith, a t, e)
-        by_test false e = omega (arith, a t, e)
-
-    at_x : same_spot y x ≡ false → g x + suc c ≡ f x
-    at_x e =
-        let both : g x + cond true (suc c) 0 ≡ f x + cond {A = ℕ} false (suc c) 0 = rw (spot_same x, e) at (h x) in
-        omega (arith, both)
-
-    at_most : (t : Spot) (p : Bool) → f t ≡ cond p 1 0 → f t ≤ 1
-    at_most t true e = omega (arith, e)
-    at_most t false e = omega (arith, e)
-
-    one : same_spot y x ≡ false → c ≡ 0
-    one e = omega (arith, at_x e, at_most x (same_spot s x) (a x))
-
-    is_x : same_spot y x ≡ false → s ≡ x
-    is_x e = by_test (same_spot s x) refl (a x)
-      where
-        by_test : (p : Bool) → same_spot s x ≡ p → f x ≡ cond p 1 0 → s ≡ x
-        by_test true is e2 = spot_is s x is
-        by_test false is e2 = absurd (omega (arith, at_x e, e2))
-
-    goes : same_spot y x ≡ false → (t : Spot) → g t ≡ at_spot y 1 t
-    goes e t =
-        let was : f t ≡ cond (same_spot x t) 1 0 = a t ∙ ap (λ z. at_spot z 1 t) (is_x e) in
-        by_tests (same_spot x t) (same_spot y t) (subst (λ k. g t + at_spot x (suc k) t ≡ f t + at_spot y (suc k) t) (one e) (h t)) was
-      where
-        by_tests : (p q : Bool) → g t + cond p 1 0 ≡ f t + cond q 1 0 → f t ≡ cond p 1 0 → g t ≡ cond q 1 0
-        by_tests true true e f = omega (arith, e, f)
-        by_tests true false e f = omega (arith, e, f)
-        by_tests false true e f = omega (arith, e, f)
-        by_tests false false e f = omega (arith, e, f)
-
-    by_place : (p : Bool) → same_spot y x ≡ p → (r : Spot) × IsAlone g r
-    by_place true e = (s, stays (sym (spot_is y x e)))
-    by_place false e = (y, goes e)
-
 -- ## what stands at a spot
 
 -- 1 where a mode isn't wanted, or is ready
@@ -187,7 +72,7 @@ wants_or_not m (Some b) = by_want b.part.want b.part.ready
 -- how often the want of a node in a mode stands at a spot
 abbrev pub stands : Object → Mode → ℕ → Spot → ℕ
 stands w m a Unasked = unwanting m (w.holds a)
-stands w m a (OnWay n k) = tally (ask m a) (notes (w.channel n k))
+stands w m a (InFlight n k) = tally (ask m a) (notes (w.channel n k))
 stands w m a (Queued n) = queued m a (queue_at (w.holds n))
 stands w m a (Granted n) = tally (granting m) (notes (w.channel n a))
 
@@ -217,7 +102,7 @@ record IsMute (notes : List Note) : Type 0 where
 -- so often node a's want in mode m leaves a spot, where node me takes a note or none, and its queue and its own want
 -- change
 record Leaves (me from : ℕ) (taken : Option Note) (m : Mode) (a : ℕ) (q r : List Ask) (u v : ℕ) (x : Spot) (c : ℕ) : Type 0 where
-  channel : (n k : ℕ) → at_spot x c (OnWay n k) ≡ tally (ask m a) (came from me taken n k)
+  channel : (n k : ℕ) → at_spot x c (InFlight n k) ≡ tally (ask m a) (came from me taken n k)
   grant : (n : ℕ) → at_spot x c (Granted n) ≡ tally (granting m) (came from me taken n a)
   queue : queued m a r + at_spot x c (Queued me) ≡ queued m a q
   other : (n : ℕ) → n ≢ me → at_spot x c (Queued n) ≡ 0
@@ -226,7 +111,7 @@ record Leaves (me from : ℕ) (taken : Option Note) (m : Mode) (a : ℕ) (q r : 
 
 -- so often it comes to one, where node me sends notes, and its queue and its own want change
 record Comes (me : ℕ) (sends : List Send) (m : Mode) (a : ℕ) (q r : List Ask) (u v : ℕ) (y : Spot) (c : ℕ) : Type 0 where
-  channel : (n k : ℕ) → at_spot y c (OnWay n k) ≡ tally (ask m a) (sent me sends n k)
+  channel : (n k : ℕ) → at_spot y c (InFlight n k) ≡ tally (ask m a) (sent me sends n k)
   grant : (n : ℕ) → at_spot y c (Granted n) ≡ tally (granting m) (sent me sends n a)
   queue : queued m a r ≡ queued m a q + at_spot y c (Queued me)
   other : (n : ℕ) → n ≢ me → at_spot y c (Queued n) ≡ 0
@@ -247,7 +132,7 @@ holds_else o p me from taken t h n e = h.holds n ∙ ap (λ (u : Bool). cond u t
 
 effect_moves : (o p : Object) (me from : ℕ) (taken : Option Note) (t : Turn) → Moves o p me from taken t → (m : Mode) (a : ℕ) (e : SomeEffect me from taken (o.holds me) t m a) (s : Spot) →
     stands p m a s + at_spot e.0 e.2 s ≡ stands o m a s + at_spot e.1 e.2 s
-effect_moves o p me from taken t h m a e (OnWay n k) =
+effect_moves o p me from taken t h m a e (InFlight n k) =
     omega (arith, e.5.channel n k, e.6.channel n k, tally-before (ask m a) o p me from taken t h n k, tally-after (ask m a) o p me from taken t h n k)
 effect_moves o p me from taken t h m a e (Granted n) =
     omega (arith, e.5.grant n, e.6.grant n, tally-before (granting m) o p me from taken t h n a, tally-after (granting m) o p me from taken t h n a)
@@ -280,7 +165,7 @@ both_was true q c = refl
 both_was false q c = refl
 
 -- what stands in the channel that a note was taken of, and in the channel that one was put on
-way_came : (f : Note → ℕ) (from me : ℕ) (note : Note) (n k : ℕ) → at_spot (OnWay from me) (f note + 0) (OnWay n k) ≡ tally f (came from me (Some note) n k)
+way_came : (f : Note → ℕ) (from me : ℕ) (note : Note) (n k : ℕ) → at_spot (InFlight from me) (f note + 0) (InFlight n k) ≡ tally f (came from me (Some note) n k)
 way_came f from me note n k = both_is (from == n) (me == k) (f note + 0) ∙ sym (tally-came f from me (Some note) n k)
 
 one_sent : (f : Note → ℕ) (me to : ℕ) (note : Note) (n k : ℕ) → tally f (sent me (send to note ∷ []) n k) ≡ cond (me == n) (cond (to == k) (f note + 0) 0) 0
@@ -291,7 +176,7 @@ one_sent f me to note n k = by_tests (me == n) (to == k)
     by_tests true false = refl
     by_tests false q = refl
 
-way_sent : (f : Note → ℕ) (me to : ℕ) (note : Note) (n k : ℕ) → at_spot (OnWay me to) (f note + 0) (OnWay n k) ≡ tally f (sent me (send to note ∷ []) n k)
+way_sent : (f : Note → ℕ) (me to : ℕ) (note : Note) (n k : ℕ) → at_spot (InFlight me to) (f note + 0) (InFlight n k) ≡ tally f (sent me (send to note ∷ []) n k)
 way_sent f me to note n k = both_was (me == n) (to == k) (f note + 0) ∙ sym (one_sent f me to note n k)
 
 no_came : (f : Note → ℕ) (from me : ℕ) (taken : Option Note) (n k : ℕ) → tally f (option_to_list taken) ≡ 0 → 0 ≡ tally f (came from me taken n k)
@@ -385,7 +270,7 @@ passes me from taken h t m a q w x l =
     (Unasked, Unasked, 0, queue_at h, unwanting m h, leaves_nothing me from taken m a _ _ x, rw (q, u) (comes_nothing me t.sends m a _ _ l))
 
 -- it is asked of a note that is taken, or put into one that is sent
-leaves_way : (me from : ℕ) (n : Mode) (asker : ℕ) (m : Mode) (a : ℕ) (q : List Ask) (u : ℕ) → Leaves me from (Some (Asks n asker)) m a q q u u (OnWay from me) (ask m a (Asks n asker) + 0)
+leaves_way : (me from : ℕ) (n : Mode) (asker : ℕ) (m : Mode) (a : ℕ) (q : List Ask) (u : ℕ) → Leaves me from (Some (Asks n asker)) m a q q u u (InFlight from me) (ask m a (Asks n asker) + 0)
 leaves_way me from n asker m a q u = record {
   channel = λ j k. way_came (ask m a) from me (Asks n asker) j k;
   grant = λ j. no_came (granting m) from me (Some (Asks n asker)) j a refl;
@@ -395,7 +280,7 @@ leaves_way me from n asker m a q u = record {
   unwant = λ d. refl;
 }
 
-comes_way : (me to : ℕ) (n : Mode) (asker : ℕ) (m : Mode) (a : ℕ) (q : List Ask) (u : ℕ) → Comes me (send to (Asks n asker) ∷ []) m a q q u u (OnWay me to) (ask m a (Asks n asker) + 0)
+comes_way : (me to : ℕ) (n : Mode) (asker : ℕ) (m : Mode) (a : ℕ) (q : List Ask) (u : ℕ) → Comes me (send to (Asks n asker) ∷ []) m a q q u u (InFlight me to) (ask m a (Asks n asker) + 0)
 comes_way me to n asker m a q u = record {
   channel = λ j k. way_sent (ask m a) me to (Asks n asker) j k;
   grant = λ j. no_sent (granting m) me (send to (Asks n asker) ∷ []) j a (nothing-send (granting m) a to (Asks n asker) [] refl refl);
@@ -459,7 +344,7 @@ no_want m n a me d = omega (arith, apart_ask m n a me d)
 wants : (me from : ℕ) (b : Share) (n : Mode) (parent : ℕ) (m : Mode) (a : ℕ) → b.part.want ≡ None → b.part.ready ≡ false →
     SomeEffect me from None (Some b) (saying (with_token b record b.part { want = Some n }) (send parent (Asks n me) ∷ [])) m a
 wants me from b n parent m a w r =
-    (Unasked, OnWay me parent, ask m a (Asks n me) + 0, b.part.queue, _, leaves_want me from m a _ _ _ _ (now_wants me a b m n w r) (no_want m n a me), comes_way me parent n me m a _ _)
+    (Unasked, InFlight me parent, ask m a (Asks n me) + 0, b.part.queue, _, leaves_want me from m a _ _ _ _ (now_wants me a b m n w r) (no_want m n a me), comes_way me parent n me m a _ _)
 
 joins : (me from : ℕ) (b : Share) (m : Mode) (a : ℕ) → b.part.want ≡ None → b.part.ready ≡ false →
     SomeEffect me from None (Some b) (silently (with_token b record b.part { want = Some Write; queue = b.part.queue ++ record { asker = me; mode = Write } ∷ [] })) m a
@@ -468,11 +353,11 @@ joins me from b m a w r =
 
 arrives : (me from : ℕ) (b : Share) (n : Mode) (asker : ℕ) (m : Mode) (a : ℕ) →
     SomeEffect me from (Some (Asks n asker)) (Some b) (silently (with_token b record b.part { queue = b.part.queue ++ record { asker = asker; mode = n } ∷ [] })) m a
-arrives me from b n asker m a = (OnWay from me, Queued me, ask m a (Asks n asker) + 0, b.part.queue, _, leaves_way me from n asker m a _ _, comes_queue me m a _ record { asker = asker; mode = n } _)
+arrives me from b n asker m a = (InFlight from me, Queued me, ask m a (Asks n asker) + 0, b.part.queue, _, leaves_way me from n asker m a _ _, comes_queue me m a _ record { asker = asker; mode = n } _)
 
 forwards : (me from : ℕ) (b : Share) (n : Mode) (asker parent : ℕ) (m : Mode) (a : ℕ) →
     SomeEffect me from (Some (Asks n asker)) (Some b) (saying b (send parent (Asks n asker) ∷ [])) m a
-forwards me from b n asker parent m a = (OnWay from me, OnWay me parent, ask m a (Asks n asker) + 0, b.part.queue, _, leaves_way me from n asker m a _ _, comes_way me parent n asker m a _ _)
+forwards me from b n asker parent m a = (InFlight from me, InFlight me parent, ask m a (Asks n asker) + 0, b.part.queue, _, leaves_way me from n asker m a _ _, comes_way me parent n asker m a _ _)
 
 -- what a grant weighs
 plus_none : (p : Bool) → cond {A = ℕ} p 1 0 + 0 ≡ cond p 1 0
@@ -557,7 +442,7 @@ hands_over me from b asker rest m a q once = by_head (same_mode m Write && (aske
         )
     by_head false e = (
       Queued me,
-      OnWay me asker,
+      InFlight me asker,
       queued m a rest,
       [],
       _,
@@ -806,21 +691,6 @@ acts_moved me from taken tells h t (GetsBack b e role waited x f) once s =
 
 -- ## what is kept
 
-at_most_one : (s t : Spot) → at_spot s 1 t ≤ 1
-at_most_one s t = by_test (same_spot s t)
-  where
-    by_test : (p : Bool) → cond {A = ℕ} p 1 0 ≤ 1
-    by_test true = omega arith
-    by_test false = omega arith
-
--- what stands at one spot stands at no other
-pub alone_elsewhere : (f : Spot → ℕ) (s x y : Spot) → IsAlone f s → 1 ≤ f x → same_spot x y ≡ false → f y ≡ 0
-alone_elsewhere f s x y a some apart = by_test (same_spot s x) refl (a x)
-  where
-    by_test : (p : Bool) → same_spot s x ≡ p → f x ≡ cond p 1 0 → f y ≡ 0
-    by_test true is e = a y ∙ ap (λ z. at_spot z 1 y) (spot_is s x is) ∙ ap (λ (p : Bool). cond {A = ℕ} p 1 0) apart
-    by_test false is e = absurd (omega (arith, some, e))
-
 once_of : (o : Object) (me : ℕ) → IsRequested o → IsOnce me (o.holds me)
 once_of o me r = record {
   once = λ m a. (let s : (s : Spot) × IsAlone (stands o m a) s = r.spots m a in omega (arith, s.1 (Queued me), at_most_one s.0 (Queued me)));
@@ -875,7 +745,7 @@ requested_first o first = record { nodes = λ a. (fresh a).0; spots = λ m a. (U
 
     alone : (m : Mode) (a : ℕ) → IsAlone (stands o m a) Unasked
     alone m a Unasked = (fresh a).1 m
-    alone m a (OnWay n k) = ap (λ z. tally (ask m a) (notes z)) ((untouched o first).channel n k)
+    alone m a (InFlight n k) = ap (λ z. tally (ask m a) (notes z)) ((untouched o first).channel n k)
     alone m a (Queued n) = (fresh n).2 m a
     alone m a (Granted n) = ap (λ z. tally (granting m) (notes z)) ((untouched o first).channel n a)
 

@@ -23,7 +23,8 @@ use Rattle.bmx_token_model.proofs.Sound.{IsSoundIf}
 use Rattle.bmx_token_model.proofs.Views.{reads_of, waits_of, due_to, due_as}
 use Rattle.bmx_token_model.proofs.Shared.{IsShared, shared_run}
 use Rattle.bmx_token_model.proofs.Readers.{one_or_more}
-use Rattle.bmx_token_model.proofs.Requests.{IsRequested, queued, Spot, Unasked, OnWay, Queued, Granted, IsAlone, same_spot, stands, unwanting, unwanting_as, wants_or_not, requested_run}
+use Rattle.bmx_token_model.proofs.Spots.{Spot, Unasked, InFlight, Queued, Granted, IsAlone, same_spot}
+use Rattle.bmx_token_model.proofs.Requests.{IsRequested, queued, stands, unwanting, unwanting_as, wants_or_not, requested_run}
 use Rattle.bmx_token_model.proofs.Letters.{IsIn, Recorded, NoGift, Knows, orderly_run, giving_run}
 use Rattle.bmx_token_model.proofs.Parents.{AnswersFor, IsPointed, pointed_run, granted_wants, over_there}
 use Rattle.bmx_token_model.proofs.Asked.{some_brings, fits_there, over_brings, has_record, NoAsk, asked_run}
@@ -57,7 +58,7 @@ counted_queue m a (q ∷ queue) =
 -- ## wants
 
 abbrev spot_of : law.Spot → Spot
-spot_of (law.Requested n k) = OnWay n k
+spot_of (law.Requested n k) = InFlight n k
 spot_of (law.Queued n) = Queued n
 spot_of (law.Granted n) = Granted n
 
@@ -93,7 +94,7 @@ placed_at o m a s alone = record { spot = s; once = λ t. standing_stands o m a 
 
 placed : (o : Object) (m : Mode) (a : ℕ) → IsWaiting o m a → (s : Spot) → IsAlone (stands o m a) s → IsPlaced o m a
 placed o m a w Unasked alone = absurd (omega (arith, waiting_unwanting o m a w, alone Unasked))
-placed o m a w (OnWay n k) alone = placed_at o m a (law.Requested n k) alone
+placed o m a w (InFlight n k) alone = placed_at o m a (law.Requested n k) alone
 placed o m a w (Queued n) alone = placed_at o m a (law.Queued n) alone
 placed o m a w (Granted n) alone = placed_at o m a (law.Granted n) alone
 
