@@ -105,15 +105,16 @@ pub data IsSomewhere (st : Setting) (w : World) (x : ℕ) : Type 0 where
   At : (n : ℕ) (k : Known) → n < st.nodes → (w.state n).known x ≡ Some k → IsSomewhere st w x
   Between : (n m : ℕ) (l : Letter) → n < st.nodes → m < st.nodes → Contains (w.channel n m) l → Speaks l x → IsSomewhere st w x
 
--- one node owns x, and no other
-pub record HasOneOwner (w : World) (x : ℕ) : Type 0 where
+-- one node of the store owns x, and no other
+pub record HasOneOwner (st : Setting) (w : World) (x : ℕ) : Type 0 where
   pub owner : ℕ
+  pub a_node : owner < st.nodes
   pub owns : Owns w x owner
   pub alone : (n : ℕ) → Owns w x n → n ≡ owner
 
 -- each name that stands somewhere has one owner
 abbrev pub EachHasOneOwner : Setting → World → Type 0
-EachHasOneOwner st w = (x : ℕ) → IsSomewhere st w x → HasOneOwner w x
+EachHasOneOwner st w = (x : ℕ) → IsSomewhere st w x → HasOneOwner st w x
 
 -- while a node holds x for writing, no other node holds it
 abbrev pub WritesExclude : Setting → World → Type 0

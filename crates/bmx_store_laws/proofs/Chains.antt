@@ -2,13 +2,13 @@
 -- or to who gave ownership.
 use Rattle.std.proofs.Common.{◌≡◌, inl, inr, ℕ, suc, ◌<◌, arith, refl, ap, sym, ◌∙◌, Bool, true, false, List, [], ◌∷◌, map}
 use Rattle.std.proofs.lemmas.Bool.Decides.{nat_tests}
-use Rattle.std.specs.Prelude.{◌⊎◌, nat_lt, Some, None, Contains}
+use Rattle.std.specs.Prelude.{◌⊎◌, nat_lt, is_some, Option, Some, None, Contains}
 use Rattle.bmx_msg.specs.declared.letters.Letter.{Letter}
 use Rattle.bmx_token.specs.declared.parts.Role.TheVariants as role
 use Rattle.bmx_token.specs.Turns.{Share}
 use Rattle.bmx_protocol.specs.Nodes.{Setting, Known, share_of}
 use Rattle.bmx_protocol.specs.Worlds.{World, HasParent, Owned, Gave, Leads, Here, On, HasChain, EachHasChain}
-use Rattle.bmx_token_model.specs.Machine.{Message, brings}
+use Rattle.bmx_token_model.specs.Machine.{Object, Message, brings}
 use Rattle.bmx_token_model.specs.Laws.{IsBrought, Ends, IsBelow, ParentsLead}
 use Rattle.bmx_token_model.specs.Laws as model
 use Rattle.bmx_token_model.proofs.Readers.{one_or_more}
@@ -60,18 +60,22 @@ chain_in w x n steps (model.On {parent = parent} {steps = fewer} h has asks rest
     let k : (j : Known) × HasParent w x n parent j = parent_in w x n parent h has asks in
     On k.0 k.1 (chain_in w x parent fewer rest)
 
+-- who knows the object is a node, where no number beyond the nodes knows it
+pub nodes_of : (st : Setting) (o : Object) → ((n : ℕ) → (n < st.nodes → ⊥) → o.holds n ≡ None) → (n : ℕ) → is_some (o.holds n) ≡ true → n < st.nodes
+nodes_of st o beyond n knows = by_test (nat_lt n st.nodes) (lt_is n st.nodes) (not_lt n st.nodes)
+  where
+    nothing : (h : Option Share) → h ≡ None → is_some h ≡ true → ⊥
+    nothing h none some = (let both : false ≡ true = ap (λ (i : Option Share). is_some i) (sym none) ∙ some in cc)
+
+    by_test : (t : Bool) → (t ≡ true → n < st.nodes) → (t ≡ false → n < st.nodes → ⊥) → n < st.nodes
+    by_test true q d = q refl
+    by_test false q d = absurd (nothing (o.holds n) (beyond n (d refl)) knows)
+
 pub chains : (st : Setting) (w : World) → ((x : ℕ) → ParentsLead (seen x w)) → ((x n : ℕ) → (n < st.nodes → ⊥) → (seen x w).holds n ≡ None) → EachHasChain st w
 chains st w leads beyond n x k real has = by_chain ((leads x).chains st.nodes below n (share_of k) (ap seen_known has))
   where
-    nothing : (m : ℕ) (h : Share) → (seen x w).holds m ≡ None → (seen x w).holds m ≡ Some h → ⊥
-    nothing m h none some = (let both : None ≡ Some h = sym none ∙ some in cc)
-
     below : IsBelow (seen x w) st.nodes
-    below m h known = by_test (nat_lt m st.nodes) (lt_is m st.nodes) (not_lt m st.nodes)
-      where
-        by_test : (t : Bool) → (t ≡ true → m < st.nodes) → (t ≡ false → m < st.nodes → ⊥) → m < st.nodes
-        by_test true q d = q refl
-        by_test false q d = absurd (nothing m h (beyond x m (d refl)) known)
+    below m h known = nodes_of st (seen x w) (beyond x) m (ap (λ (i : Option Share). is_some i) known)
 
     by_chain : (steps : ℕ) × (steps < st.nodes) × model.Leads (seen x w) n steps → HasChain st w x n
     by_chain c = (c.0, c.1, chain_in w x n c.0 c.2)

@@ -1,9 +1,15 @@
 -- The laws of the model of one object, over legal histories.
-use Rattle.std.proofs.Common.{inl, inr}
+use Rattle.std.proofs.Common.{ℕ, List, inl, inr}
+use Rattle.bmx_types.specs.Openings.{IsOpening}
+use Rattle.bmx_protocol.specs.declared.events.Event.{Event}
+use Rattle.bmx_protocol.specs.Nodes.{Setting}
+use Rattle.bmx_protocol.specs.Steps.{Node}
+use Rattle.bmx_protocol.specs.Histories.{AreAfter, IsLegal}
 use Rattle.bmx_protocol.specs.Worlds.{world_of}
 use Rattle.bmx_token_model.specs.Laws.{HasOneSeat, ReadersListed, WriteExcludes as Excludes}
 use Rattle.bmx_token_model.proofs.Requests.{IsRequested, requested_run}
 use Rattle.bmx_token_model.proofs.Parents.{IsPointed, pointed_run}
+use Rattle.bmx_token_model.proofs.Chains.{IsChained, chained_run}
 use Rattle.bmx_token_model.specs.Laws.{WantsArePlaced, ParentsLead as Leads}
 use Rattle.bmx_token_model.proofs.Stated.{each_want_is_placed, parents_lead}
 use Rattle.bmx_token_model.proofs.Owners.{ownership_is_one}
@@ -12,19 +18,33 @@ use Rattle.bmx_token_model.proofs.Shared.{tokens_exclude}
 use Rattle.bmx_store_laws.specs.Laws.{IsCounted, OneOwner, OneSeat, ReadersAreListed, WriteExcludes, WantsStandOnce, ParentsAnswer, ParentsLead, NamesAreCounted}
 use Rattle.bmx_store_laws.proofs.Openings.{IsNamed}
 use Rattle.bmx_store_laws.proofs.Histories.{came_after, each_name}
-use Rattle.bmx_store_laws.proofs.Owners.{not_nowhere, each_owner, each_seat, writes_exclude}
+use Rattle.bmx_store_laws.specs.Inside.Seen.{seen}
+use Rattle.bmx_store_laws.proofs.Owners.{AreNodes, GoesBetween, not_nowhere, each_owner, each_seat, writes_exclude}
 use Rattle.bmx_store_laws.proofs.Readers.{each_reader}
 use Rattle.bmx_store_laws.proofs.Wants.{wants_stand}
-use Rattle.bmx_store_laws.proofs.Parents.{parents_answer}
-use Rattle.bmx_store_laws.proofs.Chains.{chains}
+use Rattle.bmx_store_laws.proofs.Parents.{between, parents_answer}
+use Rattle.bmx_store_laws.proofs.Chains.{nodes_of, chains}
+
+real_nodes : (st : Setting) (history : List Event) (nodes : ℕ → Node) → IsOpening st.nodes st.limit st.births → IsLegal st history → AreAfter st history nodes →
+    (x : ℕ) → AreNodes st (world_of nodes history) x
+real_nodes st history nodes opening legal after x = nodes_of st (seen x (world_of nodes history)) (came_after st history nodes opening legal after x).beyond
+
+goes_between : (st : Setting) (history : List Event) (nodes : ℕ → Node) → IsOpening st.nodes st.limit st.births → IsLegal st history → AreAfter st history nodes →
+    (x : ℕ) → GoesBetween st (world_of nodes history) x
+goes_between st history nodes opening legal after x =
+    between st (world_of nodes history) x (each_name IsRequested requested_run st history nodes opening legal after x)
+    (each_name IsChained chained_run st history nodes opening legal after x)
+    (real_nodes st history nodes opening legal after x)
 
 pub one_owner : OneOwner
 one_owner st history nodes opening legal after =
-    each_owner st (world_of nodes history) (each_name HasOneSeat ownership_is_one st history nodes opening legal after)
+    each_owner st (world_of nodes history) (real_nodes st history nodes opening legal after) (goes_between st history nodes opening legal after)
+    (each_name HasOneSeat ownership_is_one st history nodes opening legal after)
 
 pub one_seat : OneSeat
 one_seat st history nodes opening legal after =
-    each_seat st (world_of nodes history) (each_name HasOneSeat ownership_is_one st history nodes opening legal after)
+    each_seat st (world_of nodes history) (real_nodes st history nodes opening legal after) (goes_between st history nodes opening legal after)
+    (each_name HasOneSeat ownership_is_one st history nodes opening legal after)
 
 pub write_excludes : WriteExcludes
 write_excludes st history nodes opening legal after =

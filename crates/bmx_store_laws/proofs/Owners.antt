@@ -1,6 +1,6 @@
 -- What the model's laws say of a store: each name has one seat and one owner, and a write excludes.
-use Rattle.std.proofs.Common.{◌≡◌, inl, inr, ℕ, ◌+◌, ◌≤◌, arith, refl, ap, sym, ◌∙◌, Bool, true, false, cond, List, [], ◌∷◌, ◌++◌, map, suc}
-use Rattle.std.specs.Prelude.{◌==◌, ◌||◌, ◌&&◌, ◌⊎◌, Option, Some, None, Contains}
+use Rattle.std.proofs.Common.{◌≡◌, inl, inr, ℕ, ◌+◌, ◌<◌, ◌≤◌, arith, refl, ap, sym, ◌∙◌, Bool, true, false, cond, List, [], ◌∷◌, ◌++◌, map, suc}
+use Rattle.std.specs.Prelude.{◌==◌, ◌||◌, ◌&&◌, ◌⊎◌, Option, Some, None, is_some, Contains}
 use Rattle.std.specs.Option.{option_map_or}
 use Rattle.std.proofs.lemmas.List.{map-append}
 use Rattle.std.proofs.lemmas.List.Sums.{sum_by-cons}
@@ -179,18 +179,28 @@ at_place : (n m : ℕ) (b : Bool) → (b ≡ true → m ≡ n) → one_if b ≡ 
 at_place n m true q h = q refl
 at_place n m false q h = absurd (omega arith)
 
-seat_in : (w : World) (x : ℕ) (s : Seat) → IsOwned (seen x w) s → IsSeated w x
-seat_in w x (model.At n) owned = seated.At n k.0 (record { known = k.1; owns = k.2 })
+-- who knows x is a node of the store
+abbrev pub AreNodes : Setting → World → ℕ → Type 0
+AreNodes st w x = (n : ℕ) → is_some ((seen x w).holds n) ≡ true → n < st.nodes
+
+-- ownership of x goes from one node of the store to another
+abbrev pub GoesBetween : Setting → World → ℕ → Type 0
+GoesBetween st w x = (from to : ℕ) → handovers_of x (w.channel from to) ≡ 1 → (from < st.nodes) × (to < st.nodes)
+
+seat_in : (st : Setting) (w : World) (x : ℕ) → AreNodes st w x → GoesBetween st w x → (s : Seat) → IsOwned (seen x w) s → IsSeated st w x
+seat_in st w x real between (model.At n) owned = seated.At n k.0 (real n (ap (λ (i : Option Known). is_some (seen_known i)) k.1)) (record { known = k.1; owns = k.2 })
     (λ m j has. at_place n m (m == n) (eqb_is m n) (sym (owned.nodes m) ∙ known_owned w x m j has))
     (λ from to. sym (hands_in x (w.channel from to)) ∙ owned.letters from to)
   where
     k : (j : Known) × ((w.state n).known x ≡ Some j) × (j.part.role ≡ role.Owner)
     k = owned_known ((w.state n).known x) (owned.nodes n ∙ ap one_if (eqb_same n))
-seat_in w x (model.Moving from to) owned = seated.Moving from to
-    (sym (hands_in x (w.channel from to)) ∙ owned.letters from to ∙ (λ i. one_if (eqb_same from i && eqb_same to i)))
+seat_in st w x real between (model.Moving from to) owned = seated.Moving from to (between from to one).0 (between from to one).1 one
     (λ n m apart. sym (hands_in x (w.channel n m)) ∙ owned.letters n m ∙ elsewhere (two n from) (two m to) apart)
     (λ m j has. (let both : 0 ≡ 1 = sym (owned.nodes m) ∙ known_owned w x m j has in cc))
   where
+    one : handovers_of x (w.channel from to) ≡ 1
+    one = sym (hands_in x (w.channel from to)) ∙ owned.letters from to ∙ (λ i. one_if (eqb_same from i && eqb_same to i))
+
     elsewhere : {n m : ℕ} → Two n from → Two m to → (n ≡ from → m ≡ to → ⊥) → one_if ((n == from) && (m == to)) ≡ 0
     elsewhere (Same e) (Same f) apart = absurd (apart e f)
     elsewhere {n = n} {m = m} (Same e) (Apart f d) apart = (λ i. one_if ((n == from) && f i)) ∙ by_test (n == from)
@@ -200,14 +210,15 @@ seat_in w x (model.Moving from to) owned = seated.Moving from to
         by_test false = refl
     elsewhere {m = m} (Apart f d) q apart = λ i. one_if (f i && (m == to))
 
-owner_in : (w : World) (x : ℕ) → IsSeated w x → HasOneOwner w x
-owner_in w x (seated.At n k has others none) = record { owner = n; owns = Has k has; alone = alone }
+owner_in : (st : Setting) (w : World) (x : ℕ) → IsSeated st w x → HasOneOwner st w x
+owner_in st w x (seated.At n k real has others none) = record { owner = n; a_node = real; owns = Has k has; alone = alone }
   where
     alone : (m : ℕ) → Owns w x m → m ≡ n
     alone m (Has j owned) = others m j owned
     alone m (Gets from l info fields moving) = absurd (omega (arith, moving_counted w x from m l info fields moving, none from m))
-owner_in w x (seated.Moving from to one elsewhere none) = record {
+owner_in st w x (seated.Moving from to _ real one elsewhere none) = record {
   owner = to;
+  a_node = real;
   owns = Gets from h.letter h.info h.fields (record { there = h.there; grants = h.grants; named = h.named });
   alone = alone;
 }
@@ -223,15 +234,16 @@ owner_in w x (seated.Moving from to one elsewhere none) = record {
         by_two (Same e) = e
         by_two (Apart f d) = absurd (omega (arith, moving_counted w x other m l info fields moving, elsewhere other m (λ _ e. d e)))
 
-pub each_seat : (st : Setting) (w : World) → ((x : ℕ) → HasOneSeat (seen x w)) → (x : ℕ) → IsSomewhere st w x → IsSeated w x
-each_seat st w seats x somewhere = by_seat (seats x)
+pub each_seat : (st : Setting) (w : World) → ((x : ℕ) → AreNodes st w x) → ((x : ℕ) → GoesBetween st w x) → ((x : ℕ) → HasOneSeat (seen x w)) →
+    (x : ℕ) → IsSomewhere st w x → IsSeated st w x
+each_seat st w real between seats x somewhere = by_seat (seats x)
   where
-    by_seat : HasOneSeat (seen x w) → IsSeated w x
+    by_seat : HasOneSeat (seen x w) → IsSeated st w x
     by_seat (inl nowhere) = absurd (not_nowhere st w x somewhere nowhere)
-    by_seat (inr seat) = seat_in w x seat.0 seat.1
+    by_seat (inr seat) = seat_in st w x (real x) (between x) seat.0 seat.1
 
-pub each_owner : (st : Setting) (w : World) → ((x : ℕ) → HasOneSeat (seen x w)) → EachHasOneOwner st w
-each_owner st w seats x somewhere = owner_in w x (each_seat st w seats x somewhere)
+pub each_owner : (st : Setting) (w : World) → ((x : ℕ) → AreNodes st w x) → ((x : ℕ) → GoesBetween st w x) → ((x : ℕ) → HasOneSeat (seen x w)) → EachHasOneOwner st w
+each_owner st w real between seats x somewhere = owner_in st w x (each_seat st w real between seats x somewhere)
 
 -- ## a write
 

@@ -1,4 +1,5 @@
--- What the model's law of parents says of a store: each parent answers for what it is asked for.
+-- What the model's laws of requests and parents say of a store: ownership goes from one of its nodes to another, and
+-- each parent answers for what it is asked for.
 use Rattle.std.proofs.Common.{◌≡◌, inl, inr, ℕ, ◌+◌, ◌≤◌, arith, refl, ap, sym, ◌∙◌, Bool, true, false, List, [], ◌∷◌}
 use Rattle.std.specs.Prelude.{◌⊎◌, Option, Some, None, IsSome, is_some}
 use Rattle.std.specs.Option.{option_to_list}
@@ -11,12 +12,13 @@ use Rattle.bmx_protocol.specs.Worlds.{World, IsHandedOver, EachParentAnswers}
 use Rattle.bmx_token_model.specs.Machine.{Message, brings}
 use Rattle.bmx_token_model.specs.Laws.{handovers_in}
 use Rattle.bmx_token_model.proofs.Tallies.{notes, tally, tally-append, handover, handover-brings}
-use Rattle.bmx_token_model.proofs.Roles.{Under, stance, stance_as}
+use Rattle.bmx_token_model.proofs.Roles.{Under, Absent, stance, stance_as, some_stance}
 use Rattle.bmx_token_model.proofs.Requests.{unwanting, unwanting_as, IsRequested}
-use Rattle.bmx_token_model.proofs.Parents.{IsPointed, granted_wants}
+use Rattle.bmx_token_model.proofs.Parents.{IsPointed, granted_wants, granted_knows}
+use Rattle.bmx_token_model.proofs.Chains.{IsChained}
 use Rattle.bmx_token_model.proofs.Parents as model
 use Rattle.bmx_store_laws.specs.Inside.Seen.{seen, seen_known, seen_record}
-use Rattle.bmx_store_laws.proofs.Owners.{one_if, hands_in, HandsAmong, among, moving_counted}
+use Rattle.bmx_store_laws.proofs.Owners.{AreNodes, GoesBetween, one_if, hands_in, HandsAmong, among, moving_counted}
 
 -- the letters that bring ownership are those that the model tallies
 handovers_tallied : (letters : List Message) → tally handover (notes letters) ≡ handovers_in letters
@@ -56,6 +58,16 @@ want_there k e = by_want k.part.want k.part.ready e
     by_want (Some m) true e = absurd (omega (arith, e))
     by_want (Some mode.Read) false e = absurd (omega (arith, e))
     by_want (Some mode.Write) false e = refl
+
+-- ownership goes from one node of the store to another
+pub between : (st : Setting) (w : World) (x : ℕ) → IsRequested (seen x w) → IsChained (seen x w) → AreNodes st w x → GoesBetween st w x
+between st w x requested chained real from to one = (
+  real from (some_stance ((seen x w).holds from) (λ none. (let both : Under to ≡ Absent = sym (chained.givers from to over) ∙ none in cc))),
+  real to (granted_knows (seen x w) from to requested over),
+)
+  where
+    over : 1 ≤ tally handover (notes ((seen x w).channel from to))
+    over = omega (arith, one, handovers_tallied ((seen x w).channel from to), hands_in x (w.channel from to))
 
 pub parents_answer : (st : Setting) (w : World) → ((x : ℕ) → IsPointed (seen x w)) → ((x : ℕ) → IsRequested (seen x w)) → EachParentAnswers st w
 parents_answer st w pointed requested n x parent k real has = record {

@@ -44,15 +44,16 @@ handovers_of x letters = count_by (λ (l : Letter). is_handover_of x l.msg) lett
 
 -- ownership of x has one seat: one node has the owner's role, and no grant of ownership is in flight; or no
 -- node has, and one grant is, between two nodes
-pub data IsSeated (w : World) (x : ℕ) : Type 0 where
-  At : (n : ℕ) (k : Known) → HasOwned w x n k → ((m : ℕ) (j : Known) → HasOwned w x m j → m ≡ n) →
-      ((from to : ℕ) → handovers_of x (w.channel from to) ≡ 0) → IsSeated w x
-  Moving : (from to : ℕ) → handovers_of x (w.channel from to) ≡ 1 → ((n m : ℕ) → (n ≡ from → m ≡ to → ⊥) → handovers_of x (w.channel n m) ≡ 0) →
-      ((m : ℕ) (j : Known) → HasOwned w x m j → ⊥) → IsSeated w x
+pub data IsSeated (st : Setting) (w : World) (x : ℕ) : Type 0 where
+  At : (n : ℕ) (k : Known) → n < st.nodes → HasOwned w x n k → ((m : ℕ) (j : Known) → HasOwned w x m j → m ≡ n) →
+      ((from to : ℕ) → handovers_of x (w.channel from to) ≡ 0) → IsSeated st w x
+  Moving : (from to : ℕ) → from < st.nodes → to < st.nodes → handovers_of x (w.channel from to) ≡ 1 →
+      ((n m : ℕ) → (n ≡ from → m ≡ to → ⊥) → handovers_of x (w.channel n m) ≡ 0) →
+      ((m : ℕ) (j : Known) → HasOwned w x m j → ⊥) → IsSeated st w x
 
 -- ownership of each name that stands somewhere has one seat
 abbrev pub OneSeat : Type 0
-OneSeat = Always (λ st w. (x : ℕ) → IsSomewhere st w x → IsSeated w x)
+OneSeat = Always (λ st w. (x : ℕ) → IsSomewhere st w x → IsSeated st w x)
 
 -- while a node holds an object for writing, no other node holds it
 abbrev pub WriteExcludes : Type 0

@@ -1,13 +1,14 @@
 ghost use Rattle.bmx_store_laws.specs.Laws.{OneOwner, OneSeat, ReadersAreListed, WriteExcludes, WantsStandOnce, ParentsAnswer, ParentsLead, NamesAreCounted, LawsApply};
 
-/// The law that in every legal history each name that stands somewhere has one owner. It does nothing.
+/// The law that in every legal history each name that stands somewhere has one owner, a node of the store. It
+/// does nothing.
 pub fn one_owner()
     ensures { OneOwner }
 {}
 
 /// The law that in every legal history the ownership of each name that stands somewhere has one seat: one
 /// node has the owner's role and no grant of ownership is in flight, or no node has and exactly one grant
-/// is. It does nothing.
+/// is, from one node to another. It does nothing.
 pub fn one_seat()
     ensures { OneSeat }
 {}
