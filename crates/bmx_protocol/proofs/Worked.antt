@@ -1,6 +1,6 @@
--- A run worked by hand is legal.
-use Rattle.std.proofs.Common.{◌≡◌, ℕ, ◌<◌, ◌≤◌, arith, refl, ap, sym, subst, ◌∙◌, Bool, true, false, List, [], ◌∷◌, ◌++◌, length, take, zero, suc, cond}
-use Rattle.std.specs.Prelude.{nat_lt, nat_le, ◌&&◌, ◌==◌, Contains, if◌then◌else◌, slice_index_or}
+-- Two runs worked by hand are legal.
+use Rattle.std.proofs.Common.{◌≡◌, ℕ, ◌+◌, ◌^◌, ◌<◌, ◌≤◌, arith, refl, ap, sym, subst, ◌∙◌, Bool, true, false, List, [], ◌∷◌, ◌++◌, length, take, zero, suc, cond}
+use Rattle.std.specs.Prelude.{nat_lt, nat_le, ◌&&◌, ◌==◌, Contains, None, if◌then◌else◌, slice_index_or, count_by}
 use Rattle.std.proofs.lemmas.Bool.Decides.{nat_tests}
 use Rattle.bmx_graph.specs.State.{put}
 use Rattle.bmx_protocol.specs.declared.events.Event.{Event}
@@ -10,9 +10,9 @@ use Rattle.bmx_protocol.specs.declared.inputs.NodeAnswer.{NodeAnswer}
 use Rattle.bmx_protocol.specs.declared.inputs.NodeAnswer.TheVariants as answer
 use Rattle.bmx_protocol.specs.Nodes.{Setting}
 use Rattle.bmx_protocol.specs.Steps.{Node, first_node, Told, rule, done_of, closed, MovesTo, IsStep}
-use Rattle.bmx_protocol.specs.Histories.{Fits, Replays}
-use Rattle.bmx_protocol.specs.Cases.{told_at, places_after, one_bunch, told_of_the_object}
-use Rattle.bmx_protocol.specs.Laws.{WorkedRunIsLegal}
+use Rattle.bmx_protocol.specs.Histories.{IsInputOf, IsNext, IsLater, waits_with, IsAgain, Fits, Replays}
+use Rattle.bmx_protocol.specs.Cases.{told_at, places_after, one_bunch, told_of_the_object, written_by_its_taker}
+use Rattle.bmx_protocol.specs.Laws.{WorkedRunsAreLegal}
 use Rattle.bmx_protocol.proofs.Prefixes.{joined, not_empty}
 
 lt_sound : (a b : ℕ) → nat_lt a b ≡ true → a < b
@@ -125,117 +125,94 @@ rising : (past : List Event) (e : Event) → rises past e.node e.stamp ≡ true 
     (f : Event) → Contains past f → f.node ≡ e.node → f.stamp < e.stamp
 rising past e h f there same = rises_sound past e.node e.stamp h f there.0 there.1 there.2 same
 
--- ## the run
+-- ## events by what they compute
 
-abbrev run : List Event
-run = told_of_the_object.past
+-- an event of a store of nodes fits, by tests of its numbers
+fits_by : (st : Setting) (past : List Event) (e : Event) → nat_lt e.node st.nodes ≡ true → IsInputOf st e.input →
+    nat_lt (count_by (λ f. f.node == e.node) past + 1) (2 ^ 55) ≡ true → rises past e.node e.stamp ≡ true → IsLater e.input e.stamp →
+    nat_le e.stamp (length past + 1) ≡ true → IsNext past e.node e.input → IsAgain (waits_with e.node None past) e.input → Fits st past e
+fits_by st past e real input few rise later early next again = record {
+  a_node = lt_sound _ _ real;
+  an_input = input;
+  few = lt_sound _ _ few;
+  rising = rising past e rise;
+  later = later;
+  early = le_sound _ _ early;
+  next = next;
+  again = again;
+}
 
 abbrev st : Setting
 st = one_bunch 2
 
--- event k of the run, from 0
-abbrev at : ℕ → Event
-at k = slice_index_or run k (record { node = 0; stamp = 0; input = input.Serve 0; done = record { answer = answer.Idle; letters = [] } })
+-- event k of a run, from 0
+abbrev event_of : List Event → ℕ → Event
+event_of run k = slice_index_or run k (record { node = 0; stamp = 0; input = input.Serve 0; done = record { answer = answer.Idle; letters = [] } })
 
-fit_0 : Fits st (take 0 run) (at 0)
-fit_0 = record {
-  a_node = lt_sound _ _ refl;
-  an_input = (lt_sound _ _ refl, lt_sound _ _ refl, le_sound _ _ refl);
-  few = lt_sound _ _ refl;
-  rising = rising (take 0 run) (at 0) refl;
-  later = tt;
-  early = le_sound _ _ refl;
-  next = tt;
-  again = tt;
-}
+-- ## a run with an object stored
 
-fit_1 : Fits st (take 1 run) (at 1)
-fit_1 = record {
-  a_node = lt_sound _ _ refl;
-  an_input = lt_sound _ _ refl;
-  few = lt_sound _ _ refl;
-  rising = rising (take 1 run) (at 1) refl;
-  later = tt;
-  early = le_sound _ _ refl;
-  next = tt;
-  again = tt;
-}
+abbrev told : List Event
+told = told_of_the_object.past
 
-fit_2 : Fits st (take 2 run) (at 2)
-fit_2 = record {
-  a_node = lt_sound _ _ refl;
-  an_input = (lt_sound _ _ refl, lt_sound _ _ refl);
-  few = lt_sound _ _ refl;
-  rising = rising (take 2 run) (at 2) refl;
-  later = tt;
-  early = le_sound _ _ refl;
-  next = tt;
-  again = tt;
-}
+told_0 : Fits st (take 0 told) (event_of told 0)
+told_0 = fits_by _ _ _ refl (lt_sound _ _ refl, lt_sound _ _ refl, le_sound _ _ refl) refl refl tt refl tt tt
 
-fit_3 : Fits st (take 3 run) (at 3)
-fit_3 = record {
-  a_node = lt_sound _ _ refl;
-  an_input = lt_sound _ _ refl;
-  few = lt_sound _ _ refl;
-  rising = rising (take 3 run) (at 3) refl;
-  later = tt;
-  early = le_sound _ _ refl;
-  next = tt;
-  again = tt;
-}
+told_1 : Fits st (take 1 told) (event_of told 1)
+told_1 = fits_by _ _ _ refl (lt_sound _ _ refl) refl refl tt refl tt tt
 
-fit_4 : Fits st (take 4 run) (at 4)
-fit_4 = record {
-  a_node = lt_sound _ _ refl;
-  an_input = lt_sound _ _ refl;
-  few = lt_sound _ _ refl;
-  rising = rising (take 4 run) (at 4) refl;
-  later = tt;
-  early = le_sound _ _ refl;
-  next = tt;
-  again = tt;
-}
+told_2 : Fits st (take 2 told) (event_of told 2)
+told_2 = fits_by _ _ _ refl (lt_sound _ _ refl, lt_sound _ _ refl) refl refl tt refl tt tt
 
-fit_5 : Fits st (take 5 run) (at 5)
-fit_5 = record {
-  a_node = lt_sound _ _ refl;
-  an_input = lt_sound _ _ refl;
-  few = lt_sound _ _ refl;
-  rising = rising (take 5 run) (at 5) refl;
-  later = lt_sound _ _ refl;
-  early = le_sound _ _ refl;
-  next = refl;
-  again = tt;
-}
+told_3 : Fits st (take 3 told) (event_of told 3)
+told_3 = fits_by _ _ _ refl (lt_sound _ _ refl) refl refl tt refl tt tt
 
-fit_6 : Fits st (take 6 run) (at 6)
-fit_6 = record {
-  a_node = lt_sound _ _ refl;
-  an_input = tt;
-  few = lt_sound _ _ refl;
-  rising = rising (take 6 run) (at 6) refl;
-  later = tt;
-  early = le_sound _ _ refl;
-  next = tt;
-  again = tt;
-}
+told_4 : Fits st (take 4 told) (event_of told 4)
+told_4 = fits_by _ _ _ refl (lt_sound _ _ refl) refl refl tt refl tt tt
 
-fit_7 : Fits st (take 7 run) (at 7)
-fit_7 = record {
-  a_node = lt_sound _ _ refl;
-  an_input = lt_sound _ _ refl;
-  few = lt_sound _ _ refl;
-  rising = rising (take 7 run) (at 7) refl;
-  later = lt_sound _ _ refl;
-  early = le_sound _ _ refl;
-  next = refl;
-  again = tt;
-}
+told_5 : Fits st (take 5 told) (event_of told 5)
+told_5 = fits_by _ _ _ refl (lt_sound _ _ refl) refl refl (lt_sound _ _ refl) refl refl tt
 
-pub worked_run_is_legal : WorkedRunIsLegal
+told_6 : Fits st (take 6 told) (event_of told 6)
+told_6 = fits_by _ _ _ refl tt refl refl tt refl tt tt
+
+told_7 : Fits st (take 7 told) (event_of told 7)
+told_7 = fits_by _ _ _ refl (lt_sound _ _ refl) refl refl (lt_sound _ _ refl) refl refl tt
+
+-- ## a run with ownership handed over
+
+abbrev written : List Event
+written = written_by_its_taker.past
+
+written_0 : Fits st (take 0 written) (event_of written 0)
+written_0 = fits_by _ _ _ refl (lt_sound _ _ refl) refl refl tt refl tt tt
+
+written_1 : Fits st (take 1 written) (event_of written 1)
+written_1 = fits_by _ _ _ refl (lt_sound _ _ refl) refl refl (lt_sound _ _ refl) refl refl tt
+
+written_2 : Fits st (take 2 written) (event_of written 2)
+written_2 = fits_by _ _ _ refl tt refl refl tt refl tt tt
+
+written_3 : Fits st (take 3 written) (event_of written 3)
+written_3 = fits_by _ _ _ refl (lt_sound _ _ refl) refl refl (lt_sound _ _ refl) refl refl tt
+
+written_4 : Fits st (take 4 written) (event_of written 4)
+written_4 = fits_by _ _ _ refl (lt_sound _ _ refl) refl refl tt refl tt refl
+
+written_5 : Fits st (take 5 written) (event_of written 5)
+written_5 = fits_by _ _ _ refl (lt_sound _ _ refl) refl refl tt refl tt tt
+
+written_6 : Fits st (take 6 written) (event_of written 6)
+written_6 = fits_by _ _ _ refl (lt_sound _ _ refl) refl refl (lt_sound _ _ refl) refl refl tt
+
+pub worked_runs_are_legal : WorkedRunsAreLegal
 unfolding after_event
-worked_run_is_legal = record {
-  fits = fit_each st [] run (fit_0, (fit_1, (fit_2, (fit_3, (fit_4, (fit_5, (fit_6, (fit_7, tt))))))));
-  steps = replay_all st (first_node st) run (refl, (refl, (refl, (refl, (refl, (refl, (refl, (refl, tt))))))));
-}
+worked_runs_are_legal = (
+  record {
+    fits = fit_each st [] told (told_0, (told_1, (told_2, (told_3, (told_4, (told_5, (told_6, (told_7, tt))))))));
+    steps = replay_all st (first_node st) told (refl, (refl, (refl, (refl, (refl, (refl, (refl, (refl, tt))))))));
+  },
+  record {
+    fits = fit_each st [] written (written_0, (written_1, (written_2, (written_3, (written_4, (written_5, (written_6, tt)))))));
+    steps = replay_all st (first_node st) written (refl, (refl, (refl, (refl, (refl, (refl, (refl, tt)))))));
+  },
+)

@@ -1,7 +1,7 @@
 -- Runs of nodes worked by hand, each closed by computing: what nodes do, and at each step the stamp, the
 -- answer and the letters.
 use Rattle.std.specs.Prelude.{◌≡◌, ℕ, ◌+◌, ◌*◌, ◌^◌, ◌==◌, pos, if◌then◌else◌, List, [], ◌∷◌, ◌++◌, map, replicate, Some, None, unwrap_or, true, false, refl}
-use Rattle.std.specs.Option.{option_map_or}
+use Rattle.std.specs.Option.{option_map, option_map_or}
 use Rattle.bmx_types.specs.declared.values.Val.TheVariants as val
 use Rattle.bmx_types.specs.Words.{address_word}
 use Rattle.bmx_types.specs.declared.addresses.Info.{Info}
@@ -21,7 +21,8 @@ use Rattle.bmx_protocol.specs.declared.inputs.NodeAnswer.{NodeAnswer}
 use Rattle.bmx_protocol.specs.declared.inputs.NodeAnswer.TheVariants as answer
 use Rattle.bmx_protocol.specs.declared.inputs.Sending.{Sending}
 use Rattle.bmx_protocol.specs.declared.events.Event.{Event}
-use Rattle.bmx_protocol.specs.Nodes.{Setting}
+use Rattle.bmx_types.specs.declared.numbers.Mode.TheVariants as mode
+use Rattle.bmx_protocol.specs.Nodes.{Known, Setting}
 use Rattle.bmx_protocol.specs.Places.{Places, with_all_learnt}
 use Rattle.bmx_protocol.specs.Rules.{Outcome, infos}
 use Rattle.bmx_protocol.specs.Strays.{some_clash}
@@ -301,6 +302,18 @@ the_new_owner_has_a_record :
     ((played (one_bunch 2) (Do 1 (command.Write anchor) ∷ Next 1 0 ∷ Serve 0 1 ∷ Next 0 1 ∷ [])).nodes 1).state.entering 1 0
     ≡ Some (record { name = 1; bunch = 0; from = 0; sent = 0; got = 1 })
 the_new_owner_has_a_record = refl
+
+-- node 1 gets 0.1 to write it, and holds it while node 0's want to read it stands in its queue
+abbrev pub written_by_its_taker : Play
+written_by_its_taker = played (one_bunch 2) (
+    Do 1 (command.Write anchor) ∷ Next 1 0 ∷ Serve 0 1 ∷ Next 0 1 ∷ Do 1 (command.Write anchor) ∷ Do 0 (command.Read anchor) ∷ Next 0 1 ∷ [])
+
+the_taker_holds_it : option_map (λ (k : Known). k.part.held) ((written_by_its_taker.nodes 1).state.known 1) ≡ Some (Some mode.Write)
+the_taker_holds_it = refl
+
+the_other_waits_in_its_queue :
+    option_map (λ (k : Known). k.part.queue) ((written_by_its_taker.nodes 1).state.known 1) ≡ Some (record { asker = 0; mode = mode.Read } ∷ [])
+the_other_waits_in_its_queue = refl
 
 -- a new object lies behind the last of its bunch: 0.2 of 32 fields behind 0.1
 the_next_object_lies_behind :

@@ -11,7 +11,7 @@ use Rattle.bmx_protocol.specs.Changes.{with_step}
 use Rattle.bmx_protocol.specs.Steps.{Node, Told, IsTold, IsStep}
 use Rattle.bmx_protocol.specs.Histories.{AreAfter, IsLegal, IsInputOf, issued}
 use Rattle.bmx_protocol.specs.Runs.Programs.{CanServe}
-use Rattle.bmx_protocol.specs.Cases.{one_bunch, told_of_the_object}
+use Rattle.bmx_protocol.specs.Cases.{one_bunch, told_of_the_object, written_by_its_taker}
 
 -- the answers of a step that is refused: it is stray, has nothing to serve, or may not be done
 abbrev pub IsRefusal : NodeAnswer → Type 0
@@ -72,9 +72,10 @@ abbrev pub StampIsWithinPlace : Type 0
 StampIsWithinPlace =
     (st : Setting) (past rest : List Event) (e : Event) → IsLegal st (past ++ e ∷ rest) → e.stamp ≤ length past + 1
 
--- a run in which a node makes an object, stores it, and another is granted what it is stored in, is legal
-abbrev pub WorkedRunIsLegal : Type 0
-WorkedRunIsLegal = IsLegal (one_bunch 2) told_of_the_object.past
+-- two runs are legal: a node makes an object, stores it, and another is granted what it is stored in; and a node
+-- gets ownership of an object and writes it, while another waits
+abbrev pub WorkedRunsAreLegal : Type 0
+WorkedRunsAreLegal = IsLegal (one_bunch 2) told_of_the_object.past × IsLegal (one_bunch 2) written_by_its_taker.past
 
 -- a node's count of letters issued to another is how many its history issued
 abbrev pub IssuedIsCounted : Type 0

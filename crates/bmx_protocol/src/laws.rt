@@ -1,4 +1,4 @@
-ghost use Rattle.bmx_protocol.specs.Laws.{ToldIsDetermined, StepIsDetermined, RefusalKeeps, WaitKeeps, EmptyIsLegal, PrefixIsLegal, ReplayIsDetermined, StampIsWithinPlace, WorkedRunIsLegal, IssuedIsCounted, StateHasOneView, ShownStepsAgree, ServedAreListed};
+ghost use Rattle.bmx_protocol.specs.Laws.{ToldIsDetermined, StepIsDetermined, RefusalKeeps, WaitKeeps, EmptyIsLegal, PrefixIsLegal, ReplayIsDetermined, StampIsWithinPlace, WorkedRunsAreLegal, IssuedIsCounted, StateHasOneView, ShownStepsAgree, ServedAreListed};
 
 /// The law that for each node and input there is what its rule is told beside the state, and that it is
 /// one. It does nothing.
@@ -43,10 +43,10 @@ pub fn stamp_is_within_place()
     ensures { StampIsWithinPlace }
 {}
 
-/// The law that a run worked by hand is legal: one node makes and stores an object, and another is
-/// granted what it is stored in. It does nothing.
-pub fn worked_run_is_legal()
-    ensures { WorkedRunIsLegal }
+/// The law that two runs worked by hand are legal: one node makes and stores an object, and another is
+/// granted what it is stored in; a node gets an object to write it, and another waits. It does nothing.
+pub fn worked_runs_are_legal()
+    ensures { WorkedRunsAreLegal }
 {}
 
 /// The law that a node counts the letters that its history issued. It does nothing.

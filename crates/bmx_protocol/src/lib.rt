@@ -14,6 +14,6 @@ pub use inputs::{Done, Input, NodeAnswer, Sending, Sent};
 pub use laws::{
     empty_is_legal, issued_is_counted, prefix_is_legal, refusal_keeps, replay_is_determined,
     served_are_listed, shown_steps_agree, stamp_is_within_place, state_has_one_view,
-    step_is_determined, told_is_determined, wait_keeps, worked_run_is_legal,
+    step_is_determined, told_is_determined, wait_keeps, worked_runs_are_legal,
 };
 pub use views::{Entries, Entry, Numbers, View, ViewField, ViewFields};

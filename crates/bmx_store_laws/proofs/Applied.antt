@@ -1,11 +1,11 @@
--- A store and a history that the laws apply to.
+-- A store and histories that the laws apply to.
 use Rattle.std.proofs.Common.{◌≡◌, ℕ, ◌+◌, ◌≤◌, arith, refl, ap, sym, subst, ◌∙◌, [], ◌∷◌, length, zero, suc}
 use Rattle.std.specs.Prelude.{◌⊎◌, Some, slice_get, Contains, replicate}
 use Rattle.std.proofs.Common.{inl, inr}
 use Rattle.bmx_types.specs.Openings.{AreBirths}
 use Rattle.bmx_types.specs.declared.openings.Birth.{Birth}
 use Rattle.bmx_types.specs.declared.values.Val.TheVariants as val
-use Rattle.bmx_protocol.proofs.Worked.{worked_run_is_legal}
+use Rattle.bmx_protocol.proofs.Worked.{worked_runs_are_legal}
 use Rattle.bmx_store_laws.specs.Laws.{LawsApply}
 use Rattle.bmx_token_model.proofs.Readers.{one_or_more}
 
@@ -46,4 +46,4 @@ births = record {
 }
 
 pub laws_apply : LawsApply
-laws_apply = (record { a_node = omega arith; few_nodes = omega arith; a_segment = omega arith; few_segments = omega arith; born = births }, worked_run_is_legal)
+laws_apply = (record { a_node = omega arith; few_nodes = omega arith; a_segment = omega arith; few_segments = omega arith; born = births }, worked_runs_are_legal.0, worked_runs_are_legal.1)

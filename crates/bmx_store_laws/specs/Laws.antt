@@ -17,7 +17,7 @@ use Rattle.bmx_protocol.specs.Nodes.{Setting, Known}
 use Rattle.bmx_protocol.specs.Steps.{Node}
 use Rattle.bmx_protocol.specs.Histories.{AreAfter, IsLegal}
 use Rattle.bmx_protocol.specs.Worlds.{World, world_of, HasOwned, HasParent, IsSomewhere, EachHasOneOwner, WritesExclude, EachHasChain, EachParentAnswers}
-use Rattle.bmx_protocol.specs.Cases.{one_bunch, told_of_the_object}
+use Rattle.bmx_protocol.specs.Cases.{one_bunch, told_of_the_object, written_by_its_taker}
 
 -- what holds of the world after each legal history of a store
 abbrev pub Always : (Setting → World → Type 0) → Type 0
@@ -139,8 +139,9 @@ pub record IsCounted (st : Setting) (w : World) (x : ℕ) : Type 0 where
 abbrev pub NamesAreCounted : Type 0
 NamesAreCounted = Always (λ st w. (x : ℕ) → IsSomewhere st w x → IsCounted st w x)
 
--- the laws speak of something: a store of two nodes opens with one bunch, and a run worked by hand is legal
--- there
+-- the laws speak of something: a store of two nodes opens with one bunch, and two runs worked by hand are legal
+-- there; in the second ownership is in flight, then a node writes, and another waits
 abbrev pub LawsApply : Type 0
 LawsApply =
-    IsOpening (one_bunch 2).nodes (one_bunch 2).limit (one_bunch 2).births × IsLegal (one_bunch 2) told_of_the_object.past
+    IsOpening (one_bunch 2).nodes (one_bunch 2).limit (one_bunch 2).births
+    × IsLegal (one_bunch 2) told_of_the_object.past × IsLegal (one_bunch 2) written_by_its_taker.past

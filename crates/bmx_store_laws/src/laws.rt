@@ -50,8 +50,8 @@ pub fn names_are_counted()
     ensures { NamesAreCounted }
 {}
 
-/// The law that there is a store and a legal history of it, worked by hand, to which the other laws apply.
-/// It does nothing.
+/// The law that there is a store with two legal histories, worked by hand, to which the other laws apply. It
+/// does nothing.
 pub fn laws_apply()
     ensures { LawsApply }
 {}
