@@ -1,0 +1,5 @@
+pub mod Keys
+pub mod Links
+pub mod Live
+pub mod Steps
+pub mod Calls
