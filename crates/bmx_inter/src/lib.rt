@@ -1,0 +1,8 @@
+//! References between bunches at one node: a stub where a bunch refers out, and a scion that keeps
+//! what it refers to, so that each bunch can be collected by itself.
+#![tactic(auto)]
+
+mod inter;
+mod order;
+
+pub use inter::{Inter, Keeps, Scion, Stub};
