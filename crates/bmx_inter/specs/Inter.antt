@@ -43,11 +43,15 @@ is_kept bunch kept holds s = not (s.bunch == bunch) || (kept s.source && holds s
 abbrev pub stubs_kept : ℕ → (ℕ → Bool) → (ℕ → ℕ → Bool) → List Stub → List Stub
 stubs_kept bunch kept holds stubs = filter (is_kept bunch kept holds) stubs
 
--- A node's own table of a bunch lists the references that have a stub. It ends the scion: that is of
--- the bunch, the table was made in the step in which the scion was last paired, or later, and it
--- doesn't list the reference.
+-- A node's own table of a bunch, made in the step of that number, lists the references that have a
+-- stub. It tells whether the scion is needed: that is of the bunch, and its reference was last stored
+-- in that step or before it.
+abbrev pub is_told_of : ℕ → ℕ → Scion → Bool
+is_told_of bunch clock s = s.bunch == bunch && nat_le s.clock clock
+
+-- the table ends the scion: it tells of it, and doesn't list its reference
 abbrev pub is_stale : ℕ → ℕ → List Pair → Scion → Bool
-is_stale bunch clock listed s = s.bunch == bunch && nat_le s.clock clock && not (is_listed listed (scion_pair s))
+is_stale bunch clock listed s = is_told_of bunch clock s && not (is_listed listed (scion_pair s))
 
 -- the scions that stay
 abbrev pub scions_cleaned : ℕ → ℕ → List Pair → List Scion → List Scion

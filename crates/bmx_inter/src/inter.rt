@@ -15,6 +15,18 @@ pub struct Stub {
     pub target: Name,
 }
 
+impl Stub {
+    ghost use Rattle.bmx_inter.specs.Inter.{is_kept};
+
+    /// Whether a collection of the bunch keeps it: it is of another bunch, or its source is kept and
+    /// has the target in its copy.
+    fn is_kept<E: Keeps>(&self, bunch: BunchNo, keeps: &E) -> bool
+        ensures { result ≡ is_kept bunch (E.is_kept keeps.now) (E.is_held keeps.now) self.now }
+    {
+        self.bunch != bunch || keeps.kept(self.source) && keeps.holds(self.source, self.target)
+    }
+}
+
 impl OfPair for Stub {
     ghost use Rattle.bmx_inter.specs.Inter.{stub_pair};
 
@@ -38,6 +50,17 @@ pub struct Scion {
     pub bunch: BunchNo,
     /// The number of the node's step that last stored the reference.
     pub clock: u64,
+}
+
+impl Scion {
+    ghost use Rattle.bmx_inter.specs.Inter.{is_told_of};
+
+    /// Whether a table of the bunch, made in the step of number `clock`, tells whether it is needed.
+    fn is_told_of(&self, bunch: BunchNo, clock: u64) -> bool
+        ensures { result ≡ is_told_of bunch clock self.now }
+    {
+        self.bunch == bunch && self.clock <= clock
+    }
 }
 
 impl OfPair for Scion {
@@ -132,23 +155,19 @@ impl Inter {
         ensures scion { ChangesOne scion_pair self.old.scions self.new.scions (scion_of source bunch target clock) }
         ensures spare { self.old.spare ≤ self.new.spare + 1 }
     {
-        put(
-            &mut self.stubs,
-            Stub {
-                source,
-                bunch,
-                target,
-            },
-        );
-        put(
-            &mut self.scions,
-            Scion {
-                target,
-                source,
-                bunch,
-                clock,
-            },
-        );
+        let stub = Stub {
+            source,
+            bunch,
+            target,
+        };
+        let scion = Scion {
+            target,
+            source,
+            bunch,
+            clock,
+        };
+        put(&mut self.stubs, stub);
+        put(&mut self.scions, scion);
     }
 
     /// What a collection of the bunch leaves of its stubs: those whose source is kept and has the
@@ -158,9 +177,7 @@ impl Inter {
         ensures scions { self.new.scions ≡ self.old.scions }
         ensures spare { self.old.spare ≤ self.new.spare }
     {
-        self.stubs.retain(|s| {
-            s.bunch != bunch || keeps.kept(s.source) && keeps.holds(s.source, s.target)
-        });
+        self.stubs.retain(|s| s.is_kept(bunch, keeps));
     }
 
     /// Ends scions by this node's own table of the bunch, which lists the references that have a stub,
@@ -177,9 +194,8 @@ impl Inter {
         let listed = listed.as_slice();
         let rising = is_rising(listed);
         let before = self.scions.len();
-        self.scions.retain(|s| {
-            !(s.bunch == bunch && s.clock <= clock && !is_listed(listed, rising, s.pair()))
-        });
+        self.scions.retain(|s| !(s.is_told_of(bunch, clock)
+            && !is_listed(listed, rising, s.pair())));
         (before - self.scions.len()) as u64
     }
 

@@ -7,11 +7,10 @@ use Rattle.bmx_inter.proofs.Found.{IsInOrder-with_one, ChangesOne-with_one}
 use Rattle.bmx_inter.proofs.inter.Inter.pair.Goals as goal
 
 pub invariant_of-self : goal.invariant_of-self
-invariant_of-self c =
-    let stub = stub_of c.args.source c.args.bunch c.args.target in
-    let scion = scion_of c.args.source c.args.bunch c.args.target c.args.clock in
-    (subst (IsInOrder stub_pair) (sym c.put.ensures.items) (IsInOrder-with_one stub_pair stub c.self.inside.stubs.items c.self.invariant.0),
-    subst (IsInOrder scion_pair) (sym c.put-2.ensures.items) (IsInOrder-with_one scion_pair scion c.self.inside.scions.items c.self.invariant.1))
+invariant_of-self c = (
+  subst (IsInOrder stub_pair) (sym c.put.ensures.items) (IsInOrder-with_one stub_pair _ c.self.inside.stubs.items c.self.invariant.0),
+  subst (IsInOrder scion_pair) (sym c.put-2.ensures.items) (IsInOrder-with_one scion_pair _ c.self.inside.scions.items c.self.invariant.1),
+)
 
 pub returns-clause-stub : goal.returns-clause-stub
 returns-clause-stub c =
