@@ -1,5 +1,5 @@
 -- Pairs and their order.
-use Rattle.std.proofs.Common.{◌≡◌, ℕ, true, false, ◌⊎◌, arith}
+use Rattle.std.proofs.Common.{◌≡◌, true, false, ◌⊎◌, arith}
 use Rattle.std.proofs.lemmas.Bool.Decides.{nat_tests}
 use Rattle.bmx_types.specs.declared.names.Pair.{Pair}
 use Rattle.bmx_inter.specs.Order.{is_same, is_ahead}

@@ -1,5 +1,5 @@
 -- Pairs, a source and a target, in order, and lists with at most one element for each pair.
-use Rattle.std.specs.Prelude.{◌≡◌, ◌≢◌, ℕ, Bool, ◌&&◌, ◌||◌, nat_lt, ◌==◌, List, ◌∷◌, ◌++◌, Option, Some, filter, find, AllPairs, IsTrue}
+use Rattle.std.specs.Prelude.{◌≡◌, ◌≢◌, Bool, ◌&&◌, ◌||◌, nat_lt, ◌==◌, List, ◌∷◌, ◌++◌, Option, Some, filter, find, AllPairs, IsTrue}
 use Rattle.std.specs.List.{list_any}
 use Rattle.bmx_types.specs.declared.names.Pair.{Pair}
 

@@ -1,4 +1,4 @@
-use Rattle.std.proofs.Common.{◌≡◌, List, not, length, sym, subst, ap, ◌∙◌, rules, arith}
+use Rattle.std.proofs.Common.{List, not, length, sym, subst, ap, ◌∙◌, rules, arith}
 use Rattle.std.proofs.lemmas.Fn.{filter_same}
 use Rattle.bmx_types.specs.declared.names.Pair.{Pair}
 use Rattle.bmx_inter.specs.declared.inter.Scion.{Scion}
