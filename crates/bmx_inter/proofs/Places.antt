@@ -87,6 +87,12 @@ pub IsInOrder-from_answer : (ps : List Pair) (b : Bool) → IsAllAdjacentAnswer 
 IsInOrder-from_answer ps true answer h = IsInOrder-from_adjacent ps (λ k d lt. sym (answer k d lt))
 IsInOrder-from_answer ps false answer h = cc
 
+pub answer-from_IsInOrder : (ps : List Pair) (b : Bool) → IsAllAdjacentAnswer (λ p q r. r ≡ is_ahead p q) ps b → IsInOrder (λ p. p) ps → b ≡ true
+answer-from_IsInOrder ps true answer order = refl
+answer-from_IsInOrder ps false answer order =
+    let none : Pair = record { source = 0; target = 0 } in
+    absurd (clash (order answer.0 (answer.0 + 1) none (omega arith) answer.1) (sym (answer.2 none)))
+
 -- what is found in a list of pairs is what it lists
 any_found : (test : Pair → Bool) (ps : List Pair) (p : Pair) → find test ps ≡ Some p → list_any test ps ≡ true
 any_found test [] p e = cc

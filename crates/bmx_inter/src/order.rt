@@ -71,7 +71,8 @@ pub fn put<T: OfPair + Drop>(items: &mut Vec<T>, item: T)
 
 /// Whether the pairs rise: each stands before the next.
 pub fn is_rising(pairs: &[Pair]) -> bool
-    ensures { IsTrue result → IsInOrder (λ p. p) pairs.now }
+    ensures rising { IsTrue result → IsInOrder (λ p. p) pairs.now }
+    ensures exact { IsInOrder (λ p. p) pairs.now → IsTrue result }
 {
     pairs.is_sorted_by(|a, b| is_ahead(*a, *b))
 }

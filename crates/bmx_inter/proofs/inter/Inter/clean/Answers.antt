@@ -1,5 +1,6 @@
 use Rattle.std.proofs.Common.{List, not, length, sym, subst, ap, ◌∙◌, rules, arith}
 use Rattle.std.proofs.lemmas.Fn.{filter_same}
+use Rattle.std.proofs.iter.Serving.{serving}
 use Rattle.bmx_types.specs.declared.names.Pair.{Pair}
 use Rattle.bmx_inter.specs.declared.inter.Scion.{Scion}
 use Rattle.bmx_inter.specs.Order.{IsInOrder}
@@ -27,3 +28,6 @@ returns-clause-count c =
     let all = length-filter_not (is_stale c.args.bunch c.args.clock c.args.listed.now) c.args.self.now.scions in
     let same = ap (λ (v : Paired). length v.scions) c.self.view_is in
     omega (arith, c.self.inside.scions.ok.0, c.retain.new.self.ok.0)
+
+pub retain-requires : goal.retain-requires
+retain-requires c = let rises = c.is_rising-rising.ensures.rising in grind (serving, rises)
