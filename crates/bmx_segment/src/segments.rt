@@ -159,6 +159,15 @@ impl Segments {
         self.store.set_header(address, header)
     }
 
+    /// Whether `set_header` sets a header at an address. Takes the time of looking at the words of one
+    /// object.
+    pub fn can_set(&self, address: Address, header: &Header) -> bool
+        requires { header.now.size ≤ 32 }
+        ensures { IsTrue result ↔ CanSet self.now address header.now.name header.now.size }
+    {
+        self.has_handed(address, header.size) && self.store.can_stand(address, header)
+    }
+
     /// Sets a live header, and the words of its fields to the first of those given. It clashes exactly where
     /// `set_header` does, and nothing changes then.
     pub fn lay(&mut self, address: Address, header: &Header, words: &[u64]) -> Result<(), Clash>

@@ -174,6 +174,17 @@ impl Store {
         segment.name(address.index() as usize)
     }
 
+    /// Whether a header of that name and size can begin at an address.
+    pub(crate) fn can_stand(&self, address: Address, header: &Header) -> bool
+        requires { header.now.size ≤ 32 }
+        ensures { IsTrue result ↔ CanStandAt self.now.blocks address header.now.name header.now.size }
+    {
+        match self.segment(address.home(), address.segment()) {
+            Some(segment) => segment.can_stand(address.index() as usize, header),
+            None => false,
+        }
+    }
+
     /// The word of a field of the live header at an address.
     pub(crate) fn field(&self, address: Address, field: usize) -> u64
         requires { HasFieldAt self.now.blocks address field }
