@@ -10,3 +10,6 @@ pub mod Lying
 pub mod Repointing
 pub mod Living
 pub mod Done
+pub mod Telling
+pub mod Installing
+pub mod Following

@@ -2,3 +2,4 @@
 pub mod Slots
 pub mod Layouts
 pub mod Replicas
+pub mod Letters

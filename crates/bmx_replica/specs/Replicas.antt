@@ -1,5 +1,5 @@
 -- A replica: what a node has under each name.
-use Rattle.std.specs.Prelude.{◌≡◌, ◌≢◌, ◌⊎◌, ℕ, ◌+◌, ◌*◌, ◌<◌, ◌≤◌, ◌==◌, ◌↔◌, true, false, if◌then◌else◌, List, [], ◌∷◌, Option, Some, None, IsSome, IsSomeAnd, MatchOption, is_some, unwrap_or, slice_get, slice_set, replicate, ◌^◌, nat_lt}
+use Rattle.std.specs.Prelude.{◌≡◌, ◌≢◌, ◌⊎◌, ℕ, ◌+◌, ◌*◌, ◌<◌, ◌≤◌, ◌==◌, ◌↔◌, true, false, if◌then◌else◌, List, [], ◌∷◌, Option, Some, None, IsSome, IsSomeAnd, MatchOption, is_some, unwrap_or, slice_get, slice_set, slice_index, map, replicate, ◌^◌, nat_lt}
 use Rattle.std.specs.Bool.{MatchBool}
 use Rattle.std.proofs.Common.{zero, suc}
 use Rattle.std.specs.Option.{option_map, option_and_then}
@@ -19,7 +19,7 @@ use Rattle.bmx_segment.specs.declared.headers.Kind.TheVariants.{Null, Int, Ref}
 use Rattle.bmx_segment.specs.declared.headers.State.TheVariants.{Live, Forwarded, Dead}
 use Rattle.bmx_replica.specs.Slots.{slot_of, address_of}
 use Rattle.bmx_replica.specs.Chains.{Ends, Means, Reaches, name_at, living_at, is_live}
-use Rattle.bmx_replica.specs.Layouts.{kinds_in, moves_in, with_kinds, blank_header, CanLie, Moves, MapsThen}
+use Rattle.bmx_replica.specs.Layouts.{kinds_in, moves_in, with_kinds, kinds_of, blank_header, Ground, ground_of, LiesOn, Moves, MapsThen}
 use Rattle.bmx_replica.specs.declared.directory.Slot.{Slot}
 use Rattle.bmx_replica.specs.declared.words.Word.{Word}
 
@@ -137,6 +137,10 @@ with_value i v e = record e { copy = option_map (λ fields. slice_set fields i v
 abbrev pub without_copy : Entry → Entry
 without_copy e = record e { copy = None }
 
+-- the entry with a copy of those values
+abbrev pub with_copy : List Val → Entry → Entry
+with_copy fields e = record e { copy = Some fields }
+
 -- a value that refers to a name refers to one with an entry
 abbrev pub HasTarget : Holding → Val → Type 0
 HasTarget r val.Null = Unit {0}
@@ -182,9 +186,13 @@ learned i (Some e) = if nat_lt e.place.moves i.place.moves then at_place i.place
 
 -- an Info can be learned beside an entry: of its bunch and size, and where its moves are larger, at
 -- another address where the object can lie
+abbrev pub AcceptsOn : Ground → Info → Option Entry → Type 0
+AcceptsOn g i None = LiesOn g i.place.address i.name i.size
+AcceptsOn g i (Some e) = (e.bunch ≡ i.bunch) × (e.size ≡ i.size) × (e.place.moves < i.place.moves → (e.place.address ≢ i.place.address) × LiesOn g i.place.address i.name i.size)
+
+-- it can in a heap
 abbrev pub Accepts : Heap → Info → Option Entry → Type 0
-Accepts h i None = CanLie h i.place.address i.name i.size
-Accepts h i (Some e) = (e.bunch ≡ i.bunch) × (e.size ≡ i.size) × (e.place.moves < i.place.moves → (e.place.address ≢ i.place.address) × CanLie h i.place.address i.name i.size)
+Accepts h i o = AcceptsOn (ground_of h) i o
 
 -- nothing changed but room
 pub record Same (old new : Holding) : Type 0 where
@@ -214,6 +222,14 @@ pub record WritesField (old new : Holding) (name i : ℕ) (v : Val) : Type 0 whe
 pub record ClearsCopy (old new : Holding) (name : ℕ) : Type 0 where
   pub entry : Puts (entry_of old) (entry_of new) name (option_map without_copy (entry_of old name))
   pub cleared : IfObject old name (new ≡ old) (λ a h. Lays old.heap.blocks new.heap.blocks a (with_kinds h 0) (λ _. 0))
+  pub heap : new.heap ≡ record old.heap { blocks = new.heap.blocks }
+  pub spare : new.spare ≡ old.spare
+  pub keeps : Keeps old new
+
+-- a name has a copy with those values from now on: its object has their words and their kinds
+pub record Installs (old new : Holding) (name : ℕ) (fields : List Val) : Type 0 where
+  pub entry : Puts (entry_of old) (entry_of new) name (option_map (with_copy fields) (entry_of old name))
+  pub laid : IsObject old name (λ a h. Lays old.heap.blocks new.heap.blocks a (with_kinds h (kinds_of (map (word_in old) fields))) (λ i. slice_index (map (λ v. (word_in old v).word) fields) i))
   pub heap : new.heap ≡ record old.heap { blocks = new.heap.blocks }
   pub spare : new.spare ≡ old.spare
   pub keeps : Keeps old new

@@ -1,5 +1,5 @@
 //! The fields of an object in its segment.
-ghost use Rattle.std.specs.Prelude.{◌≡◌, ℕ, ◌+◌, ◌<◌, ◌≤◌, true, slice_index, Some};
+ghost use Rattle.std.specs.Prelude.{◌≡◌, ℕ, ◌+◌, ◌*◌, ◌^◌, ◌<◌, ◌≤◌, true, slice_index, Some};
 ghost use Rattle.bmx_segment.specs.Headers.{kind_number, kind_of};
 ghost use Rattle.bmx_segment.specs.Stores.{header_at, word_at};
 ghost use Rattle.bmx_replica.specs.Chains.{is_live};
@@ -25,6 +25,27 @@ pub(crate) fn kind_in(kinds: u64, i: u8) -> Kind
         2 => Kind::Ref,
         _ => unreachable!(),
     }
+}
+
+/// The two bits of a kind.
+fn number(kind: Kind) -> u64
+    ensures value { result ≡ kind_number kind }
+    ensures bound { result < 4 }
+{
+    match kind {
+        Kind::Null => 0,
+        Kind::Int => 1,
+        Kind::Ref => 2,
+        Kind::Far => 3,
+    }
+}
+
+/// The bits of a kind among those of an object, at field i.
+pub(crate) fn kind_bits(kind: Kind, i: usize) -> u64
+    requires { i < 32 }
+    ensures { result ≡ kind_number kind * 2 ^ (2 * i) }
+{
+    number(kind) << (2 * i)
 }
 
 /// The field words of the live object whose header stands at an address, and 0 behind them.

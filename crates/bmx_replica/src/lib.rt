@@ -8,9 +8,11 @@
 
 mod directory;
 mod layout;
+mod letters;
 mod replica;
 mod words;
 
+pub use letters::learning_goes_on;
 pub use replica::{LearnError, Lent, Replica};
 pub use words::{Word, Words};
 

@@ -1,4 +1,4 @@
-ghost use Rattle.std.specs.Prelude.{◌≡◌, ◌≢◌, ℕ, ◌+◌, ◌<◌, ◌≤◌, ◌↔◌, [], true, min, replicate, Some, None, IsTrue, IsOk, IsErrOf, IsSome, IsSomeAnd, IfSome, IfNone, OnOk, OnErr};
+ghost use Rattle.std.specs.Prelude.{◌≡◌, ◌≢◌, ℕ, ◌+◌, ◌<◌, ◌≤◌, ◌↔◌, [], true, min, replicate, Some, None, IsTrue, IsOk, IsErrOf, IsSome, IsSomeAnd, IfSome, IfNone, OnOk, OnErr, All, length, map};
 ghost use Rattle.std.specs.Option.{option_map};
 ghost use Rattle.bmx_types.specs.Words.{home_of, segment_of, index_of};
 ghost use Rattle.bmx_replica.specs.declared.replica.LearnError.TheVariants.{NoMemory as out_of_memory, Clash as no_fit};
@@ -8,15 +8,18 @@ ghost use Rattle.bmx_segment.specs.Heaps.{CanSet, made_of, room_of, handed_of};
 ghost use Rattle.bmx_segment.specs.declared.segments.PlaceError.TheVariants.{Full};
 ghost use Rattle.bmx_replica.specs.Slots.{slot_of};
 ghost use Rattle.bmx_replica.specs.Chains.{Means, name_at};
-ghost use Rattle.bmx_replica.specs.Layouts.{Moves, CanLie, blank_header};
-ghost use Rattle.bmx_replica.specs.Replicas.{entry_of, info_in, copy_of, field_of, value_in, word_in, IsCurrent, HasTargets, CanMove, Accepts, Same, HasTarget, IsField, IsReplica, ReachesTarget, WritesField, ClearsCopy, MakesObject, Learns, MovesObject, Forgets, Repoints};
+ghost use Rattle.bmx_replica.specs.Layouts.{Moves, CanLie, blank_header, kinds_of};
+ghost use Rattle.bmx_replica.specs.Replicas.{entry_of, info_in, copy_of, field_of, value_in, word_in, IsCurrent, HasTargets, CanMove, Accepts, Same, HasTarget, IsField, IsReplica, ReachesTarget, WritesField, ClearsCopy, MakesObject, Learns, MovesObject, Forgets, Repoints, Installs};
 ghost use Rattle.bmx_replica.specs.Inside.Slots.{PutsSlot};
 ghost use Rattle.bmx_replica.specs.Inside.Layouts.{Readies};
-ghost use Rattle.bmx_replica.specs.Inside.Replicas.{IsFound, OthersStay};
+ghost use Rattle.bmx_replica.specs.Inside.Replicas.{IsFound, OthersStay, AreHeld};
+ghost use Rattle.bmx_replica.specs.Letters.{values_told};
 
 use crate::directory::{Directory, Slot};
-use crate::layout::{NO_WORDS, field_words, kind_in};
+use crate::layout::{FIELDS, NO_WORDS, field_words, kind_bits, kind_in};
+use crate::letters::value_told;
 use crate::words::Word;
+use bmx_msg::{Field, Fields};
 use bmx_segment::{Clash, HEADER_WORDS, Header, Kind, PlaceError, SEGMENT_WORDS, Segments, State};
 use bmx_types::{Address, BunchNo, Info, Name, NoMemory, NodeNo, Place, Val};
 use std::alloc::Global;
@@ -396,6 +399,47 @@ impl Replica {
         self.directory.set(name, Slot { has_copy, ..slot });
     }
 
+    /// Gives a name a copy with these fields, whether it had one before or not. A reference is stored as
+    /// the current address of its name. Takes no memory. Linear in the fields.
+    pub fn install(&mut self, name: Name, fields: &Fields)
+        requires size { IsSomeAnd (entry_of self.old name) (λ e. length fields.now ≡ e.size) }
+        requires targets { All (λ v. HasTarget self.old v) (values_told fields.now) }
+        ensures { Installs self.old self.new name (values_told fields.now) }
+    {
+        let Some(found) = self.find(name) else {
+            unreachable!()
+        };
+        let Found { slot, header } = found;
+        let State::Live { moves, .. } = header.state else {
+            unreachable!()
+        };
+        let (kinds, words) = self.words_told(fields.as_slice());
+        let state = State::Live { moves, kinds };
+        let filled = Header { state, ..header };
+        let Ok(()) = self.segments.lay(slot.address, &filled, &words) else {
+            unreachable!()
+        };
+        let has_copy = true;
+        self.directory.set(name, Slot { has_copy, ..slot });
+    }
+
+    /// The kinds of fields, and their words.
+    fn words_told(&self, fields: &[Field]) -> (u64, [u64; FIELDS])
+        requires few { length fields.now ≤ 32 }
+        requires targets { All (λ v. HasTarget self.now v) (values_told fields.now) }
+        ensures kinds { result.0 ≡ kinds_of (map (word_in self.now) (values_told fields.now)) }
+        ensures words { AreHeld self.now (values_told fields.now) result.1 }
+    {
+        let mut kinds = 0;
+        let mut words = NO_WORDS;
+        for (i, field) in fields.iter().enumerate() {
+            let Word { kind, word } = self.word(value_told(field));
+            kinds += kind_bits(kind, i);
+            words[i] = word;
+        }
+        (kinds, words)
+    }
+
     /// Makes an object of a bunch under a new name, with null fields, where the segments find a place. It
     /// is full where they are.
     pub fn make(&mut self, name: Name, bunch: BunchNo, size: u8) -> Result<(), PlaceError>
@@ -419,6 +463,19 @@ impl Replica {
             unreachable!()
         };
         Ok(())
+    }
+
+    /// Whether the object of an Info can lie where it says.
+    pub(crate) fn can_lie(&self, info: &Info) -> bool
+        requires { info.now.size ≤ 32 }
+        ensures { IsTrue result ↔ CanLie self.now.heap info.now.place.address info.now.name info.now.size }
+    {
+        let address = info.place.address;
+        if self.segments.is_mapped(address.home(), address.segment()) {
+            self.segments.can_set(address, &blank_header(info))
+        } else {
+            is_handed(&self.segments, self.me, address, info.size)
+        }
     }
 
     /// Learns where an object lies: a name not there gets an entry without a copy; of a larger moves the
@@ -563,6 +620,22 @@ fn re_place(
     Ok(())
 }
 
+/// The header of an object whose fields are null.
+fn blank_header(info: &Info) -> Header
+    ensures { result ≡ blank_header info.now }
+{
+    let state = State::Live {
+        moves: info.place.moves,
+        kinds: 0,
+    };
+    Header {
+        bunch: info.bunch,
+        size: info.size,
+        name: info.name,
+        state,
+    }
+}
+
 /// Adds an object with null fields under a name. It clashes exactly where its header can't be set, and
 /// nothing changes then.
 fn add_object(
@@ -582,18 +655,8 @@ fn add_object(
     ensures err { OnErr result (segments.new ≡ segments.old) }
     ensures err_slots { OnErr result (directory.new ≡ directory.old) }
 {
-    let state = State::Live {
-        moves: info.place.moves,
-        kinds: 0,
-    };
-    let header = Header {
-        bunch: info.bunch,
-        size: info.size,
-        name: info.name,
-        state,
-    };
     let address = info.place.address;
-    segments.lay(address, &header, &NO_WORDS)?;
+    segments.lay(address, &blank_header(info), &NO_WORDS)?;
     directory.add(info.name, Slot { address, has_copy });
     Ok(())
 }

@@ -1,8 +1,10 @@
 ghost use Rattle.std.specs.Prelude.{◌≡◌, ◌≤◌, IfSome};
 
 use crate::{LearnError, Replica, Word, Words};
+use bmx_msg::{Field, Msg};
 use bmx_segment::{Kind, PlaceError};
-use bmx_types::{Address, BunchNo, Info, Name, NoMemory, NodeNo, Place, Val};
+use bmx_types::{Address, BunchNo, Info, Items, Name, NoMemory, NodeNo, Place, Val};
+use std::alloc::Global;
 use std::test::Fail;
 
 /// How many names the test of many has.
@@ -49,6 +51,44 @@ fn reserve_lent(replica: &mut Replica, n: u32) -> Result<(), NoMemory> {
     let reserved = lent.segments.reserve(n);
     replica.give_back(lent);
     reserved
+}
+
+/// Whether a grant of an object with two references clashes.
+fn clash(
+    alloc: Global,
+    replica: &Replica,
+    object: Info,
+    targets: (Info, Info),
+) -> Result<bool, NoMemory>
+    requires object { object.size ≤ 32 }
+    requires targets { (targets.0.size ≤ 32) × (targets.1.size ≤ 32) }
+{
+    let mut fields = Items::new(alloc);
+    fields.push(Field::Ref(targets.0))?;
+    fields.push(Field::Ref(targets.1))?;
+    let info = object;
+    Ok(replica.clashes(&Msg::ReadGrant { info, fields }))
+}
+
+/// Installs two fields where there are such objects: a number, and a reference.
+fn install(
+    alloc: Global,
+    replica: &mut Replica,
+    name: Name,
+    number: i64,
+    target: Info,
+) -> Result<bool, NoMemory> {
+    let Some(info) = replica.info(name) else {
+        return Ok(false);
+    };
+    if info.size != 2 || replica.info(target.name).is_none() {
+        return Ok(false);
+    }
+    let mut fields = Items::new(alloc);
+    fields.push(Field::Int(number))?;
+    fields.push(Field::Ref(target))?;
+    replica.install(name, &fields);
+    Ok(true)
 }
 
 #[test]
@@ -150,4 +190,85 @@ fn registers(rt: HostRuntime) {
     words.set(15, word);
     assert_eq!(rt; words.at(15), word);
     assert_eq!(rt; words.at(0).kind, Kind::Null);
+}
+
+/// What node 1 tells of an object of bunch 2 that it made as its count-th, and that lies in its first
+/// segment.
+fn object(count: u64, place: (u32, u64)) -> Option<Info>
+    ensures { IfSome result (λ i. i.size ≡ 1) }
+{
+    let (word, moves) = place;
+    let home = NodeNo::new(1)?;
+    let name = Name::new(home, count)?;
+    let address = Address::new(home, 1, word)?;
+    Some(told(name, BunchNo::new(2)?, address, moves))
+}
+
+#[test]
+fn a_letter_clashes_with_what_is_known_and_with_itself(rt: HostRuntime) -> Result<(), Fail> {
+    let node = NodeNo::new(0).ok_or("node")?;
+    let known = object(5, (0, 2)).ok_or("known")?;
+    let mut replica = Replica::new(rt.alloc(), node, 4);
+    replica.learn(&known)?;
+    let (older, newer, same) = ((100, 1), (100, 3), (0, 3));
+    let grants = [
+        // What is told of the known object, and of two of its targets; whether it clashes.
+        (older, (6, (200, 0)), (7, (205, 0)), false),
+        (same, (6, (200, 0)), (7, (205, 0)), true),
+        (older, (6, (200, 0)), (7, (204, 0)), true),
+        (older, (6, (200, 0)), (7, (200, 0)), true),
+        (older, (6, (200, 0)), (6, (300, 1)), false),
+        (older, (6, (200, 0)), (6, (200, 1)), true),
+        (older, (6, (100, 0)), (7, (200, 0)), false),
+        (newer, (6, (100, 0)), (7, (200, 0)), true),
+        (older, (6, (2, 0)), (7, (200, 0)), true),
+        (newer, (6, (2, 0)), (7, (200, 0)), true),
+        (newer, (5, (0, 3)), (7, (200, 0)), false),
+        (newer, (5, (0, 4)), (7, (200, 0)), false),
+        (older, (6, (1020, 0)), (7, (200, 0)), true),
+    ];
+    for (place, (first, there), (second, here), clashes) in grants {
+        let granted = object(5, place).ok_or("granted")?;
+        let first = object(first, there).ok_or("first")?;
+        let second = object(second, here).ok_or("second")?;
+        assert_eq!(rt;
+            clash(rt.alloc(), &replica, granted, (first, second))?,
+            clashes
+        );
+    }
+    let larger = Info { size: 2, ..known };
+    assert!(rt; clash(rt.alloc(), &replica, larger, (known, known))?);
+    assert!(rt; clash(rt.alloc(), &replica, known, (known, larger))?);
+    let name = known.name;
+    let asker = node;
+    assert!(rt; !replica.clashes(&Msg::ReadReq { name, asker }));
+    assert_eq!(rt; replica.info(name), Some(known));
+    Ok(())
+}
+
+#[test]
+fn a_copy_is_installed(rt: HostRuntime) -> Result<(), Fail> {
+    let node = NodeNo::new(0).ok_or("node")?;
+    let other = NodeNo::new(1).ok_or("other")?;
+    let bunch = BunchNo::new(2).ok_or("bunch")?;
+    let name = Name::new(other, 5).ok_or("name")?;
+    let second = Name::new(other, 6).ok_or("second")?;
+    let mut replica = Replica::new(rt.alloc(), node, 4);
+    replica.reserve(2)?;
+    let at = Address::new(other, 1, 0).ok_or("address")?;
+    replica.learn(&Info {
+        size: 2,
+        ..told(name, bunch, at, 0)
+    })?;
+    let at = Address::new(other, 1, 6).ok_or("address")?;
+    let target = told(second, bunch, at, 0);
+    replica.learn(&target)?;
+    for number in [-7, 8] {
+        assert!(rt; install(rt.alloc(), &mut replica, name, number, target)?);
+        assert!(rt; replica.has_copy(name) && !replica.has_copy(second));
+        assert_eq!(rt; replica.field(name, 0), Some(Val::Int(number)));
+        assert_eq!(rt; replica.field(name, 1), Some(Val::Ref(second)));
+        assert_eq!(rt; replica.field(name, 2), None);
+    }
+    Ok(())
 }
