@@ -13,3 +13,4 @@ pub mod Done
 pub mod Telling
 pub mod Installing
 pub mod Following
+pub mod Finding

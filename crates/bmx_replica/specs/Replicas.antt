@@ -21,6 +21,8 @@ use Rattle.bmx_replica.specs.Slots.{slot_of, address_of}
 use Rattle.bmx_replica.specs.Chains.{Ends, Means, Reaches, name_at, living_at, is_live}
 use Rattle.bmx_replica.specs.Layouts.{kinds_in, moves_in, with_kinds, kinds_of, blank_header, Ground, ground_of, LiesOn, Moves, MapsThen}
 use Rattle.bmx_replica.specs.declared.directory.Slot.{Slot}
+use Rattle.bmx_replica.specs.declared.objects.Object.{Object}
+use Rattle.bmx_replica.specs.declared.objects.Held.{Held}
 use Rattle.bmx_replica.specs.declared.words.Word.{Word}
 
 -- what contracts see of a replica: where each name's object lies, the heap of segments, and how many
@@ -153,6 +155,12 @@ word_in r val.Null = record { kind = Null; word = 0 }
 word_in r (val.Int k) = record { kind = Int; word = cast_unsigned w64 k }
 word_in r (val.Ref name) = record { kind = Ref; word = unwrap_or (address_of r.slots name) 0 }
 
+-- the name that a value refers to
+abbrev pub target_in : Val → Option ℕ
+target_in val.Null = None
+target_in (val.Int k) = None
+target_in (val.Ref name) = Some name
+
 -- the word of a reference reaches its name
 abbrev pub ReachesTarget : Holding → Val → Word → Type 0
 ReachesTarget r val.Null w = Unit {0}
@@ -183,6 +191,19 @@ pub record CanMove (h : Heap) (to : ℕ) (e : Entry) : Type 0 where
 abbrev pub learned : Info → Option Entry → Entry
 learned i None = record { bunch = i.bunch; size = i.size; place = i.place; copy = None }
 learned i (Some e) = if nat_lt e.place.moves i.place.moves then at_place i.place e else e
+
+-- an object stands where it says: its live header, of at most 32 fields, is there
+pub record StandsAt (r : Holding) (o : Object) : Type 0 where
+  pub few : o.header.size ≤ 32
+  pub there : header_at r.heap.blocks o.address ≡ Some o.header
+  pub live : is_live o.header.state ≡ true
+
+-- a word is that of a value, and holds it
+pub record IsHolding (r : Holding) (h : Held) : Type 0 where
+  pub word : h.word ≡ word_in r h.value
+  pub field : IsField r.heap.blocks (kind_number h.word.kind) h.word.word
+  pub holds : value_in r.heap.blocks (kind_number h.word.kind) h.word.word ≡ h.value
+  pub reach : ReachesTarget r h.value h.word
 
 -- an Info can be learned beside an entry: of its bunch and size, and where its moves are larger, at
 -- another address where the object can lie

@@ -9,10 +9,12 @@
 mod directory;
 mod layout;
 mod letters;
+mod objects;
 mod replica;
 mod words;
 
 pub use letters::learning_goes_on;
+pub use objects::{Held, Object};
 pub use replica::{LearnError, Lent, Replica};
 pub use words::{Word, Words};
 

@@ -62,7 +62,7 @@ impl From<Clash> for LearnError {
 pub struct Replica {
     me: NodeNo,
     directory: Directory,
-    segments: Segments,
+    pub(crate) segments: Segments,
     alloc: Global,
 }
 
@@ -87,9 +87,9 @@ pub struct Lent {
 
 /// Where the object of a name stands, and its header there.
 #[derive(Clone, Copy)]
-struct Found {
-    slot: Slot,
-    header: Header,
+pub(crate) struct Found {
+    pub(crate) slot: Slot,
+    pub(crate) header: Header,
 }
 
 impl Replica {
@@ -154,7 +154,7 @@ impl Replica {
     }
 
     /// Where the object of a name stands, None where the name has no entry.
-    fn find(&self, name: Name) -> Option<Found>
+    pub(crate) fn find(&self, name: Name) -> Option<Found>
         ensures slot { option_map (λ f. f.slot) result ≡ slot_of self.now.slots name }
         ensures found { IfSome result (λ f. IsFound self.now.slots self.now.heap.blocks name f.slot f.header) }
         ensures few { IfSome result (λ f. f.header.size ≤ 32) }

@@ -1,4 +1,6 @@
-ghost use Rattle.std.specs.Prelude.{◌≡◌, ◌≤◌, IfSome};
+ghost use Rattle.std.specs.Prelude.{◌≡◌, ◌≤◌, All, IfOk, IfSome};
+ghost use Rattle.bmx_types.specs.declared.addresses.Info.{Info as InfoOf};
+ghost use Rattle.bmx_replica.specs.Letters.{infos_in};
 
 use crate::{LearnError, Replica, Word, Words};
 use bmx_msg::{Field, Msg};
@@ -45,6 +47,19 @@ fn write(replica: &mut Replica, name: Name, i: u8, number: i64) -> bool {
     true
 }
 
+/// Writes a number into the first field of an object where it stands, and tells the field before that.
+fn write_there(replica: &mut Replica, name: Name, number: i64) -> Option<Val> {
+    let object = replica.object(name)?;
+    if !replica.has_copy(object.header.name) || object.header.size == 0 {
+        return None;
+    }
+    let word = replica.field_word(&object, 0)?;
+    let before = replica.value(word);
+    let held = replica.held(Val::Int(number));
+    replica.write_at(&object, 0, held);
+    Some(before)
+}
+
 /// Reserves segments while they are lent.
 fn reserve_lent(replica: &mut Replica, n: u32) -> Result<(), NoMemory> {
     let mut lent = replica.lend();
@@ -53,21 +68,43 @@ fn reserve_lent(replica: &mut Replica, n: u32) -> Result<(), NoMemory> {
     reserved
 }
 
-/// Whether a grant of an object with two references clashes.
-fn clash(
-    alloc: Global,
-    replica: &Replica,
-    object: Info,
-    targets: (Info, Info),
-) -> Result<bool, NoMemory>
-    requires object { object.size ≤ 32 }
-    requires targets { (targets.0.size ≤ 32) × (targets.1.size ≤ 32) }
+/// What node 1 tells of an object of bunch 2: which of its names it is, its word in the first segment, and
+/// how often it has moved.
+fn object(of: (u64, u32, u64)) -> Option<Info>
+    ensures { IfSome result (λ i. i.size ≡ 1) }
+{
+    let (count, word, moves) = of;
+    let home = NodeNo::new(1)?;
+    let name = Name::new(home, count)?;
+    let address = Address::new(home, 1, word)?;
+    Some(told(name, BunchNo::new(2)?, address, moves))
+}
+
+/// A grant of an object with two references.
+fn grant(alloc: Global, info: Info, first: Info, second: Info) -> Result<Msg, NoMemory>
+    requires first { first.size ≤ 32 }
+    requires second { second.size ≤ 32 }
+    requires object { info.size ≤ 32 }
+    ensures { IfOk result (λ msg. All (λ (i : InfoOf). i.size ≤ 32) (infos_in msg)) }
 {
     let mut fields = Items::new(alloc);
-    fields.push(Field::Ref(targets.0))?;
-    fields.push(Field::Ref(targets.1))?;
-    let info = object;
-    Ok(replica.clashes(&Msg::ReadGrant { info, fields }))
+    fields.push(Field::Ref(first))?;
+    fields.push(Field::Ref(second))?;
+    Ok(Msg::ReadGrant { info, fields })
+}
+
+/// Whether a grant of an object with two references clashes.
+fn clashes(
+    alloc: Global,
+    replica: &Replica,
+    told: ((u64, u32, u64), (u64, u32, u64), (u64, u32, u64)),
+) -> Result<bool, Fail> {
+    let (granted, first, second) = told;
+    let granted = object(granted).ok_or("granted")?;
+    let first = object(first).ok_or("first")?;
+    let second = object(second).ok_or("second")?;
+    let msg = grant(alloc, granted, first, second)?;
+    Ok(replica.clashes(&msg))
 }
 
 /// Installs two fields where there are such objects: a number, and a reference.
@@ -138,7 +175,12 @@ fn a_moved_object_is_reached_by_its_old_address(rt: HostRuntime) -> Result<(), F
     assert_eq!(rt; replica.meaning(from.word()), Some(name));
     assert!(rt; replica.same(from.word(), to.word()));
     assert_eq!(rt; replica.field(name, 0), Some(Val::Int(-5)));
+    let object = replica.object_at(from.word()).ok_or("object")?;
+    assert_eq!(rt; (object.address, object.header.name), (to, name));
+    assert_eq!(rt; write_there(&mut replica, name, 6), Some(Val::Int(-5)));
+    assert_eq!(rt; replica.field(name, 0), Some(Val::Int(6)));
     replica.forget(name);
+    assert!(rt; replica.object_at(from.word()).is_none());
     assert_eq!(rt; replica.meaning(from.word()), Some(name));
     assert_eq!(rt; replica.info(name), None);
     Ok(())
@@ -192,53 +234,43 @@ fn registers(rt: HostRuntime) {
     assert_eq!(rt; words.at(0).kind, Kind::Null);
 }
 
-/// What node 1 tells of an object of bunch 2 that it made as its count-th, and that lies in its first
-/// segment.
-fn object(count: u64, place: (u32, u64)) -> Option<Info>
-    ensures { IfSome result (λ i. i.size ≡ 1) }
-{
-    let (word, moves) = place;
-    let home = NodeNo::new(1)?;
-    let name = Name::new(home, count)?;
-    let address = Address::new(home, 1, word)?;
-    Some(told(name, BunchNo::new(2)?, address, moves))
-}
-
 #[test]
 fn a_letter_clashes_with_what_is_known_and_with_itself(rt: HostRuntime) -> Result<(), Fail> {
     let node = NodeNo::new(0).ok_or("node")?;
-    let known = object(5, (0, 2)).ok_or("known")?;
+    let known = object((5, 0, 2)).ok_or("known")?;
     let mut replica = Replica::new(rt.alloc(), node, 4);
     replica.learn(&known)?;
-    let (older, newer, same) = ((100, 1), (100, 3), (0, 3));
     let grants = [
         // What is told of the known object, and of two of its targets; whether it clashes.
-        (older, (6, (200, 0)), (7, (205, 0)), false),
-        (same, (6, (200, 0)), (7, (205, 0)), true),
-        (older, (6, (200, 0)), (7, (204, 0)), true),
-        (older, (6, (200, 0)), (7, (200, 0)), true),
-        (older, (6, (200, 0)), (6, (300, 1)), false),
-        (older, (6, (200, 0)), (6, (200, 1)), true),
-        (older, (6, (100, 0)), (7, (200, 0)), false),
-        (newer, (6, (100, 0)), (7, (200, 0)), true),
-        (older, (6, (2, 0)), (7, (200, 0)), true),
-        (newer, (6, (2, 0)), (7, (200, 0)), true),
-        (newer, (5, (0, 3)), (7, (200, 0)), false),
-        (newer, (5, (0, 4)), (7, (200, 0)), false),
-        (older, (6, (1020, 0)), (7, (200, 0)), true),
+        (((5, 100, 1), (6, 200, 0), (7, 205, 0)), false),
+        (((5, 0, 3), (6, 200, 0), (7, 205, 0)), true),
+        (((5, 100, 1), (6, 200, 0), (7, 204, 0)), true),
+        (((5, 100, 1), (6, 200, 0), (7, 200, 0)), true),
+        (((5, 100, 1), (6, 200, 0), (6, 300, 1)), false),
+        (((5, 100, 1), (6, 200, 0), (6, 200, 1)), true),
+        (((5, 100, 1), (6, 100, 0), (7, 200, 0)), false),
+        (((5, 100, 3), (6, 100, 0), (7, 200, 0)), true),
+        (((5, 100, 1), (6, 2, 0), (7, 200, 0)), true),
+        (((5, 100, 3), (6, 2, 0), (7, 200, 0)), true),
+        (((5, 100, 3), (5, 0, 3), (7, 200, 0)), false),
+        (((5, 100, 3), (5, 0, 4), (7, 200, 0)), false),
+        (((5, 100, 1), (6, 1020, 0), (7, 200, 0)), true),
     ];
-    for (place, (first, there), (second, here), clashes) in grants {
-        let granted = object(5, place).ok_or("granted")?;
-        let first = object(first, there).ok_or("first")?;
-        let second = object(second, here).ok_or("second")?;
-        assert_eq!(rt;
-            clash(rt.alloc(), &replica, granted, (first, second))?,
-            clashes
-        );
+    for (told, clash) in grants {
+        assert_eq!(rt; clashes(rt.alloc(), &replica, told)?, clash);
     }
+    Ok(())
+}
+
+#[test]
+fn a_letter_clashes_by_its_size(rt: HostRuntime) -> Result<(), Fail> {
+    let node = NodeNo::new(0).ok_or("node")?;
+    let known = object((5, 0, 2)).ok_or("known")?;
+    let mut replica = Replica::new(rt.alloc(), node, 4);
+    replica.learn(&known)?;
     let larger = Info { size: 2, ..known };
-    assert!(rt; clash(rt.alloc(), &replica, larger, (known, known))?);
-    assert!(rt; clash(rt.alloc(), &replica, known, (known, larger))?);
+    assert!(rt; replica.clashes(&grant(rt.alloc(), larger, known, known)?));
+    assert!(rt; replica.clashes(&grant(rt.alloc(), known, known, larger)?));
     let name = known.name;
     let asker = node;
     assert!(rt; !replica.clashes(&Msg::ReadReq { name, asker }));

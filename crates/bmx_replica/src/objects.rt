@@ -1,0 +1,158 @@
+//! Objects as they are found by words, and values with their words: what a program's command on a register
+//! needs, without a look-up by name.
+ghost use Rattle.std.specs.Prelude.{◌≡◌, ℕ, ◌<◌, None, IsSome, IfSome, IfNone, is_some, nat_lt};
+ghost use Rattle.std.specs.Option.{option_map};
+ghost use Rattle.bmx_segment.specs.Headers.{kind_number};
+ghost use Rattle.bmx_replica.specs.Chains.{Means, name_at};
+ghost use Rattle.bmx_replica.specs.Replicas.{entry_of, copy_of, field_of, value_in, target_in, HasTarget, IsField, IsReplica, StandsAt, IsHolding, WritesField};
+
+use crate::layout::kind_in;
+use crate::replica::{Found, Replica};
+use crate::words::Word;
+use bmx_segment::{Header, Kind, State};
+use bmx_types::{Address, Name, Val};
+
+/// An object where it stands: its address, and its live header there.
+#[derive(Clone, Copy)]
+pub struct Object {
+    pub address: Address,
+    pub header: Header,
+}
+
+/// A value, and the word that holds it.
+#[derive(Clone, Copy)]
+pub struct Held {
+    pub value: Val,
+    pub word: Word,
+}
+
+impl Replica {
+    /// The object of a name where it stands, None where the name has no entry. Expected constant time.
+    pub fn object(&self, name: Name) -> Option<Object>
+        ensures stands { IfSome result (λ o. StandsAt self.now o) }
+        ensures named { IfSome result (λ o. o.header.name ≡ name) }
+        ensures some { is_some result ≡ is_some (entry_of self.now name) }
+    {
+        let Found { slot, header } = self.find(name)?;
+        let address = slot.address;
+        Some(Object { address, header })
+    }
+
+    /// The object of the name that an address word means, None where it means none or the name has no
+    /// entry. Where the object stands at that address, no name is looked up.
+    pub fn object_at(&self, w: u64) -> Option<Object>
+        ensures stands { IfSome result (λ o. StandsAt self.now o) }
+        ensures means { IfSome result (λ o. name_at self.now.heap.blocks w ≡ Some o.header.name) }
+        ensures none { IfNone result ((name : ℕ) → Means self.now.heap.blocks w name → entry_of self.now name ≡ None) }
+        ensures replica { IsReplica self.now.slots self.now.heap.blocks }
+    {
+        let segments = &self.segments;
+        let address = Address::from_word(w)?;
+        let header = segments.header(address)?;
+        match header.state {
+            State::Live { .. } => Some(Object { address, header }),
+            _ => self.object(header.name),
+        }
+    }
+
+    /// The word in a field of an object, None where it has no such field.
+    pub fn field_word(&self, object: &Object, i: u8) -> Option<Word>
+        requires { StandsAt self.now object.now }
+        ensures some { is_some result ≡ nat_lt i object.now.header.size }
+        ensures entry { IsSome (entry_of self.now object.now.header.name) }
+        ensures field { IfSome result (λ w. IsField self.now.heap.blocks (kind_number w.kind) w.word) }
+        ensures value { IsSome (copy_of self.now object.now.header.name) → field_of self.now object.now.header.name i ≡ option_map (λ w. value_in self.now.heap.blocks (kind_number w.kind) w.word) result }
+    {
+        let segments = &self.segments;
+        if i >= object.header.size {
+            return None;
+        }
+        let State::Live { kinds, .. } = object.header.state else {
+            unreachable!()
+        };
+        let word = segments.word(object.address, i);
+        let kind = kind_in(kinds, i);
+        Some(Word { kind, word })
+    }
+
+    /// The object that the word of a reference refers to.
+    fn referred(&self, w: u64) -> Object
+        requires field { IsField self.now.heap.blocks 2 w }
+        requires target { HasTarget self.now (value_in self.now.heap.blocks 2 w) }
+        ensures stands { StandsAt self.now result }
+        ensures named { value_in self.now.heap.blocks 2 w ≡ Val.Ref result.header.name }
+        ensures replica { IsReplica self.now.slots self.now.heap.blocks }
+    {
+        let Some(object) = self.object_at(w) else {
+            unreachable!()
+        };
+        object
+    }
+
+    /// The object that a word refers to, None where it holds no reference.
+    pub fn object_of(&self, word: Word) -> Option<Object>
+        requires field { IsField self.now.heap.blocks (kind_number word.kind) word.word }
+        requires target { HasTarget self.now (value_in self.now.heap.blocks (kind_number word.kind) word.word) }
+        ensures stands { IfSome result (λ o. StandsAt self.now o) }
+        ensures named { option_map (λ o. o.header.name) result ≡ target_in (value_in self.now.heap.blocks (kind_number word.kind) word.word) }
+    {
+        match word.kind {
+            Kind::Null => None,
+            Kind::Int => None,
+            Kind::Ref => Some(self.referred(word.word)),
+            Kind::Far => unreachable!(),
+        }
+    }
+
+    /// A value with the word that holds it, a reference by the current address of its name.
+    pub fn held(&self, value: Val) -> Held
+        requires { HasTarget self.now value }
+        ensures value { result.value ≡ value }
+        ensures held { IsHolding self.now result }
+    {
+        let word = self.word(value);
+        self.held_by(word)
+    }
+
+    /// What a word holds, with the word that holds it by the current address of its name. Where the object
+    /// stands at the word's address, no name is looked up.
+    pub fn held_by(&self, word: Word) -> Held
+        requires field { IsField self.now.heap.blocks (kind_number word.kind) word.word }
+        requires target { HasTarget self.now (value_in self.now.heap.blocks (kind_number word.kind) word.word) }
+        ensures value { result.value ≡ value_in self.now.heap.blocks (kind_number word.kind) word.word }
+        ensures held { IsHolding self.now result }
+    {
+        match word.kind {
+            Kind::Null => Held {
+                value: Val::Null,
+                word,
+            },
+            Kind::Int => Held {
+                value: Val::Int(word.word.cast_signed()),
+                word,
+            },
+            Kind::Ref => {
+                let Object { address, header } = self.referred(word.word);
+                let kind = Kind::Ref;
+                let word = address.word();
+                Held {
+                    value: Val::Ref(header.name),
+                    word: Word { kind, word },
+                }
+            }
+            Kind::Far => unreachable!(),
+        }
+    }
+
+    /// Writes a field of the copy of an object's name.
+    pub fn write_at(&mut self, object: &Object, i: u8, held: Held)
+        requires stands { StandsAt self.old object.now }
+        requires copy { IsSome (copy_of self.old object.now.header.name) }
+        requires field { i < object.now.header.size }
+        requires held { IsHolding self.old held }
+        ensures { WritesField self.old self.new object.now.header.name i held.value }
+    {
+        let Word { kind, word } = held.word;
+        self.segments.set_word(object.address, i, kind, word);
+    }
+}
