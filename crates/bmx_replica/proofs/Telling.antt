@@ -4,7 +4,7 @@ use Rattle.std.specs.Prelude.{◌==◌, ◌↔◌, nat_lt, not, if◌then◌else
 use Rattle.std.proofs.lemmas.List.{take_more, take-append-drop}
 use Rattle.std.proofs.lemmas.List.Elements.{filter_map-append}
 use Rattle.bmx_msg.specs.declared.letters.Field.{Field}
-use Rattle.bmx_msg.specs.declared.letters.Field.TheVariants as told
+use Rattle.bmx_msg.specs.declared.letters.Field.TheVariants as msg_field
 use Rattle.bmx_msg.specs.declared.letters.Field.TheVariants.{Ref}
 use Rattle.std.specs.Option.{option_map}
 use Rattle.std.proofs.lemmas.Bool.{cases_eq, cases_lt, false≢true, eq-eqb, ne_eqb, eqb-true, lt-ltb, le-ltb, and_from, and_parts}
@@ -287,9 +287,9 @@ told_rest fields k f i lt is ref =
 
 -- a field with no Info tells none
 pub told_none : (f : Field) → ((i : Info) → f ≡ Ref i → ⊥) → filter_map info_told (f ∷ []) ≡ []
-told_none told.Null not = refl
-told_none (told.Int k) not = refl
-told_none (told.Ref i) not = absurd (not i refl)
+told_none msg_field.Null not = refl
+told_none (msg_field.Int k) not = refl
+told_none (msg_field.Ref i) not = absurd (not i refl)
 
 append_nil : (xs : List Info) → xs ++ [] ≡ xs
 append_nil [] = refl

@@ -4,7 +4,7 @@ use Rattle.bmx_types.specs.declared.values.Val.{Val}
 use Rattle.bmx_types.specs.declared.values.Val.TheVariants as val
 use Rattle.bmx_types.specs.declared.addresses.Info.{Info}
 use Rattle.bmx_msg.specs.declared.letters.Field.{Field}
-use Rattle.bmx_msg.specs.declared.letters.Field.TheVariants as told
+use Rattle.bmx_msg.specs.declared.letters.Field.TheVariants as msg_field
 use Rattle.bmx_msg.specs.declared.letters.Msg.{Msg}
 use Rattle.bmx_msg.specs.declared.letters.Msg.TheVariants as msg
 use Rattle.bmx_replica.specs.Layouts.{Ground, ground_of, blank_header}
@@ -12,15 +12,15 @@ use Rattle.bmx_replica.specs.Replicas.{Holding, Entry, entry_of, learned, Accept
 
 -- the Info in a field
 abbrev pub info_told : Field → Option Info
-info_told told.Null = None
-info_told (told.Int k) = None
-info_told (told.Ref info) = Some info
+info_told msg_field.Null = None
+info_told (msg_field.Int k) = None
+info_told (msg_field.Ref info) = Some info
 
 -- the value in a field: a reference is to the name of its Info
 abbrev pub value_told : Field → Val
-value_told told.Null = val.Null
-value_told (told.Int k) = val.Int k
-value_told (told.Ref info) = val.Ref info.name
+value_told msg_field.Null = val.Null
+value_told (msg_field.Int k) = val.Int k
+value_told (msg_field.Ref info) = val.Ref info.name
 
 -- the values of fields in order
 abbrev pub values_told : List Field → List Val
