@@ -1,6 +1,6 @@
 use Rattle.std.proofs.Common.{◌∙◌}
 use Rattle.bmx_graph.specs.Graphs.{state_of}
-use Rattle.bmx_graph.proofs.graphs.Graph.hold.Goals as goal
+use Rattle.bmx_graph.proofs.graphs.GraphSight.hold.Goals as goal
 
 pub returns : goal.returns
 unfolding state_of
