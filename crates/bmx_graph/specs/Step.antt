@@ -18,7 +18,8 @@ use Rattle.bmx_graph.specs.declared.answers.Answer.{Answer}
 use Rattle.bmx_graph.specs.declared.answers.Answer.TheVariants as answer
 use Rattle.bmx_graph.specs.declared.effects.Effect.{Effect}
 use Rattle.bmx_graph.specs.declared.effects.Effect.TheVariants.{Nothing, Makes, Sets, Stores, Holds}
-use Rattle.bmx_graph.specs.State.{State, put, put_at, fields_of}
+use Rattle.bmx_graph.specs.State.{State, fields_of}
+use Rattle.bmx_types.specs.Updates.{put, put_at}
 
 -- what an operand stands for at a node
 abbrev pub value_of : State → ℕ → Operand → Val
