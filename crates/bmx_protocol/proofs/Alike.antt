@@ -11,7 +11,8 @@ use Rattle.bmx_types.specs.declared.commands.Operand.TheVariants as operand
 use Rattle.bmx_types.specs.declared.commands.Command.{Command}
 use Rattle.bmx_types.specs.declared.commands.Command.TheVariants as command
 use Rattle.bmx_types.specs.declared.addresses.Place.{Place}
-use Rattle.bmx_graph.specs.State.{State, put}
+use Rattle.bmx_graph.specs.State.{State}
+use Rattle.bmx_types.specs.Updates.{put}
 use Rattle.bmx_graph.specs.Step as effect_is
 use Rattle.bmx_graph.specs.Step.{value_of, target_of, reference, answer_of, set_answer, add_answer, get_answer, same_value, field_at, Effect, effect, storing, setting, raised_by}
 use Rattle.bmx_graph.specs.declared.answers.Answer.TheVariants as graph

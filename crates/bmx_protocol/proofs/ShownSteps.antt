@@ -3,7 +3,7 @@ use Rattle.std.proofs.Common.{◌≡◌, ℕ, suc, ◌<◌, refl, ap, sym, ◌�
 use Rattle.std.specs.Prelude.{◌+◌, Option, Some, None}
 use Rattle.std.specs.Option.{option_map}
 use Rattle.std.specs.List.{flat_map}
-use Rattle.bmx_graph.specs.State.{put}
+use Rattle.bmx_types.specs.Updates.{put}
 use Rattle.bmx_protocol.specs.declared.inputs.Input.{Input}
 use Rattle.bmx_protocol.specs.declared.inputs.Sending.{Sending}
 use Rattle.bmx_protocol.specs.declared.inputs.Done.{Done}

@@ -7,7 +7,7 @@ use Rattle.bmx_types.specs.Openings.{bunches_of}
 use Rattle.bmx_types.specs.declared.addresses.Place.{Place}
 use Rattle.bmx_types.specs.declared.addresses.Info.{Info}
 use Rattle.bmx_types.specs.declared.openings.Birth.{Birth}
-use Rattle.bmx_graph.specs.State.{put, put_at}
+use Rattle.bmx_types.specs.Updates.{put, put_at}
 use Rattle.bmx_protocol.specs.Nodes.{Setting, Known, is_anchor}
 
 -- what a header says of the words behind it: the object lies here, it went to another address, or it

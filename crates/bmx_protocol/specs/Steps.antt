@@ -6,7 +6,7 @@ use Rattle.std.specs.List.{flat_map}
 use Rattle.bmx_types.specs.declared.commands.Command.{Command}
 use Rattle.bmx_types.specs.declared.commands.Command.TheVariants as command
 use Rattle.bmx_types.specs.declared.addresses.Place.{Place}
-use Rattle.bmx_graph.specs.State.{put}
+use Rattle.bmx_types.specs.Updates.{put}
 use Rattle.bmx_msg.specs.declared.letters.Letter.{Letter}
 use Rattle.bmx_msg.specs.Letters.{given}
 use Rattle.bmx_protocol.specs.declared.inputs.Input.{Input}

@@ -3,7 +3,7 @@
 use Rattle.std.proofs.Common.{◌≡◌, ℕ, refl, ap, sym, subst, ◌∙◌, Bool, true, false, cond, List, [], ◌∷◌, ◌++◌}
 use Rattle.std.specs.Prelude.{◌==◌, Option, Some, None}
 use Rattle.std.specs.Option.{option_map}
-use Rattle.bmx_graph.specs.State.{put, put_at}
+use Rattle.bmx_types.specs.Updates.{put, put_at}
 use Rattle.bmx_token.specs.Turns.{Share, Turn}
 use Rattle.bmx_token_model.specs.Machine.{Message, Object, issue, moved, popped, hears, said_turn, letter_turn, IsSilent, IsNowhere, Step, Makes, Does, Takes, Writes, Forgets, Clears, Run, Goes}
 

@@ -4,7 +4,7 @@ use Rattle.std.specs.Prelude.{◌==◌, ◌≢◌, Some, None}
 use Rattle.std.specs.Option.{option_map_or}
 use Rattle.std.specs.List.{flat_map}
 use Rattle.std.proofs.lemmas.List.{map-append, append-nil}
-use Rattle.bmx_graph.specs.State.{put, put_at}
+use Rattle.bmx_types.specs.Updates.{put, put_at}
 use Rattle.bmx_msg.specs.declared.letters.Letter.{Letter}
 use Rattle.bmx_token.specs.Turns.{made_share}
 use Rattle.bmx_token_model.specs.Machine.{Message, Numbers, Object, with_holding, issue, issue_all, draft, got_in, popped, is_handover, Does, Takes, Writes}

@@ -18,7 +18,8 @@ use Rattle.bmx_msg.specs.declared.letters.Field.{Field}
 use Rattle.bmx_msg.specs.declared.letters.Field.TheVariants as told
 use Rattle.bmx_msg.specs.declared.letters.Msg.{Msg}
 use Rattle.bmx_msg.specs.declared.letters.Msg.TheVariants as msg
-use Rattle.bmx_graph.specs.State.{State, put}
+use Rattle.bmx_graph.specs.State.{State}
+use Rattle.bmx_types.specs.Updates.{put}
 use Rattle.bmx_graph.specs.declared.answers.Answer.{Answer}
 use Rattle.bmx_graph.specs.declared.answers.Answer.TheVariants as graph
 use Rattle.bmx_graph.specs.Step.{answer_of, target_of, value_of, field_at, sum_of, raised_by, Effect, effect, storing, setting}

@@ -10,7 +10,7 @@ use Rattle.bmx_types.specs.Words.{name_word, maker, count_of}
 use Rattle.bmx_types.specs.Openings.{IsOpening}
 use Rattle.bmx_types.specs.declared.values.Val.{Val}
 use Rattle.bmx_types.specs.declared.values.Val.TheVariants as val
-use Rattle.bmx_graph.specs.State.{put}
+use Rattle.bmx_types.specs.Updates.{put}
 use Rattle.bmx_msg.specs.declared.letters.Letter.{Letter}
 use Rattle.bmx_token.specs.Turns.{Serves}
 use Rattle.bmx_protocol.specs.declared.inputs.Input.{Input}

@@ -4,7 +4,7 @@ use Rattle.std.specs.Prelude.{◌==◌, ◌||◌, is_some, Option, Some, None}
 use Rattle.std.specs.Option.{option_to_list}
 use Rattle.bmx_types.specs.declared.numbers.Mode.{Mode}
 use Rattle.bmx_types.specs.declared.numbers.Mode.TheVariants as mode
-use Rattle.bmx_graph.specs.State.{put}
+use Rattle.bmx_types.specs.Updates.{put}
 use Rattle.bmx_token.specs.declared.parts.Role.TheVariants.{Owner}
 use Rattle.bmx_token.specs.Turns.{Share, Note, Asks, Grants, Recalls, Returns}
 use Rattle.bmx_token_model.specs.Machine.{Message, Numbers, Object, Run, IsFirst, IsSilent, IsIdle, IsUnneeded, gives, asks}

@@ -3,7 +3,7 @@
 use Rattle.std.proofs.Common.{◌≡◌, ◌⊎◌, inl, inr, ℕ, ◌+◌, ◌≤◌, arith, List, [], ◌∷◌, ◌++◌, map, refl, ap, sym, subst, subst₂, ◌∙◌, Bool, true, false, cond}
 use Rattle.std.specs.Prelude.{◌==◌, ◌&&◌, is_some, Option, Some, None}
 use Rattle.std.specs.Option.{option_map_or}
-use Rattle.bmx_graph.specs.State.{put, put_at}
+use Rattle.bmx_types.specs.Updates.{put, put_at}
 use Rattle.bmx_token.specs.Turns.{Share, Note, Returns, Send, send, Turn, made_share, heard_share}
 use Rattle.bmx_token_model.specs.Machine.{Message, Draft, asks, is_ask, is_handover, Numbers, Object, Step, Makes, Does, Takes, Writes, Forgets, Clears, Run, IsFirst, IsUntouched, draft, numbered, gives, brings, sent_in, got_in, issue, issue_all, with_holding, moved, popped}
 use Rattle.bmx_token_model.specs.Tables.{looks_to}

@@ -3,7 +3,7 @@ use Rattle.std.proofs.Common.{◌≡◌, ◌≢◌, ◌⊎◌, inl, inr, ℕ, �
 use Rattle.std.specs.Prelude.{◌==◌, if◌then◌else◌, Option, Some, None}
 use Rattle.std.specs.Option.{option_to_list}
 use Rattle.bmx_types.specs.declared.numbers.Mode.{Mode}
-use Rattle.bmx_graph.specs.State.{put}
+use Rattle.bmx_types.specs.Updates.{put}
 use Rattle.bmx_token.specs.declared.parts.Ask.{Ask}
 use Rattle.bmx_token.specs.Turns.{Share, Note, Asks, Recalls, Send, send, Turn, Act, turn_of, made_share, silently}
 use Rattle.bmx_token_model.specs.Machine.{Message, Draft, Object, Step, Run, Stays, Goes, IsNowhere, IsUnneeded, draft, numbered, with_holding, issue, issue_all, moved, popped, letter_turn}

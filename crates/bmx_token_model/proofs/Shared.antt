@@ -6,7 +6,7 @@ use Rattle.bmx_types.specs.declared.numbers.Mode.{Mode}
 use Rattle.bmx_types.specs.declared.numbers.Mode.TheVariants.{Read, Write}
 use Rattle.bmx_token.specs.declared.parts.Role.{Role}
 use Rattle.bmx_token.specs.declared.parts.Role.TheVariants.{Owner, Parent}
-use Rattle.bmx_graph.specs.State.{put}
+use Rattle.bmx_types.specs.Updates.{put}
 use Rattle.bmx_token.specs.Turns.{Share, Note, Asks, Grants, Recalls, Returns, Turn, silently, made_share}
 use Rattle.bmx_token_model.specs.Machine.{Message, Object, Run, IsFirst, IsUnneeded, with_holding, gives}
 use Rattle.bmx_token_model.specs.Laws.{owned_at, Seat, At, TokensExclude}

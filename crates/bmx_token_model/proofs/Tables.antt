@@ -2,7 +2,7 @@
 -- no request in flight counts on.
 use Rattle.std.proofs.Common.{◌≡◌, ◌⊎◌, inl, inr, ℕ, ◌+◌, ◌≤◌, arith, List, [], ◌∷◌, ◌++◌, refl, ap, sym, subst, subst₂, ◌∙◌, Bool, true, false, cond}
 use Rattle.std.specs.Prelude.{Option, Some, None}
-use Rattle.bmx_graph.specs.State.{put, put_at}
+use Rattle.bmx_types.specs.Updates.{put, put_at}
 use Rattle.bmx_token_model.specs.Machine.{Numbers, sent_in, got_in}
 use Rattle.bmx_token_model.specs.Tables.{Table}
 use Rattle.bmx_token_model.proofs.Tallies.{Cases, Same, Apart, cases, put_at-here, put_at-apart, put_at-all, Both, Other, pair_cases}

@@ -1,7 +1,7 @@
 -- Runs of the model worked by hand, each closed by computing: node 0 owns an object, and node 1 has
 -- heard of it.
 use Rattle.std.specs.Prelude.{◌≡◌, ℕ, ◌==◌, ◌&&◌, true, false, if◌then◌else◌, List, [], ◌∷◌, Option, Some, None, IsSome, refl}
-use Rattle.bmx_graph.specs.State.{put_at}
+use Rattle.bmx_types.specs.Updates.{put_at}
 use Rattle.bmx_types.specs.declared.numbers.Mode.TheVariants.{Read, Write}
 use Rattle.bmx_token.specs.Tokens.{owner_part, child_part}
 use Rattle.bmx_token_model.specs.Tables.{Table, Tabled, looks_to, MayForget}

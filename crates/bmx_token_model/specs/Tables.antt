@@ -1,7 +1,7 @@
 -- Tables: a node tells another whether it asks it for the object, and how many letters it has sent it and taken
 -- from it, so that the other may clear its record. A table may be lost, or be taken late and more than once.
 use Rattle.std.specs.Prelude.{◌≡◌, ℕ, ◌≤◌, ◌==◌, Bool, false, List, [], ◌∷◌, ◌++◌, Contains, Option, Some, None}
-use Rattle.bmx_graph.specs.State.{put_at}
+use Rattle.bmx_types.specs.Updates.{put_at}
 use Rattle.bmx_token.specs.declared.parts.Role.{Role}
 use Rattle.bmx_token.specs.declared.parts.Role.TheVariants.{Owner, Parent}
 use Rattle.bmx_token.specs.Turns.{Share}
