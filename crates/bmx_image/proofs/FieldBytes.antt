@@ -13,7 +13,7 @@ use Rattle.bmx_image.specs.declared.images.ImageField.TheVariants as field
 use Rattle.bmx_image.specs.Spelling.{field_bytes}
 use Rattle.bmx_image.specs.Images.{FieldFits, FitsBehind, top_of_fields}
 use Rattle.bmx_image.specs.Faults.{field_fault}
-use Rattle.bmx_image.proofs.OneFront.{AreSpelled}
+use Rattle.bmx_image.proofs.OnePrefix.{AreSpelled}
 
 pub one_number : (n a b : ℕ) (r s : List ℕ) → a < 256 ^ n → b < 256 ^ n → big_bytes n a ++ r ≡ big_bytes n b ++ s → (a ≡ b) × (r ≡ s)
 one_number n a b r s fa fb e = (

@@ -13,7 +13,7 @@ use Rattle.bmx_msg.specs.declared.letters.Msg.TheVariants as msg
 use Rattle.bmx_msg.specs.Letters.{given, targets}
 use Rattle.bmx_owner.specs.declared.entering.Record.{Record}
 use Rattle.bmx_owner.specs.Records.{sent_by, got_by}
-use Rattle.bmx_token.specs.Turns.{Note, Grants}
+use Rattle.bmx_token.specs.Transitions.{Note, Grants}
 use Rattle.bmx_token_model.specs.Machine.{Message, Numbers, Object, no_numbers, is_gift, gives, sent_in, got_in, issue, issue_all}
 use Rattle.bmx_protocol.specs.declared.inputs.Sending.{Sending}
 use Rattle.bmx_protocol.specs.Nodes.{NodeState}

@@ -6,28 +6,28 @@ use Rattle.bmx_types.specs.declared.numbers.Mode.TheVariants.{Read, Write}
 use Rattle.bmx_token.specs.Tokens.{owner_part, child_part}
 use Rattle.bmx_token_model.specs.Tables.{Table, Tabled, looks_to, MayForget}
 use Rattle.bmx_token_model.specs.Laws.{owned_at, handovers_in, Requested, Queued, Granted, standing, answers_owed}
-use Rattle.bmx_token.specs.Turns.{Share, Note, Asks, Grants, Recalls, Act, Acquires, Releases, Serves, Turn, turn_of, silently, made_share, heard_share, without_copy}
-use Rattle.bmx_token_model.specs.Machine.{Message, Numbers, no_numbers, Object, moved, popped, letter_turn}
+use Rattle.bmx_token.specs.Transitions.{Share, Note, Asks, Grants, Recalls, Operation, Acquires, Releases, Serves, Transition, transition_of, silently, made_share, heard_share, without_copy}
+use Rattle.bmx_token_model.specs.Machine.{Message, Numbers, no_numbers, Object, moved, popped, letter_transition}
 
 -- ## running
 
 -- what comes next: a node does something by itself, or takes the next letter from another
 pub data Next : Type 0 where
-  Do : (me : ℕ) (a : Act) → Next
+  Do : (me : ℕ) (a : Operation) → Next
   Take : (from me : ℕ) → Next
 
--- the object after a turn; one that is none leaves it
-abbrev pub after_turn : Object → Object → ℕ → Option Turn → Object
-after_turn o p me None = o
-after_turn o p me (Some t) = moved p me false t
+-- the object after a transition; one that is none leaves it
+abbrev pub after_transition : Object → Object → ℕ → Option Transition → Object
+after_transition o p me None = o
+after_transition o p me (Some t) = moved p me false t
 
-abbrev pub did : Object → ℕ → Act → Option Share → Object
+abbrev pub did : Object → ℕ → Operation → Option Share → Object
 did o me a None = o
-did o me a (Some h) = after_turn o o me (turn_of me a h)
+did o me a (Some h) = after_transition o o me (transition_of me a h)
 
 abbrev pub took : Object → ℕ → ℕ → List Message → Object
 took o from me [] = o
-took o from me (l ∷ rest) = after_turn o (popped o from me l rest) me (letter_turn me from l (o.holds me))
+took o from me (l ∷ rest) = after_transition o (popped o from me l rest) me (letter_transition me from l (o.holds me))
 
 -- a node with nothing of it, nothing to do, an empty channel, a letter to itself or a stray one leaves it
 abbrev pub next : Object → Next → Object
@@ -174,10 +174,10 @@ and_then_none_is_owed = refl
 
 -- ## letters fit, and nobody writes to itself
 
-the_request_fits : IsSome (letter_turn 0 1 (letter 1 (Asks Read 1)) (asked.holds 0))
+the_request_fits : IsSome (letter_transition 0 1 (letter 1 (Asks Read 1)) (asked.holds 0))
 the_request_fits = refl
 
-the_grant_fits : IsSome (letter_turn 1 0 (letter 1 (Grants Read)) (granted_read.holds 1))
+the_grant_fits : IsSome (letter_transition 1 0 (letter 1 (Grants Read)) (granted_read.holds 1))
 the_grant_fits = refl
 
 nobody_writes_to_itself : handed_over.channel 0 0 ≡ []
@@ -226,8 +226,8 @@ tabled = record { object = writes; tables = put_at (λ n m. []) 1 0 (table_of_th
 
 -- ## single letters
 
-a_stranger_hears_of_it : letter_turn 2 0 (record { seq = 1; note = None; tells = true }) None ≡ Some (silently (heard_share 0))
+a_stranger_hears_of_it : letter_transition 2 0 (record { seq = 1; note = None; tells = true }) None ≡ Some (silently (heard_share 0))
 a_stranger_hears_of_it = refl
 
-a_request_at_a_stranger_is_stray : letter_turn 2 0 (letter 1 (Asks Read 1)) None ≡ None
+a_request_at_a_stranger_is_stray : letter_transition 2 0 (letter 1 (Asks Read 1)) None ≡ None
 a_request_at_a_stranger_is_stray = refl

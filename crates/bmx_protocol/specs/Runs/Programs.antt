@@ -9,7 +9,7 @@ use Rattle.bmx_protocol.specs.declared.inputs.NodeAnswer.{NodeAnswer}
 use Rattle.bmx_protocol.specs.declared.inputs.NodeAnswer.TheVariants as answer
 use Rattle.bmx_protocol.specs.declared.events.Event.{Event}
 use Rattle.bmx_protocol.specs.Nodes.{Setting, NodeState}
-use Rattle.bmx_token.specs.Turns.{can_serve}
+use Rattle.bmx_token.specs.Transitions.{can_serve}
 use Rattle.bmx_protocol.specs.Steps.{Node, command_in}
 use Rattle.bmx_protocol.specs.Histories.{AreAfter, in_flight, is_wait}
 
