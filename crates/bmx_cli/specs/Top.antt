@@ -36,7 +36,7 @@ HadFault d = Rose d.faults_before d.faults_behind
 abbrev pub Wrote : Device → List ℕ → Type 0
 Wrote sink text = Appends sink.before sink.behind text
 
--- a part of these bytes was, from their front, or all of them
+-- a part of these bytes was, from their start, or all of them
 abbrev pub WrotePrefix : Device → List ℕ → Type 0
 WrotePrefix sink text = (n : ℕ) × Wrote sink (take n text)
 

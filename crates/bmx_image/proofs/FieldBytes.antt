@@ -1,4 +1,4 @@
--- A number, and a field, at the front of bytes.
+-- A number, and a field, at the start of bytes.
 use Rattle.std.proofs.Common.{◌≡◌, ℕ, suc, ◌+◌, ◌^◌, ◌<◌, Bool, false, cond, ltb, leb, List, ◌∷◌, ◌++◌, length, drop, max, Some, None, refl, sym, ap, ◌∙◌, arith}
 use Rattle.std.specs.Int.{w64, cast_unsigned, cast_signed}
 use Rattle.std.specs.Prelude.{ℤ, pos, negsuc, FitsSigned}

@@ -1,4 +1,4 @@
--- An object at the front of bytes.
+-- An object at the start of bytes.
 use Rattle.std.proofs.Common.{◌≡◌, ℕ, ◌^◌, ◌<◌, ◌≤◌, ◌⊎◌, false, ltb, List, [], ◌∷◌, ◌++◌, length, max, None, refl, sym, ap, ◌∙◌, arith, inl, inr}
 use Rattle.std.specs.Prelude.{IsTrue}
 use Rattle.std.specs.List.{flat_map}
@@ -12,7 +12,7 @@ use Rattle.bmx_image.specs.Faults.{size_fault, field_fault, IsObjectFault}
 use Rattle.bmx_image.proofs.OnePrefix.{AreSpelled, one_prefix}
 use Rattle.bmx_image.proofs.FieldBytes.{head, tail, WrongField, fields_are_spelled}
 
--- two lists of fields of one object that spell the front of the same bytes
+-- two lists of fields of one object that spell the start of the same bytes
 one_list : (count top n : ℕ) (xs ys : List ImageField) (r s : List ℕ) → count < 2 ^ 32 → EachFits (FitsBehind count top) [] xs → EachFits (FitsBehind count top) [] ys
     → (length xs ≡ n) ⊎ ((length xs < n) × WrongField count top xs r) → (length ys ≡ n) ⊎ ((length ys < n) × WrongField count top ys s)
     → flat_map field_bytes xs ++ r ≡ flat_map field_bytes ys ++ s → (xs ≡ ys) × (r ≡ s)

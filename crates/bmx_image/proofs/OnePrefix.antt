@@ -1,4 +1,4 @@
--- Two lists of things, each of which fits behind those before it, are the same where they spell the front of the
+-- Two lists of things, each of which fits behind those before it, are the same where they spell the start of the
 -- same bytes and neither can go on.
 use Rattle.std.proofs.Common.{◌≡◌, ℕ, ◌<◌, ◌≤◌, ◌⊎◌, List, [], ◌∷◌, ◌++◌, length, refl, sym, ap, subst, ◌∙◌, append_assoc, arith, inl, inr}
 use Rattle.std.specs.List.{flat_map}

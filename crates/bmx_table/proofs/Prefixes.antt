@@ -1,4 +1,4 @@
--- Lists that are read item by item from the front.
+-- Lists that are read item by item from the first on.
 use Rattle.std.proofs.Common.{◌≡◌, ℕ, zero, suc, ◌<◌, List, [], ◌∷◌, ◌++◌, length, take, slice_get, Some, None, refl, sym, ap, ◌∙◌, arith}
 
 module _ {X : Type 0} where
@@ -8,7 +8,7 @@ module _ {X : Type 0} where
   head_is : (x y : X) (xs ys : List X) → x ∷ xs ≡ y ∷ ys → x ≡ y
   head_is x y xs ys e = cc
 
-  -- what was read is a front, and so is it with the next item behind it
+  -- what was read is a prefix, and so is it with the next item behind it
   pub prefix-more : (xs ys : List X) (x : X) → take (length ys) xs ≡ ys → slice_get xs (length ys) ≡ Some x → take (length (ys ++ x ∷ [])) xs ≡ ys ++ x ∷ []
   prefix-more [] [] x e h = cc
   prefix-more (y ∷ xs) [] x e h = cc
