@@ -68,8 +68,8 @@ granted_read = after asked (Take 1 0 ∷ Do 0 Serves ∷ [])
 it_is_granted : granted_read.channel 0 1 ≡ letter 1 (Grants Read) ∷ []
 it_is_granted = refl
 
-the_way_there_is_empty : granted_read.channel 1 0 ≡ []
-the_way_there_is_empty = refl
+the_channel_there_is_empty : granted_read.channel 1 0 ≡ []
+the_channel_there_is_empty = refl
 
 the_giver_records_its_letter : granted_read.entering 0 1 ≡ Some record { sent = 1; got = 0 }
 the_giver_records_its_letter = refl
@@ -114,8 +114,8 @@ and_the_reader_has_no_copy = refl
 abbrev pub handed_over : Object
 handed_over = after reads (Do 1 Releases ∷ Do 1 (Acquires Write) ∷ Take 1 0 ∷ Do 0 Serves ∷ Take 0 1 ∷ Take 1 0 ∷ Do 0 Serves ∷ [])
 
-ownership_is_on_its_way : handed_over.channel 0 1 ≡ letter 3 (Grants Write) ∷ []
-ownership_is_on_its_way = refl
+ownership_is_in_flight : handed_over.channel 0 1 ≡ letter 3 (Grants Write) ∷ []
+ownership_is_in_flight = refl
 
 and_left_where_it_was : handed_over.holds 0 ≡ Some (heard_share 1)
 and_left_where_it_was = refl
@@ -123,8 +123,8 @@ and_left_where_it_was = refl
 nobody_owns_it_meanwhile : owned_at (handed_over.holds 0) ≡ 0
 nobody_owns_it_meanwhile = refl
 
-one_handover_is_on_its_way : handovers_in (handed_over.channel 0 1) ≡ 1
-one_handover_is_on_its_way = refl
+one_handover_is_in_flight : handovers_in (handed_over.channel 0 1) ≡ 1
+one_handover_is_in_flight = refl
 
 abbrev pub writes : Object
 writes = after handed_over (Take 0 1 ∷ Do 1 (Acquires Write) ∷ [])
@@ -140,8 +140,8 @@ the_taker_records_who_brought_it = refl
 
 -- ## where a want stands: in flight, in the queue, as a grant in flight, and at one of them alone
 
-it_stands_on_its_way : standing asked Read 1 (Requested 1 0) ≡ 1
-it_stands_on_its_way = refl
+it_stands_in_flight : standing asked Read 1 (Requested 1 0) ≡ 1
+it_stands_in_flight = refl
 
 abbrev queued_read : Object
 queued_read = after asked (Take 1 0 ∷ [])
@@ -149,8 +149,8 @@ queued_read = after asked (Take 1 0 ∷ [])
 then_in_the_queue : standing queued_read Read 1 (Queued 0) ≡ 1
 then_in_the_queue = refl
 
-and_no_more_on_its_way : standing queued_read Read 1 (Requested 1 0) ≡ 0
-and_no_more_on_its_way = refl
+and_no_more_in_flight : standing queued_read Read 1 (Requested 1 0) ≡ 0
+and_no_more_in_flight = refl
 
 then_it_is_granted : standing granted_read Read 1 (Granted 0) ≡ 1
 then_it_is_granted = refl
@@ -166,8 +166,8 @@ a_recall_is_owed_an_answer = refl
 then_the_release_owes_it : answers_owed kept_waiting 0 1 ≡ 1
 then_the_release_owes_it = refl
 
-then_it_is_on_its_way : answers_owed (after kept_waiting (Do 1 Releases ∷ [])) 0 1 ≡ 1
-then_it_is_on_its_way = refl
+then_it_is_in_flight : answers_owed (after kept_waiting (Do 1 Releases ∷ [])) 0 1 ≡ 1
+then_it_is_in_flight = refl
 
 and_then_none_is_owed : answers_owed writes_at_home 0 1 ≡ 0
 and_then_none_is_owed = refl
