@@ -6,7 +6,7 @@ use Rattle.std.proofs.lemmas.List.{append-nil}
 use Rattle.bmx_types.specs.Openings.{IsOpening}
 use Rattle.bmx_types.specs.declared.addresses.Place.{Place}
 use Rattle.bmx_types.specs.declared.addresses.Info.{Info}
-use Rattle.bmx_graph.specs.State.{put}
+use Rattle.bmx_types.specs.Updates.{put}
 use Rattle.bmx_owner.specs.declared.entering.Record.{Record}
 use Rattle.bmx_msg.specs.declared.letters.Letter.{Letter}
 use Rattle.bmx_msg.specs.declared.letters.Msg.TheVariants as msg
@@ -17,8 +17,8 @@ use Rattle.bmx_protocol.specs.declared.inputs.NodeAnswer.{NodeAnswer}
 use Rattle.bmx_protocol.specs.declared.inputs.Done.{Done}
 use Rattle.bmx_protocol.specs.declared.events.Event.{Event}
 use Rattle.bmx_protocol.specs.Nodes.{Setting, Known, NodeState, share_of}
-use Rattle.bmx_protocol.specs.Rules.{Outcome, only, infos, name_in, note_in, took}
-use Rattle.bmx_token.specs.Turns.{Turn, note_turn}
+use Rattle.bmx_protocol.specs.Rules.{Reaction, only, infos, name_in, note_in, took}
+use Rattle.bmx_token.specs.Transitions.{Transition, note_transition}
 use Rattle.bmx_protocol.specs.Strays.{some_clash}
 use Rattle.bmx_protocol.specs.Steps.{Node, first_node, IsStep}
 use Rattle.bmx_protocol.specs.Histories.{issued, taken, in_flight, Fits, EachFits, Replays, AreAfter, IsLegal}
@@ -157,8 +157,8 @@ module _ (st : Setting) (history : List Event) (nodes : ℕ → Node) (opening :
   next_taken from me stamp l rest done then real real_me first step =
       let t : IsTakeable st me from (nodes me) l = next_is_takeable st history nodes opening legal after k.blocks k.are k.still me from (k.keeps me) k.letters l rest first real_me real in
       ap (λ (d : Done). d.answer) step.outcome
-      ∙ (λ i. (cond (t.good i || (step.is_told.clash ∙ t.calm) i) (only answer.Stray) (took s step.told.lies from l.seq l.msg (s.known (name_in l.msg)) (note_turn me from (note_in l.msg) (option_map share_of (s.known (name_in l.msg)))))).answer)
-      ∙ ap (λ (o : Option Turn). (took s step.told.lies from l.seq l.msg (s.known (name_in l.msg)) o).answer) t.turns
+      ∙ (λ i. (cond (t.good i || (step.is_told.clash ∙ t.calm) i) (only answer.Stray) (took s step.told.lies from l.seq l.msg (s.known (name_in l.msg)) (note_transition me from (note_in l.msg) (option_map share_of (s.known (name_in l.msg)))))).answer)
+      ∙ ap (λ (o : Option Transition). (took s step.told.lies from l.seq l.msg (s.known (name_in l.msg)) o).answer) t.turns
     where
       s : NodeState
       s = (nodes me).state

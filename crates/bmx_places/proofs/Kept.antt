@@ -14,13 +14,13 @@ use Rattle.bmx_types.specs.declared.values.Val.TheVariants as val
 use Rattle.bmx_types.specs.declared.commands.Command.{Command}
 use Rattle.bmx_types.specs.declared.commands.Command.TheVariants as command
 use Rattle.bmx_types.specs.declared.numbers.Mode.TheVariants as mode
-use Rattle.bmx_graph.specs.State.{put}
+use Rattle.bmx_types.specs.Updates.{put}
 use Rattle.bmx_msg.specs.declared.letters.Field.{Field}
 use Rattle.bmx_msg.specs.declared.letters.Letter.{Letter}
 use Rattle.bmx_msg.specs.declared.letters.Msg.{Msg}
 use Rattle.bmx_msg.specs.declared.letters.Msg.TheVariants as msg
 use Rattle.bmx_token.specs.declared.parts.Role.TheVariants.{Owner}
-use Rattle.bmx_token.specs.Turns.{Share, Note, Asks, Grants, Recalls, Returns, Turn, Serves, note_turn}
+use Rattle.bmx_token.specs.Transitions.{Share, Note, Asks, Grants, Recalls, Returns, Transition, Serves, note_transition}
 use Rattle.bmx_token_model.specs.Machine.{Object, IsFirst, Run}
 use Rattle.bmx_token_model.proofs.Sound.{IsSound, IsSoundIf}
 use Rattle.bmx_token_model.proofs.Shared.{IsShared, shared_run}
@@ -36,7 +36,7 @@ use Rattle.bmx_protocol.specs.declared.views.ViewField.TheVariants as field
 use Rattle.bmx_protocol.specs.Nodes.{Setting, NodeState, Known, share_of}
 use Rattle.bmx_protocol.specs.Places.{Places, is_full, has_room, with_made, with_object, with_went, with_learnt, learn_at, with_all_learnt}
 use Rattle.bmx_protocol.specs.Changes.{Change, Sets, Makes, Knows, Hears, Gives, Gets, Issues, Takes, heard_of, after_change, after_changes}
-use Rattle.bmx_protocol.specs.Rules.{Outcome, only, about, next_name, new_object, infos, name_in, note_in, grant_in, heard_field, known_change, copy_after, got_change, took}
+use Rattle.bmx_protocol.specs.Rules.{Reaction, only, about, next_name, new_object, infos, name_in, note_in, grant_in, heard_field, known_change, copy_after, got_change, took}
 use Rattle.bmx_protocol.specs.Strays.{is_bad_letter, some_clash}
 use Rattle.bmx_protocol.specs.Steps.{Node, letter_in, command_in, Told, nowhere, finds_full, rule, letters_of, numbered, sent_changes, changes_of, closed, done_of, is_taken, is_nil, made_places, MovesTo, IsStep}
 use Rattle.bmx_protocol.specs.Histories.{issued, arrived, taken, in_flight, IsInputOf, IsNext, Fits, AreAfter, IsLegal}
@@ -248,7 +248,7 @@ module _ (st : Setting) (past : List Event) (nodes : ℕ → Node) (e : Event) (
 
   -- ## the node's step
 
-  module _ (o : Outcome) (is : o ≡ rule st me s step.told e.input) where
+  module _ (o : Reaction) (is : o ≡ rule st me s step.told e.input) where
     state_is : after.state ≡ closed e.stamp s o
     state_is = step.state ∙ ap (closed e.stamp s) (sym is)
 
@@ -256,7 +256,7 @@ module _ (st : Setting) (past : List Event) (nodes : ℕ → Node) (e : Event) (
     letters_are = ap (λ (d : Done). d.letters) step.outcome ∙ ap (letters_of e.stamp s) (sym is)
 
     answer_is : e.done.answer ≡ o.answer
-    answer_is = ap (λ (d : Done). d.answer) step.outcome ∙ ap (λ (p : Outcome). p.answer) (sym is)
+    answer_is = ap (λ (d : Done). d.answer) step.outcome ∙ ap (λ (p : Reaction). p.answer) (sym is)
 
     known_is : after.state.known ≡ (after_changes s (changes_of e.stamp s o)).known
     known_is = ap (λ (t : NodeState). t.known) state_is
@@ -320,7 +320,7 @@ module _ (st : Setting) (past : List Event) (nodes : ℕ → Node) (e : Event) (
   -- ## a new object
 
   module _ (register bunch size : ℕ) (is : e.input ≡ input.Do (command.New register bunch size)) (full : step.told.full ≡ false)
-      (o : Outcome) (from_rule : o ≡ rule st me s step.told e.input)
+      (o : Reaction) (from_rule : o ≡ rule st me s step.told e.input)
       (makes : o ≡ record { changes = Knows (next_name me s) (new_object bunch size) ∷ Sets register (val.Ref (next_name me s)) ∷ Makes ∷ []; drafts = []; answer = answer.Nil }) where
     abbrev x : ℕ
     x = next_name me s
@@ -357,7 +357,7 @@ module _ (st : Setting) (past : List Event) (nodes : ℕ → Node) (e : Event) (
 
     places_are : after.places ≡ with_made me here.places x bunch size
     places_are = subst (λ (i : Input). MovesTo me here step.told i e.done.answer after.places) is step.places
-        ∙ ap (λ (y : NodeAnswer). cond (is_nil y) (with_made me here.places x bunch size) here.places) (answer_is o from_rule ∙ ap (λ (p : Outcome). p.answer) makes)
+        ∙ ap (λ (y : NodeAnswer). cond (is_nil y) (with_made me here.places x bunch size) here.places) (answer_is o from_rule ∙ ap (λ (p : Reaction). p.answer) makes)
 
     state_then : after.state ≡ closed e.stamp s (record { changes = Knows (next_name me s) (new_object bunch size) ∷ Sets register (val.Ref (next_name me s)) ∷ Makes ∷ []; drafts = []; answer = answer.Nil })
     state_then = state_is o from_rule ∙ ap (closed e.stamp s) makes
@@ -411,7 +411,7 @@ module _ (st : Setting) (past : List Event) (nodes : ℕ → Node) (e : Event) (
           (made_keeps st w v kept.blocks kept.are me s.known x k (kept.homes me) of_store.2 room then_later fits.a_node handed_is of_store.1 counted unnamed (kept.keeps me) replicate_full));
       records = subst (AllOf more) (sym (ap (λ (t : NodeState). t.entering) state_then)) (records_grown kept.blocks more grown s.entering (kept.records me));
       letters = subst (Every (IsSent more e.stamp)) (sym (letters_are o from_rule ∙ ap (letters_of e.stamp s) makes)) tt;
-      answer = λ stray. nil_is_not (sym (ap (λ (p : Outcome). p.answer) makes) ∙ sym (answer_is o from_rule) ∙ stray);
+      answer = λ stray. nil_is_not (sym (ap (λ (p : Reaction). p.answer) makes) ∙ sym (answer_is o from_rule) ∙ stray);
     })
       where
         nil_is_not : answer.Nil ≡ answer.Stray → ⊥
@@ -477,7 +477,7 @@ module _ (st : Setting) (past : List Event) (nodes : ℕ → Node) (e : Event) (
     takeable : IsTakeable st me from here l
     takeable = next_is_takeable st past nodes opening legal reached kept.blocks kept.are kept.still me from (kept.keeps me) kept.letters l rest first fits.a_node (subst (IsInputOf st) is fits.an_input)
 
-    abbrev o : Outcome
+    abbrev o : Reaction
     o = took s step.told.lies from l.seq m (s.known (name_in m)) (Some takeable.turn)
 
     calm : step.told.clash ≡ false
@@ -486,7 +486,7 @@ module _ (st : Setting) (past : List Event) (nodes : ℕ → Node) (e : Event) (
     takes : o ≡ rule st me s step.told e.input
     takes =
         ap (took s step.told.lies from l.seq m (s.known (name_in m))) (sym takeable.turns)
-        ∙ (λ i. cond (sym takeable.good i || sym calm i) (only answer.Stray) (took s step.told.lies from l.seq m (s.known (name_in m)) (note_turn me from (note_in m) (option_map share_of (s.known (name_in m))))))
+        ∙ (λ i. cond (sym takeable.good i || sym calm i) (only answer.Stray) (took s step.told.lies from l.seq m (s.known (name_in m)) (note_transition me from (note_in m) (option_map share_of (s.known (name_in m))))))
         ∙ ap (rule st me s step.told) (sym is)
 
     its : IsIssued kept.blocks l
@@ -534,7 +534,7 @@ module _ (st : Setting) (past : List Event) (nodes : ℕ → Node) (e : Event) (
     known_plainly None e = tt
     known_plainly (Some k) e = known_plain t.known (name_in m) k (copy_after m (Some k)) takeable.turn.after (hears_stays from (infos m) s (name_in m) k e) (copy_full m its.right k e)
 
-    got_plainly : (n : Note) (k : Option Known) → s.known (name_in m) ≡ k → note_turn me from n (option_map share_of k) ≡ Some takeable.turn → Each (Plain t.known) (got_change from l.seq (name_in m) n)
+    got_plainly : (n : Note) (k : Option Known) → s.known (name_in m) ≡ k → note_transition me from n (option_map share_of k) ≡ Some takeable.turn → Each (Plain t.known) (got_change from l.seq (name_in m) n)
     got_plainly (Asks y asker) k e turns = tt
     got_plainly (Grants mode.Read) k e turns = tt
     got_plainly (Grants mode.Write) None e turns = none_some turns

@@ -5,10 +5,10 @@ use Rattle.std.proofs.lemmas.Bool.Decides.{nat_tests}
 use Rattle.bmx_types.specs.Words.{maker, address_word, home_of, segment_of, index_of}
 use Rattle.bmx_types.specs.Openings.{bunches_of}
 use Rattle.bmx_types.specs.declared.addresses.Place.{Place}
-use Rattle.bmx_graph.specs.State.{put}
+use Rattle.bmx_types.specs.Updates.{put}
 use Rattle.bmx_protocol.specs.declared.views.ViewField.{ViewField}
 use Rattle.bmx_protocol.specs.Nodes.{Setting, Known}
-use Rattle.bmx_protocol.specs.Places.{Header, Places, has_room, with_segment, with_room, with_object, put_behind, with_made, overlaps}
+use Rattle.bmx_protocol.specs.Places.{Header, Places, has_room, with_segment, with_room, with_object, with_placed, with_made, overlaps}
 use Rattle.bmx_protocol.specs.Worlds.{World}
 use Rattle.bmx_store_laws.proofs.Basics.{eqb_of, Two, Same, Apart, two}
 use Rattle.bmx_store_laws.specs.Laws.{IsCounted}
@@ -226,8 +226,8 @@ module _ (st : Setting) (w v : World) (blocks : ℕ → Option Block) (are : Are
           inl (sym (ap (λ (z : Block). z.name) same), sym (ap (λ (z : Block). z.moves) same))
       by_two (Apart f d) = inr (sym (at_apart blocks word c (Some its_block) f) ∙ e)
 
-  made_is : with_made me a x k.bunch k.size ≡ put_behind me roomy x k.size (Some r.segment)
-  made_is = ap (put_behind me roomy x k.size) r.open_for
+  made_is : with_made me a x k.bunch k.size ≡ with_placed me roomy x k.size (Some r.segment)
+  made_is = ap (with_placed me roomy x k.size) r.open_for
 
   seg_small : r.segment < 2 ^ 24
   seg_small = omega (arith, r.home.opened k.bunch r.segment r.open_for, r.home.few)

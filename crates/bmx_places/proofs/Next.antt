@@ -14,8 +14,8 @@ use Rattle.bmx_msg.specs.declared.letters.Field.{Field}
 use Rattle.bmx_msg.specs.declared.letters.Letter.{Letter}
 use Rattle.bmx_msg.specs.declared.letters.Msg.{Msg}
 use Rattle.bmx_msg.specs.declared.letters.Msg.TheVariants as msg
-use Rattle.bmx_token.specs.Turns.{Share, Note, Asks, Turn, is_request_of, note_turn}
-use Rattle.bmx_token_model.specs.Machine.{Message, hears, said_turn, letter_turn}
+use Rattle.bmx_token.specs.Transitions.{Share, Note, Asks, Transition, is_request_of, note_transition}
+use Rattle.bmx_token_model.specs.Machine.{Message, hears, said_transition, letter_transition}
 use Rattle.bmx_token_model.specs.Laws.{NoneIsStray, IsApart}
 use Rattle.bmx_token_model.proofs.Stated.{no_letter_is_stray, nobody_asks_itself}
 use Rattle.bmx_protocol.specs.declared.inputs.Sending.{Sending}
@@ -99,12 +99,12 @@ lt_else a b h less = (let both : true ≡ false = sym (grind (arith, nat_tests))
 
 -- ## the letter
 
--- what taking a letter needs: another sender, nothing bad, no clash, and a turn
+-- what taking a letter needs: another sender, nothing bad, no clash, and a transition
 pub record IsTakeable (st : Setting) (me from : ℕ) (n : Node) (l : Letter) : Type 0 where
   pub good : is_bad_letter st me n.state from l ≡ false
   pub calm : some_clash me from n.state.known n.places (infos l.msg) ≡ false
-  pub turn : Turn
-  pub turns : note_turn me from (note_in l.msg) (option_map share_of (n.state.known (name_in l.msg))) ≡ Some turn
+  pub turn : Transition
+  pub turns : note_transition me from (note_in l.msg) (option_map share_of (n.state.known (name_in l.msg))) ≡ Some turn
 
 module _ (st : Setting) (past : List Event) (nodes : ℕ → Node) (opening : IsOpening st.nodes st.limit st.births) (legal : IsLegal st past) (after : AreAfter st past nodes)
     (blocks : ℕ → Option Block) (are : AreBlocks st (world_of nodes past) blocks) (still : (a : ℕ) (b : Block) → blocks a ≡ Some b → b.moves ≡ 0)
@@ -224,18 +224,18 @@ module _ (st : Setting) (past : List Event) (nodes : ℕ → Node) (opening : Is
       let stamp : nat_le too_large l.stamp ≡ false = le_not too_large l.stamp its.stamp in
       (λ i. sender i || no_node st from real i || not (eqb_of its_number i) || stamp i || msg_not i)
 
-  -- it has its turn
-  its_turn : (t : Turn) × (note_turn me from (note_in l.msg) (option_map share_of (s.known x)) ≡ Some t)
-  its_turn = by_turn (note_turn me from (note_in l.msg) (option_map share_of (s.known x))) refl (subst (λ (n : Option Note). IsSome (option_map then_hears (said_turn me from n (seen_known (s.known x))))) its_note taken_there)
+  -- it has its transition
+  its_turn : (t : Transition) × (note_transition me from (note_in l.msg) (option_map share_of (s.known x)) ≡ Some t)
+  its_turn = by_turn (note_transition me from (note_in l.msg) (option_map share_of (s.known x))) refl (subst (λ (n : Option Note). IsSome (option_map then_hears (said_transition me from n (seen_known (s.known x))))) its_note taken_there)
     where
-      then_hears : Turn → Turn
+      then_hears : Transition → Transition
       then_hears t = record t { after = hears (seen_message x l).tells from t.after }
 
-      taken_there : IsSome (letter_turn me from (seen_message x l) (seen_known (s.known x)))
+      taken_there : IsSome (letter_transition me from (seen_message x l) (seen_known (s.known x)))
       taken_there = each_name NoneIsStray no_letter_is_stray st past nodes opening legal after x from me (seen_message x l) (map (seen_message x) rest) apart seen_first
 
-      by_turn : (o : Option Turn) → note_turn me from (note_in l.msg) (option_map share_of (s.known x)) ≡ o → IsSome (option_map then_hears o) →
-          (t : Turn) × (note_turn me from (note_in l.msg) (option_map share_of (s.known x)) ≡ Some t)
+      by_turn : (o : Option Transition) → note_transition me from (note_in l.msg) (option_map share_of (s.known x)) ≡ o → IsSome (option_map then_hears o) →
+          (t : Transition) × (note_transition me from (note_in l.msg) (option_map share_of (s.known x)) ≡ Some t)
       by_turn None e h = absurd cc
       by_turn (Some t) e h = (t, e)
 

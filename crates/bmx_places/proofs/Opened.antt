@@ -8,12 +8,12 @@ use Rattle.bmx_types.specs.Openings.{IsOpening, bunches_of}
 use Rattle.bmx_types.specs.declared.openings.Birth.{Birth}
 use Rattle.bmx_types.specs.declared.addresses.Place.{Place}
 use Rattle.bmx_types.specs.declared.values.Val.{Val}
-use Rattle.bmx_graph.specs.State.{put}
+use Rattle.bmx_types.specs.Updates.{put}
 use Rattle.bmx_owner.specs.declared.entering.Record.{Record}
 use Rattle.bmx_owner.specs.Records.{blank}
 use Rattle.bmx_protocol.specs.declared.views.ViewField.{ViewField}
 use Rattle.bmx_protocol.specs.Nodes.{Setting, Known, field_of, is_anchor, birth_of, owned_birth, heard_birth, first_known, first_entering}
-use Rattle.bmx_protocol.specs.Places.{Header, Places, has_room, with_segment, with_made, with_object, put_behind, no_places, with_births, by_bunch, owner_places, told_place, with_told, first_places}
+use Rattle.bmx_protocol.specs.Places.{Header, Places, has_room, with_segment, with_made, with_object, with_placed, no_places, with_births, by_bunch, owner_places, told_place, with_told, first_places}
 use Rattle.bmx_protocol.specs.Steps.{first_node}
 use Rattle.bmx_protocol.specs.Worlds.{World, world_of}
 use Rattle.bmx_store_laws.specs.Laws.{IsCounted}
@@ -233,11 +233,11 @@ fields_long (f ∷ fields) = ap suc (fields_long fields)
 most_made : (a : Places) (x bunch size : ℕ) → (with_made 0 a x bunch size).made ≤ a.made + 1
 most_made a x bunch size = by_room (has_room a (a.opened bunch) (4 + size))
   where
-    same : (b : Places) (o : Option ℕ) → (put_behind 0 b x size o).made ≡ b.made
+    same : (b : Places) (o : Option ℕ) → (with_placed 0 b x size o).made ≡ b.made
     same b None = refl
     same b (Some segment) = refl
 
-    by_room : (t : Bool) → (put_behind 0 (cond t a (with_segment 0 a bunch)) x size ((cond t a (with_segment 0 a bunch)).opened bunch)).made ≤ a.made + 1
+    by_room : (t : Bool) → (with_placed 0 (cond t a (with_segment 0 a bunch)) x size ((cond t a (with_segment 0 a bunch)).opened bunch)).made ≤ a.made + 1
     by_room true = omega (arith, same a (a.opened bunch))
     by_room false = omega (arith, same (with_segment 0 a bunch) ((with_segment 0 a bunch).opened bunch))
 

@@ -28,7 +28,7 @@ use Rattle.bmx_token.specs.declared.answers.Acquire.TheVariants as acquire_is
 use Rattle.bmx_token.specs.declared.answers.Release.{Release}
 use Rattle.bmx_token.specs.declared.answers.Release.TheVariants as release_is
 use Rattle.bmx_token.specs.Tokens.{acquire, release, serve_by}
-use Rattle.bmx_token.specs.Turns.{Share, Note, Asks, Grants, Recalls, Returns, Send, Turn, Act, Acquires, Releases, Serves, acquired, released, served, turn_of, can_serve}
+use Rattle.bmx_token.specs.Transitions.{Share, Note, Asks, Grants, Recalls, Returns, Send, Transition, Operation, Acquires, Releases, Serves, acquired, released, served, transition_of, can_serve}
 use Rattle.bmx_token_model.specs.Machine.{is_grant}
 use Rattle.bmx_protocol.specs.declared.inputs.NodeAnswer.{NodeAnswer}
 use Rattle.bmx_protocol.specs.declared.inputs.NodeAnswer.TheVariants as answer
@@ -37,7 +37,7 @@ use Rattle.bmx_protocol.specs.declared.views.ViewField.TheVariants as field
 use Rattle.bmx_protocol.specs.Nodes.{NodeState, Known, seen_graph, share_of, with_field, field_of}
 use Rattle.bmx_protocol.specs.Places.{Places}
 use Rattle.bmx_protocol.specs.Changes.{Change, Sets, Makes, Knows}
-use Rattle.bmx_protocol.specs.Rules.{Draft, Outcome, only, info_of, told_field, told_fields, info_in, message, drafts_of, with_share, known_change, act_answer, acquire_answer, release_answer, acted, act_rule, About, Token, Fields, Making, Nothing, about, next_name, new_object, stored, graph_changes, answered, graph_rule, token_rule, knows, command_rule, infos, grant_in}
+use Rattle.bmx_protocol.specs.Rules.{Draft, Reaction, only, info_of, told_field, told_fields, info_in, message, drafts_of, with_share, known_change, operation_answer, acquire_answer, release_answer, after_operation, operation_rule, About, Token, Fields, Making, Nothing, about, next_name, new_object, stored, graph_changes, answered, graph_rule, token_rule, knows, command_rule, infos, grant_in}
 use Rattle.bmx_protocol.proofs.Changing.{Each}
 use Rattle.bmx_store_laws.proofs.Ruled.{HasNo, NoRefs, FreeOf}
 use Rattle.bmx_store_laws.proofs.Copies.{IsCopied, act_copied, NoGrants}
@@ -47,12 +47,12 @@ use Rattle.bmx_places.proofs.Plain.{shape, IsKnown, Plain, IsRight, IsDraft}
 
 -- ## what grants bring
 
--- a turn grants only what it has a copy of
-abbrev MayGrant : Bool → Option Turn → Type 0
+-- a transition grants only what it has a copy of
+abbrev MayGrant : Bool → Option Transition → Type 0
 MayGrant copy None = Unit {0}
 MayGrant copy (Some t) = Every (λ (n : Send). is_grant n.note ≡ true → copy ≡ true) t.sends
 
-with_a_copy : (copy : Bool) (t : Option Turn) → copy ≡ true → MayGrant copy t
+with_a_copy : (copy : Bool) (t : Option Transition) → copy ≡ true → MayGrant copy t
 with_a_copy copy None has = tt
 with_a_copy copy (Some t) has = each t.sends
   where
@@ -60,7 +60,7 @@ with_a_copy copy (Some t) has = each t.sends
     each [] = tt
     each (n ∷ sends) = (λ _. has, each sends)
 
-act_grants : (me : ℕ) (a : Act) (h : Share) → (h.part.role ≡ Owner → h.copy ≡ true) → MayGrant h.copy (turn_of me a h)
+act_grants : (me : ℕ) (a : Operation) (h : Share) → (h.part.role ≡ Owner → h.copy ≡ true) → MayGrant h.copy (transition_of me a h)
 act_grants me (Acquires m) h has = by_answer (acquire me h.part m h.copy).0 (acquire me h.part m h.copy).1
   where
     by_answer : (p : Part) (r : Acquire) → MayGrant h.copy (acquired me m h p r)
@@ -189,7 +189,7 @@ abbrev pub NotStray : NodeAnswer → Type 0
 NotStray a = a ≢ answer.Stray
 
 -- plain changes and drafts
-pub record IsPlain (blocks : ℕ → Option Block) (known : ℕ → Option Known) (o : Outcome) : Type 0 where
+pub record IsPlain (blocks : ℕ → Option Block) (known : ℕ → Option Known) (o : Reaction) : Type 0 where
   pub changes : Each (Plain known) o.changes
   pub drafts : Every (IsDraft blocks known) o.drafts
   pub answer : NotStray o.answer
@@ -197,7 +197,7 @@ pub record IsPlain (blocks : ℕ → Option Block) (known : ℕ → Option Known
 nothing_plain : (blocks : ℕ → Option Block) (known : ℕ → Option Known) (a : NodeAnswer) → NotStray a → IsPlain blocks known (only a)
 nothing_plain blocks known a right = record { changes = tt; drafts = tt; answer = right }
 
--- what a turn leaves of what was known is of its shape
+-- what a transition leaves of what was known is of its shape
 pub known_plain : (known : ℕ → Option Known) (name : ℕ) (k : Known) (fields : Option (List ViewField)) (h : Option Share) → known name ≡ Some k →
     ((f : List ViewField) → fields ≡ Some f → length f ≡ k.size) → Each (Plain known) (known_change name (Some k) fields h)
 known_plain known name k fields None is full = tt
@@ -218,7 +218,7 @@ release_answers release_is.Free e = cc
 release_answers (release_is.Answers owner) e = cc
 release_answers release_is.Refused e = cc
 
-act_answers : (me : ℕ) (a : Act) (h : Share) → NotStray (act_answer me a h)
+act_answers : (me : ℕ) (a : Operation) (h : Share) → NotStray (operation_answer me a h)
 act_answers me (Acquires m) h = acquire_answers (acquire me h.part m h.copy).1
 act_answers me Releases h = release_answers (release h.part).1
 act_answers me Serves h = by_test (can_serve me h.part)
@@ -237,7 +237,7 @@ replicate_length zero f = refl
 replicate_length (suc n) f = ap suc (replicate_length n f)
 
 -- what a command comes to: plain changes, or the making of a new object in a bunch
-pub data Comes (blocks : ℕ → Option Block) (me : ℕ) (s : NodeState) (full : Bool) (c : Command) (o : Outcome) : Type 0 where
+pub data Comes (blocks : ℕ → Option Block) (me : ℕ) (s : NodeState) (full : Bool) (c : Command) (o : Reaction) : Type 0 where
   Plainly : IsPlain blocks s.known o → ((register bunch size : ℕ) → c ≡ command.New register bunch size → o.answer ≡ answer.Nil → ⊥) → Comes blocks me s full c o
   New : (register bunch size : ℕ) → c ≡ command.New register bunch size → full ≡ false →
       o ≡ record { changes = Knows (next_name me s) (new_object bunch size) ∷ Sets register (val.Ref (next_name me s)) ∷ Makes ∷ []; drafts = []; answer = answer.Nil } →
@@ -246,11 +246,11 @@ pub data Comes (blocks : ℕ → Option Block) (me : ℕ) (s : NodeState) (full 
 module _ (blocks : ℕ → Option Block) (me : ℕ) (s : NodeState) (a : Places) (full : Bool) (lies : ℕ → Place) (keeps : Keeps blocks s.known a)
     (told : (x : ℕ) (p : Place) → a.place x ≡ Some p → lies x ≡ p) (aware : (x : ℕ) → s.known x ≡ None → FreeOf x s.known)
     (owners : (x : ℕ) (k : Known) → s.known x ≡ Some k → k.part.role ≡ Owner → is_some k.copy ≡ true) where
-  pub act_plain : (act : Act) (unknown : NodeAnswer) → NotStray unknown → (name : ℕ) (k : Option Known) → s.known name ≡ k → IsPlain blocks s.known (act_rule me s lies act unknown name k)
+  pub act_plain : (act : Operation) (unknown : NodeAnswer) → NotStray unknown → (name : ℕ) (k : Option Known) → s.known name ≡ k → IsPlain blocks s.known (operation_rule me s lies act unknown name k)
   act_plain act unknown right name None is = nothing_plain blocks s.known unknown right
-  act_plain act unknown right name (Some k) is = by_turn (turn_of me act (share_of k)) (act_grants me act (share_of k) (owners name k is))
+  act_plain act unknown right name (Some k) is = by_turn (transition_of me act (share_of k)) (act_grants me act (share_of k) (owners name k is))
     where
-      by_turn : (t : Option Turn) → MayGrant (is_some k.copy) t → IsPlain blocks s.known (acted s lies name k (act_answer me act (share_of k)) t)
+      by_turn : (t : Option Transition) → MayGrant (is_some k.copy) t → IsPlain blocks s.known (after_operation s lies name k (operation_answer me act (share_of k)) t)
       by_turn None grants = nothing_plain blocks s.known _ (act_answers me act (share_of k))
       by_turn (Some t) grants = record {
         changes = known_plain s.known name k k.copy t.after is (λ f e. keeps.full name k f is e);
@@ -314,7 +314,7 @@ module _ (blocks : ℕ → Option Block) (me : ℕ) (s : NodeState) (a : Places)
       by_test true = graph_plain c none
       by_test false = nothing_plain blocks s.known _ (λ e. cc)
 
-  token_plain : (act : Act) (name : Option ℕ) → IsPlain blocks s.known (token_rule me s lies act name)
+  token_plain : (act : Operation) (name : Option ℕ) → IsPlain blocks s.known (token_rule me s lies act name)
   token_plain act None = nothing_plain blocks s.known _ (λ e. cc)
   token_plain act (Some name) = act_plain act _ (λ e. cc) name (s.known name) refl
 
