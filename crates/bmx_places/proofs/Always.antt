@@ -1,37 +1,34 @@
 -- The laws, over every legal history.
-use Rattle.std.proofs.Common.{◌≡◌, ◌≢◌, ◌⊎◌, inl, inr, ℕ, ◌<◌, ◌≤◌, arith, refl, ap, sym, subst, ◌∙◌, Bool, true, false, cond, List, [], ◌∷◌, ◌++◌, length, drop, zero, suc}
-use Rattle.std.specs.Prelude.{◌||◌, Option, Some, None, IsSome, Contains, slice_get}
-use Rattle.std.specs.Option.{option_map, option_map_or}
+use Rattle.std.proofs.Common.{◌≡◌, ◌≢◌, ◌⊎◌, inl, inr, ℕ, ◌<◌, arith, refl, ap, sym, subst, ◌∙◌, false, cond, List, [], ◌∷◌, ◌++◌, length, drop, zero, suc}
+use Rattle.std.specs.Prelude.{◌||◌, Option, Some, None, IsSome, Contains}
+use Rattle.std.specs.Option.{option_map}
 use Rattle.std.proofs.lemmas.List.{append-nil}
 use Rattle.bmx_types.specs.Openings.{IsOpening}
 use Rattle.bmx_types.specs.declared.addresses.Place.{Place}
 use Rattle.bmx_types.specs.declared.addresses.Info.{Info}
 use Rattle.bmx_types.specs.Updates.{put}
-use Rattle.bmx_owner.specs.declared.entering.Record.{Record}
 use Rattle.bmx_msg.specs.declared.letters.Letter.{Letter}
-use Rattle.bmx_msg.specs.declared.letters.Msg.TheVariants as msg
 use Rattle.bmx_token_model.proofs.Readers.{one_or_more}
 use Rattle.bmx_protocol.specs.declared.inputs.NodeAnswer.TheVariants as answer
 use Rattle.bmx_protocol.specs.declared.inputs.Input.TheVariants as input
-use Rattle.bmx_protocol.specs.declared.inputs.NodeAnswer.{NodeAnswer}
 use Rattle.bmx_protocol.specs.declared.inputs.Done.{Done}
 use Rattle.bmx_protocol.specs.declared.events.Event.{Event}
 use Rattle.bmx_protocol.specs.Nodes.{Setting, Known, NodeState, share_of}
-use Rattle.bmx_protocol.specs.Rules.{Reaction, only, infos, name_in, note_in, took}
+use Rattle.bmx_protocol.specs.Rules.{only, infos, name_in, note_in, took}
 use Rattle.bmx_token.specs.Transitions.{Transition, note_transition}
 use Rattle.bmx_protocol.specs.Strays.{some_clash}
 use Rattle.bmx_protocol.specs.Steps.{Node, first_node, IsStep}
-use Rattle.bmx_protocol.specs.Histories.{issued, taken, in_flight, Fits, EachFits, Replays, AreAfter, IsLegal}
+use Rattle.bmx_protocol.specs.Histories.{issued, taken, in_flight, Replays, AreAfter, IsLegal}
 use Rattle.bmx_protocol.specs.Worlds.{World, world_of}
-use Rattle.bmx_protocol.proofs.Prefixes.{joined, empty_is_legal, prefix_is_legal}
+use Rattle.bmx_protocol.proofs.Prefixes.{joined, prefix_is_legal}
 use Rattle.bmx_store_laws.specs.Inside.Seen.{seen, first_world}
 use Rattle.bmx_store_laws.proofs.Histories.{Came, came_after}
 use Rattle.bmx_store_laws.proofs.Histories as names
-use Rattle.bmx_places.specs.Ledger.{Block, AreBlocks, block_at, block_of, LiesIn, IsOf, HasLedger}
+use Rattle.bmx_places.specs.Ledger.{Block, block_at, block_of, LiesIn, IsOf, HasLedger}
 use Rattle.bmx_places.specs.Laws.{BlocksAreKept, HasShape, KnownAt, ToldIn, OneShape, HasPlace, At, Between, OnePlace, NoInfoClashes, NextIsTaken, NoLetterIsStray}
 use Rattle.bmx_places.specs.Laws as law
-use Rattle.bmx_places.proofs.Blocks.{Every, some_same, none_some, IsTold, Keeps, hears_all}
-use Rattle.bmx_places.proofs.Next.{IsIssued, EachIssued, every_at, all_issued, IsTakeable, next_is_takeable}
+use Rattle.bmx_places.proofs.Blocks.{Every, some_same, none_some, IsTold, hears_all}
+use Rattle.bmx_places.proofs.Next.{IsIssued, all_issued, IsTakeable, next_is_takeable}
 use Rattle.bmx_places.proofs.Kept.{Kept, one_more}
 use Rattle.bmx_places.proofs.Opened.{first_kept}
 

@@ -1,12 +1,12 @@
 -- What is kept along a legal history: a ledger to which all belongs, and that no letter was stray.
 use Rattle.std.proofs.Common.{◌≡◌, ◌≢◌, ◌⊎◌, inl, inr, ℕ, ◌+◌, ◌*◌, ◌^◌, ◌<◌, ◌≤◌, arith, refl, ap, sym, subst, ◌∙◌, Bool, true, false, cond, List, [], ◌∷◌, ◌++◌, map, length, drop, zero, suc, length-append}
-use Rattle.std.specs.Prelude.{◌==◌, ◌&&◌, ◌||◌, not, nat_lt, nat_le, max, Option, Some, None, is_some, unwrap_or, replicate, slice_get, filter, count_by}
+use Rattle.std.specs.Prelude.{◌==◌, ◌&&◌, ◌||◌, not, nat_lt, nat_le, Option, Some, None, is_some, unwrap_or, replicate, slice_get, filter, count_by}
 use Rattle.std.specs.Option.{option_map, option_map_or}
 use Rattle.std.specs.List.{flat_map}
 use Rattle.std.proofs.lemmas.Bool.Decides.{nat_tests}
 use Rattle.std.proofs.lemmas.List.Sums.{sum_by-append}
 use Rattle.std.proofs.lemmas.Nat.{div-mul-add, mod-mul-add}
-use Rattle.bmx_types.specs.Words.{name_word, maker, count_of}
+use Rattle.bmx_types.specs.Words.{maker, count_of}
 use Rattle.bmx_types.specs.Openings.{IsOpening, bunches_of}
 use Rattle.bmx_types.specs.declared.addresses.Place.{Place}
 use Rattle.bmx_types.specs.declared.addresses.Info.{Info}
@@ -20,9 +20,8 @@ use Rattle.bmx_msg.specs.declared.letters.Letter.{Letter}
 use Rattle.bmx_msg.specs.declared.letters.Msg.{Msg}
 use Rattle.bmx_msg.specs.declared.letters.Msg.TheVariants as msg
 use Rattle.bmx_token.specs.declared.parts.Role.TheVariants.{Owner}
-use Rattle.bmx_token.specs.Transitions.{Share, Note, Asks, Grants, Recalls, Returns, Transition, Serves, note_transition}
-use Rattle.bmx_token_model.specs.Machine.{Object, IsFirst, Run}
-use Rattle.bmx_token_model.proofs.Sound.{IsSound, IsSoundIf}
+use Rattle.bmx_token.specs.Transitions.{Note, Asks, Grants, Recalls, Returns, Serves, note_transition}
+use Rattle.bmx_token_model.proofs.Sound.{IsSoundIf}
 use Rattle.bmx_token_model.proofs.Shared.{IsShared, shared_run}
 use Rattle.bmx_protocol.specs.declared.inputs.Input.{Input}
 use Rattle.bmx_protocol.specs.declared.inputs.Input.TheVariants as input
@@ -34,26 +33,25 @@ use Rattle.bmx_protocol.specs.declared.events.Event.{Event}
 use Rattle.bmx_protocol.specs.declared.views.ViewField.{ViewField}
 use Rattle.bmx_protocol.specs.declared.views.ViewField.TheVariants as field
 use Rattle.bmx_protocol.specs.Nodes.{Setting, NodeState, Known, share_of}
-use Rattle.bmx_protocol.specs.Places.{Places, is_full, has_room, with_made, with_object, with_went, with_learnt, learn_at, with_all_learnt}
+use Rattle.bmx_protocol.specs.Places.{Places, has_room, with_made, with_object, with_went, with_learnt, learn_at, with_all_learnt}
 use Rattle.bmx_protocol.specs.Changes.{Change, Sets, Makes, Knows, Hears, Gives, Gets, Issues, Takes, heard_of, after_change, after_changes}
-use Rattle.bmx_protocol.specs.Rules.{Reaction, only, about, next_name, new_object, infos, name_in, note_in, grant_in, heard_field, known_change, copy_after, got_change, took}
-use Rattle.bmx_protocol.specs.Strays.{is_bad_letter, some_clash}
-use Rattle.bmx_protocol.specs.Steps.{Node, letter_in, command_in, Told, nowhere, finds_full, rule, letters_of, numbered, sent_changes, changes_of, closed, done_of, is_taken, is_nil, made_places, MovesTo, IsStep}
+use Rattle.bmx_protocol.specs.Rules.{Reaction, only, next_name, new_object, infos, name_in, note_in, heard_field, known_change, copy_after, got_change, took}
+use Rattle.bmx_protocol.specs.Strays.{some_clash}
+use Rattle.bmx_protocol.specs.Steps.{Node, letter_in, command_in, nowhere, finds_full, rule, letters_of, sent_changes, changes_of, closed, is_taken, is_nil, made_places, MovesTo, IsStep}
 use Rattle.bmx_protocol.specs.Histories.{issued, arrived, taken, in_flight, IsInputOf, IsNext, Fits, AreAfter, IsLegal}
 use Rattle.bmx_protocol.specs.Worlds.{World, world_of}
 use Rattle.bmx_protocol.proofs.Changing.{Each, each_append, after_append}
-use Rattle.bmx_token_model.specs.Machine.{IsUnneeded}
 use Rattle.bmx_store_laws.specs.Inside.Seen.{seen, seen_known, first_world}
 use Rattle.bmx_store_laws.specs.Laws.{IsCounted}
-use Rattle.bmx_store_laws.proofs.Basics.{eqb_of, eqb_is, Two, Same, Apart, two, at_each}
+use Rattle.bmx_store_laws.proofs.Basics.{eqb_of, Two, Same, Apart, two, at_each}
 use Rattle.bmx_store_laws.proofs.Copies.{NoGrants, GrantsNothing, note_grants}
 use Rattle.bmx_store_laws.proofs.Ruled.{FreeOf}
 use Rattle.bmx_store_laws.proofs.Channels.{slice_drop}
 use Rattle.bmx_store_laws.proofs.Histories.{Came, came_after, each_name}
-use Rattle.bmx_places.specs.Ledger.{Block, IsBlock, AreBlocks, block_at, block_of, LiesIn}
+use Rattle.bmx_places.specs.Ledger.{Block, AreBlocks, block_of, LiesIn}
 use Rattle.bmx_places.proofs.Blocks.{Every, some_same, none_some, at_same, at_apart, IsTold, Keeps, hears_all, learnt_handed, same_shape}
 use Rattle.bmx_places.proofs.Making.{Grows, keeps_grown, IsLaterThan, blocks_later, IsHome, with_block, made_or_old, home_made, handed_more, made_grows, made_blocks, made_keeps}
-use Rattle.bmx_places.proofs.Plain.{shape, AllOf, Belongs, IsKnown, Plain, changes_kept, IsRight, IsDraft, sent_plain, letters_sent, IsSent}
+use Rattle.bmx_places.proofs.Plain.{AllOf, Belongs, Plain, changes_kept, IsRight, IsDraft, sent_plain, letters_sent, IsSent}
 use Rattle.bmx_places.proofs.Outcomes.{NotStray, IsPlain, Comes, Plainly, New, act_plain, command_comes, known_plain, silent_drafts}
 use Rattle.bmx_places.proofs.Next.{IsIssued, EachIssued, every_append, every_at, all_issued, IsTakeable, next_is_takeable}
 

@@ -6,3 +6,4 @@ pub mod Next
 pub mod Kept
 pub mod Opened
 pub mod Always
+pub mod Applied

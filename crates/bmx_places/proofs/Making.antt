@@ -1,6 +1,6 @@
 -- An object that is made lies in a new block: words that were never handed out before.
 use Rattle.std.proofs.Common.{◌≡◌, ◌≢◌, ◌⊎◌, inl, inr, ℕ, ◌+◌, ◌^◌, ◌<◌, ◌≤◌, arith, refl, ap, sym, subst, ◌∙◌, Bool, true, false, cond, List, length}
-use Rattle.std.specs.Prelude.{◌==◌, ◌&&◌, not, nat_lt, nat_le, Option, Some, None}
+use Rattle.std.specs.Prelude.{nat_le, Option, Some, None}
 use Rattle.std.proofs.lemmas.Bool.Decides.{nat_tests}
 use Rattle.bmx_types.specs.Words.{maker, address_word, home_of, segment_of, index_of}
 use Rattle.bmx_types.specs.Openings.{bunches_of}
@@ -8,12 +8,12 @@ use Rattle.bmx_types.specs.declared.addresses.Place.{Place}
 use Rattle.bmx_types.specs.Updates.{put}
 use Rattle.bmx_protocol.specs.declared.views.ViewField.{ViewField}
 use Rattle.bmx_protocol.specs.Nodes.{Setting, Known}
-use Rattle.bmx_protocol.specs.Places.{Header, Places, has_room, with_segment, with_room, with_object, with_placed, with_made, overlaps}
+use Rattle.bmx_protocol.specs.Places.{Places, has_room, with_segment, with_room, with_placed, with_made, overlaps}
 use Rattle.bmx_protocol.specs.Worlds.{World}
-use Rattle.bmx_store_laws.proofs.Basics.{eqb_of, Two, Same, Apart, two}
+use Rattle.bmx_store_laws.proofs.Basics.{Two, Same, Apart, two}
 use Rattle.bmx_store_laws.specs.Laws.{IsCounted}
 use Rattle.bmx_places.specs.Ledger.{Block, IsBlock, AreBlocks, LiesIn, Heads}
-use Rattle.bmx_places.proofs.Blocks.{some_same, none_some, at_same, at_apart, home_again, segment_again, index_again, Keeps, object_keeps}
+use Rattle.bmx_places.proofs.Blocks.{some_same, at_same, at_apart, home_again, segment_again, index_again, Keeps, object_keeps}
 
 -- ## ledgers that grow
 

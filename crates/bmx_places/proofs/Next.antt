@@ -1,6 +1,6 @@
 -- The first letter in flight between two nodes is taken: nothing that makes a letter stray can be said of it.
-use Rattle.std.proofs.Common.{◌≡◌, ◌≢◌, ◌⊎◌, inl, inr, ℕ, ◌+◌, ◌*◌, ◌^◌, ◌<◌, ◌≤◌, arith, refl, ap, sym, subst, ◌∙◌, Bool, true, false, cond, List, [], ◌∷◌, ◌++◌, map, length, drop, zero, suc}
-use Rattle.std.specs.Prelude.{◌==◌, ◌&&◌, ◌||◌, not, nat_lt, nat_le, Option, Some, None, is_some, IsSome, slice_get, Contains, count_by}
+use Rattle.std.proofs.Common.{◌≡◌, ◌≢◌, ℕ, ◌+◌, ◌^◌, ◌<◌, ◌≤◌, arith, refl, ap, sym, subst, ◌∙◌, Bool, true, false, cond, List, [], ◌∷◌, ◌++◌, map, length, drop, zero, suc}
+use Rattle.std.specs.Prelude.{◌==◌, ◌&&◌, ◌||◌, not, nat_lt, nat_le, Option, Some, None, IsSome, slice_get, Contains}
 use Rattle.std.specs.Option.{option_map, option_map_or}
 use Rattle.std.specs.List.{list_any}
 use Rattle.std.proofs.lemmas.Bool.Decides.{nat_tests}
@@ -14,22 +14,22 @@ use Rattle.bmx_msg.specs.declared.letters.Field.{Field}
 use Rattle.bmx_msg.specs.declared.letters.Letter.{Letter}
 use Rattle.bmx_msg.specs.declared.letters.Msg.{Msg}
 use Rattle.bmx_msg.specs.declared.letters.Msg.TheVariants as msg
-use Rattle.bmx_token.specs.Transitions.{Share, Note, Asks, Transition, is_request_of, note_transition}
-use Rattle.bmx_token_model.specs.Machine.{Message, hears, said_transition, letter_transition}
+use Rattle.bmx_token.specs.Transitions.{Note, Asks, Transition, is_request_of, note_transition}
+use Rattle.bmx_token_model.specs.Machine.{hears, said_transition, letter_transition}
 use Rattle.bmx_token_model.specs.Laws.{NoneIsStray, IsApart}
 use Rattle.bmx_token_model.proofs.Stated.{no_letter_is_stray, nobody_asks_itself}
 use Rattle.bmx_protocol.specs.declared.inputs.Sending.{Sending}
 use Rattle.bmx_protocol.specs.declared.events.Event.{Event}
-use Rattle.bmx_protocol.specs.Nodes.{Setting, Known, NodeState, share_of}
+use Rattle.bmx_protocol.specs.Nodes.{Setting, NodeState, share_of}
 use Rattle.bmx_protocol.specs.Rules.{name_in, note_in, grant_in, infos}
 use Rattle.bmx_protocol.specs.Strays.{too_large, is_no_node, is_no_name, is_bad_info, asker_in, is_bad_msg, is_bad_letter, some_clash}
 use Rattle.bmx_protocol.specs.Steps.{Node}
 use Rattle.bmx_protocol.specs.Histories.{letters_to, issued, taken, in_flight, AreAfter, IsLegal}
-use Rattle.bmx_protocol.specs.Worlds.{World, world_of, Between, Speaks, names_in}
+use Rattle.bmx_protocol.specs.Worlds.{World, world_of, Between}
 use Rattle.bmx_store_laws.specs.Inside.Seen.{seen, seen_message, seen_known, first_world}
-use Rattle.bmx_store_laws.specs.Laws.{IsCounted, IsWaiting, Asked, letters_about, times_at}
+use Rattle.bmx_store_laws.specs.Laws.{IsCounted, Asked, letters_about, times_at}
 use Rattle.bmx_store_laws.proofs.Basics.{eqb_of, eqb_same, eqb_apart, Two, Same, Apart, two}
-use Rattle.bmx_store_laws.proofs.Channels.{Channels, numbered_at}
+use Rattle.bmx_store_laws.proofs.Channels.{numbered_at}
 use Rattle.bmx_store_laws.proofs.Histories.{Came, came_after, each_name}
 use Rattle.bmx_store_laws.proofs.Lifted.{names_are_counted, wants_stand_once}
 use Rattle.bmx_places.specs.Ledger.{Block, IsBlock, AreBlocks, block_of}

@@ -1,8 +1,7 @@
 -- The ledger that a store opens with: the blocks of its births, in the order in which they are placed.
 use Rattle.std.proofs.Common.{◌≡◌, ◌≢◌, ◌⊎◌, inl, inr, ℕ, ◌+◌, ◌*◌, ◌^◌, ◌<◌, ◌≤◌, arith, refl, ap, sym, subst, ◌∙◌, Bool, true, false, cond, List, [], ◌∷◌, ◌++◌, map, length, zero, suc, length-append}
-use Rattle.std.specs.Prelude.{◌==◌, ◌&&◌, nat_lt, max, Option, Some, None, find, filter, slice_get, Contains}
+use Rattle.std.specs.Prelude.{◌==◌, ◌&&◌, nat_lt, Option, Some, None, find, filter, slice_get, Contains}
 use Rattle.std.specs.Option.{option_map}
-use Rattle.std.proofs.lemmas.Bool.Decides.{nat_tests}
 use Rattle.bmx_types.specs.Words.{maker, count_of}
 use Rattle.bmx_types.specs.Openings.{IsOpening, bunches_of}
 use Rattle.bmx_types.specs.declared.openings.Birth.{Birth}
@@ -11,16 +10,15 @@ use Rattle.bmx_types.specs.declared.values.Val.{Val}
 use Rattle.bmx_types.specs.Updates.{put}
 use Rattle.bmx_owner.specs.declared.entering.Record.{Record}
 use Rattle.bmx_owner.specs.Records.{blank}
-use Rattle.bmx_protocol.specs.declared.views.ViewField.{ViewField}
 use Rattle.bmx_protocol.specs.Nodes.{Setting, Known, field_of, is_anchor, birth_of, owned_birth, heard_birth, first_known, first_entering}
-use Rattle.bmx_protocol.specs.Places.{Header, Places, has_room, with_segment, with_made, with_object, with_placed, no_places, with_births, by_bunch, owner_places, told_place, with_told, first_places}
+use Rattle.bmx_protocol.specs.Places.{Places, has_room, with_segment, with_made, with_placed, no_places, with_births, by_bunch, owner_places, told_place, with_told}
 use Rattle.bmx_protocol.specs.Steps.{first_node}
 use Rattle.bmx_protocol.specs.Worlds.{World, world_of}
 use Rattle.bmx_store_laws.specs.Laws.{IsCounted}
 use Rattle.bmx_store_laws.proofs.Basics.{eqb_is, eqb_of, Two, Same, Apart, two}
 use Rattle.bmx_places.specs.Ledger.{Block, AreBlocks, block_at, LiesIn, IsOf}
 use Rattle.bmx_places.proofs.Blocks.{Every, some_same, none_some, at_same, at_apart, Keeps, object_keeps}
-use Rattle.bmx_places.proofs.Making.{Grows, IsLaterThan, blocks_later, IsHome, with_block, made_or_old, home_made, handed_more, made_blocks, made_keeps}
+use Rattle.bmx_places.proofs.Making.{IsLaterThan, blocks_later, IsHome, with_block, made_or_old, home_made, handed_more, made_blocks, made_keeps}
 use Rattle.bmx_places.proofs.Plain.{AllOf}
 use Rattle.bmx_places.proofs.Next.{every_append}
 use Rattle.bmx_places.proofs.Kept.{Kept, none_yet}

@@ -1,16 +1,13 @@
 -- What a rule comes to for blocks: plain changes and messages of known objects, or a new object; and that no rule
 -- but that of a letter answers that it is stray.
-use Rattle.std.proofs.Common.{◌≡◌, ◌≢◌, ◌⊎◌, inl, inr, ℕ, ◌+◌, refl, ap, sym, subst, ◌∙◌, Bool, true, false, cond, List, [], ◌∷◌, ◌++◌, map, length, zero, suc}
-use Rattle.std.specs.Prelude.{◌==◌, ◌≤◌, ◌<◌, ◌||◌, Option, Some, None, is_some, unwrap_or, replicate, slice_set, filter_map}
+use Rattle.std.proofs.Common.{◌≡◌, ◌≢◌, ℕ, refl, ap, sym, subst, ◌∙◌, Bool, true, false, cond, List, [], ◌∷◌, map, length, zero, suc}
+use Rattle.std.specs.Prelude.{Option, Some, None, is_some, unwrap_or, slice_set, filter_map}
 use Rattle.std.specs.Option.{option_map, option_map_or}
-use Rattle.std.specs.List.{cons_option}
-use Rattle.bmx_types.specs.Openings.{bunches_of}
 use Rattle.bmx_types.specs.declared.values.Val.{Val}
 use Rattle.bmx_types.specs.declared.values.Val.TheVariants as val
 use Rattle.bmx_types.specs.declared.commands.Command.{Command}
 use Rattle.bmx_types.specs.declared.commands.Command.TheVariants as command
 use Rattle.bmx_types.specs.declared.commands.Refusal.TheVariants as refusal
-use Rattle.bmx_types.specs.declared.numbers.Mode.{Mode}
 use Rattle.bmx_types.specs.declared.numbers.Mode.TheVariants as mode
 use Rattle.bmx_types.specs.declared.addresses.Place.{Place}
 use Rattle.bmx_types.specs.declared.addresses.Info.{Info}
@@ -19,7 +16,7 @@ use Rattle.bmx_graph.specs.declared.answers.Answer.TheVariants as graph
 use Rattle.bmx_graph.specs.Step.{answer_of, target_of, Effect, effect}
 use Rattle.bmx_graph.specs.Step as graph_effect
 use Rattle.bmx_msg.specs.declared.letters.Field.{Field}
-use Rattle.bmx_msg.specs.Letters.{given, targets}
+use Rattle.bmx_msg.specs.Letters.{targets}
 use Rattle.bmx_token.specs.declared.parts.Part.{Part}
 use Rattle.bmx_token.specs.declared.parts.Role.{Role}
 use Rattle.bmx_token.specs.declared.parts.Role.TheVariants.{Owner, Parent}
@@ -34,16 +31,16 @@ use Rattle.bmx_protocol.specs.declared.inputs.NodeAnswer.{NodeAnswer}
 use Rattle.bmx_protocol.specs.declared.inputs.NodeAnswer.TheVariants as answer
 use Rattle.bmx_protocol.specs.declared.views.ViewField.{ViewField}
 use Rattle.bmx_protocol.specs.declared.views.ViewField.TheVariants as field
-use Rattle.bmx_protocol.specs.Nodes.{NodeState, Known, seen_graph, share_of, with_field, field_of}
+use Rattle.bmx_protocol.specs.Nodes.{NodeState, Known, seen_graph, share_of, field_of}
 use Rattle.bmx_protocol.specs.Places.{Places}
 use Rattle.bmx_protocol.specs.Changes.{Change, Sets, Makes, Knows}
-use Rattle.bmx_protocol.specs.Rules.{Draft, Reaction, only, info_of, told_field, told_fields, info_in, message, drafts_of, with_share, known_change, operation_answer, acquire_answer, release_answer, after_operation, operation_rule, About, Token, Fields, Making, Nothing, about, next_name, new_object, stored, graph_changes, answered, graph_rule, token_rule, knows, command_rule, infos, grant_in}
+use Rattle.bmx_protocol.specs.Rules.{Reaction, only, info_of, told_field, told_fields, info_in, message, drafts_of, known_change, operation_answer, acquire_answer, release_answer, after_operation, operation_rule, about, next_name, new_object, stored, graph_changes, answered, graph_rule, token_rule, knows, command_rule}
 use Rattle.bmx_protocol.proofs.Changing.{Each}
-use Rattle.bmx_store_laws.proofs.Ruled.{HasNo, NoRefs, FreeOf}
-use Rattle.bmx_store_laws.proofs.Copies.{IsCopied, act_copied, NoGrants}
-use Rattle.bmx_places.specs.Ledger.{Block, block_of, LiesIn}
+use Rattle.bmx_store_laws.proofs.Ruled.{HasNo, FreeOf}
+use Rattle.bmx_store_laws.proofs.Copies.{NoGrants}
+use Rattle.bmx_places.specs.Ledger.{Block, LiesIn}
 use Rattle.bmx_places.proofs.Blocks.{Every, some_same, none_some, IsTold, Keeps}
-use Rattle.bmx_places.proofs.Plain.{shape, IsKnown, Plain, IsRight, IsDraft}
+use Rattle.bmx_places.proofs.Plain.{shape, IsKnown, Plain, IsDraft}
 
 -- ## what grants bring
 
@@ -232,10 +229,6 @@ slice_length [] index f = refl
 slice_length (g ∷ fields) zero f = refl
 slice_length (g ∷ fields) (suc index) f = ap suc (slice_length fields index f)
 
-replicate_length : (n : ℕ) (f : ViewField) → length (replicate n f) ≡ n
-replicate_length zero f = refl
-replicate_length (suc n) f = ap suc (replicate_length n f)
-
 -- what a command comes to: plain changes, or the making of a new object in a bunch
 pub data Comes (blocks : ℕ → Option Block) (me : ℕ) (s : NodeState) (full : Bool) (c : Command) (o : Reaction) : Type 0 where
   Plainly : IsPlain blocks s.known o → ((register bunch size : ℕ) → c ≡ command.New register bunch size → o.answer ≡ answer.Nil → ⊥) → Comes blocks me s full c o
@@ -290,10 +283,6 @@ module _ (blocks : ℕ → Option Block) (me : ℕ) (s : NodeState) (a : Places)
   setting_none : (register : ℕ) (v : Option Val) → MakesNone (graph_effect.setting register v)
   setting_none register None = tt
   setting_none register (Some v) = tt
-
-  holding_none : (name : Option ℕ) (hold : Option Mode) → MakesNone (graph_effect.holding name hold)
-  holding_none None hold = tt
-  holding_none (Some name) hold = tt
 
   answered_plain : (changes : List Change) → Each (Plain s.known) changes → (g : Answer) → IsPlain blocks s.known (answered changes g)
   answered_plain changes each graph.Nil = record { changes = each; drafts = tt; answer = λ e. cc }

@@ -1,9 +1,8 @@
 -- Changes of a node that make nothing known and change no bunch or size keep what belongs to blocks.
-use Rattle.std.proofs.Common.{◌≡◌, ◌≢◌, ℕ, ◌+◌, refl, ap, sym, subst, ◌∙◌, Bool, true, false, cond, List, [], ◌∷◌, ◌++◌, map, length}
-use Rattle.std.specs.Prelude.{◌==◌, Option, Some, None, is_some, unwrap_or}
+use Rattle.std.proofs.Common.{◌≡◌, ℕ, ◌+◌, refl, ap, sym, subst, ◌∙◌, List, [], ◌∷◌, ◌++◌, map, length}
+use Rattle.std.specs.Prelude.{Option, Some, None, unwrap_or}
 use Rattle.std.specs.Option.{option_map, option_map_or}
 use Rattle.std.specs.List.{flat_map}
-use Rattle.bmx_types.specs.declared.addresses.Place.{Place}
 use Rattle.bmx_types.specs.declared.addresses.Info.{Info}
 use Rattle.bmx_types.specs.Updates.{put, put_at}
 use Rattle.bmx_msg.specs.Letters.{given}
@@ -19,7 +18,7 @@ use Rattle.bmx_protocol.specs.Changes.{Change, Sets, Makes, Knows, Hears, Gives,
 use Rattle.bmx_protocol.specs.Rules.{Draft, infos, grant_in}
 use Rattle.bmx_protocol.specs.Steps.{numbered, sent_changes}
 use Rattle.bmx_protocol.proofs.Changing.{Each, each_append, kept_by_each}
-use Rattle.bmx_store_laws.proofs.Basics.{eqb_of, Two, Same, Apart, two, put_at_row, put_at_else}
+use Rattle.bmx_store_laws.proofs.Basics.{Two, Same, Apart, two, put_at_row, put_at_else}
 use Rattle.bmx_places.specs.Ledger.{Block, block_at, LiesIn, IsOf}
 use Rattle.bmx_places.proofs.Blocks.{Every, some_same, none_some, at_same, at_apart, IsTold, Keeps}
 
@@ -39,10 +38,6 @@ pub record HasShape (k : Option Known) (bunch size : ℕ) : Type 0 where
 pub has_shape : (k : Option Known) (bunch size : ℕ) → shape k ≡ Some (bunch, size) → HasShape k bunch size
 has_shape None bunch size e = none_some e
 has_shape (Some k) bunch size e = (let same : (k.bunch, k.size) ≡ (bunch, size) = some_same e in record { known = k; is = refl; bunch_is = ap (λ (p : ℕ × ℕ). p.0) same; size_is = ap (λ (p : ℕ × ℕ). p.1) same })
-
-pub no_shape : (k : Option Known) → shape k ≡ None → k ≡ None
-no_shape None e = refl
-no_shape (Some k) e = none_some (sym e)
 
 -- a name is known
 abbrev pub IsKnown : (ℕ → Option Known) → ℕ → Type 0

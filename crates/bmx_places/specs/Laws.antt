@@ -15,7 +15,7 @@ use Rattle.bmx_protocol.specs.Rules.{infos}
 use Rattle.bmx_protocol.specs.Strays.{some_clash}
 use Rattle.bmx_protocol.specs.Steps.{Node, IsStep}
 use Rattle.bmx_protocol.specs.Histories.{in_flight, AreAfter, IsLegal}
-use Rattle.bmx_protocol.specs.Worlds.{World, HasOwned, IsMoving, Owns}
+use Rattle.bmx_protocol.specs.Worlds.{World, HasOwned, IsMoving}
 use Rattle.bmx_store_laws.specs.Laws.{Always}
 use Rattle.bmx_places.specs.Ledger.{HasLedger}
 

@@ -1,4 +1,5 @@
 ghost use Rattle.bmx_places.specs.Laws.{BlocksAreKept, OneShape, OnePlace, NoInfoClashes, NextIsTaken, NoLetterIsStray};
+ghost use Rattle.bmx_places.specs.Cases.{LawsTell};
 
 /// The law that in every legal history a store has a ledger: the blocks of words that its nodes have handed out to
 /// objects share no word and lie in segments, a name with its number of moves has one address, and each place of an
@@ -35,4 +36,10 @@ pub fn next_is_taken()
 /// The law that no event of a legal history is answered that it is stray. It does nothing.
 pub fn no_letter_is_stray()
     ensures { NoLetterIsStray }
+{}
+
+/// The law that the others speak of something, and not of everything: there is a legal history whose letters tell of
+/// places and are taken, and one with an outcome changed, not legal, in which each of them fails. It does nothing.
+pub fn laws_tell()
+    ensures { LawsTell }
 {}

@@ -6,5 +6,6 @@
 mod laws;
 
 pub use laws::{
-    blocks_are_kept, next_is_taken, no_info_clashes, no_letter_is_stray, one_place, one_shape,
+    blocks_are_kept, laws_tell, next_is_taken, no_info_clashes, no_letter_is_stray, one_place,
+    one_shape,
 };
