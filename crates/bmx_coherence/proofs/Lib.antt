@@ -1,0 +1,12 @@
+pub mod Flight
+pub mod Tokens
+pub mod Parts
+pub mod Answers
+pub mod Turns
+pub mod Waits
+pub mod Moments
+pub mod Events
+pub mod Histories
+pub mod Current
+pub mod Stuck
+pub mod Stated

@@ -1,0 +1,5 @@
+pub mod Graphs
+pub mod Waits
+pub mod Copies
+pub mod Stuck
+pub mod Laws
