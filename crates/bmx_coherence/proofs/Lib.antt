@@ -10,3 +10,4 @@ pub mod Histories
 pub mod Current
 pub mod Stuck
 pub mod Stated
+pub mod CaseFacts

@@ -3,3 +3,5 @@ pub mod Waits
 pub mod Copies
 pub mod Stuck
 pub mod Laws
+pub mod Cases
+pub mod Telling

@@ -1,4 +1,5 @@
 ghost use Rattle.bmx_coherence.specs.Laws.{EveryHistoryIsAGraphRun, FullIsAtTheLimit, NodesHaveTheGraph, CopiesAreCurrent, TargetsStand, EachWaitsForItsWant, StuckNodesNameHolders};
+ghost use Rattle.bmx_coherence.specs.Telling.{LawsTell};
 
 /// The law that the commands of every legal history, with their answers, are a run of the plain graph from the
 /// opening: a node waits only for a token that it might have got or that another node keeps from it, and answers
@@ -41,4 +42,10 @@ pub fn each_waits_for_its_want()
 /// waited for is ready, each name that is waited for is held by another node. It does nothing.
 pub fn stuck_nodes_name_holders()
     ensures { StuckNodesNameHolders }
+{}
+
+/// The law that the laws say something: they apply to two runs worked by hand, and each fails where one outcome is
+/// changed. It does nothing.
+pub fn laws_tell()
+    ensures { LawsTell }
 {}
