@@ -17,12 +17,12 @@ use Rattle.bmx_graph.specs.Step.{value_of, reference, target_of, same_value, is_
 use Rattle.bmx_graph.specs.declared.answers.Answer.{Answer}
 use Rattle.bmx_graph.specs.declared.answers.Answer.TheVariants as graph
 use Rattle.bmx_graph.specs.Inside.Parts.{is_excluded}
-use Rattle.bmx_token.specs.Turns.{Share, Note, Asks, Grants, Recalls, Returns, Send, Turn, Act, Acquires, Releases, Serves, silently, saying, turn_of}
+use Rattle.bmx_token.specs.Transitions.{Share, Note, Asks, Grants, Recalls, Returns, Send, Transition, Operation, Acquires, Releases, Serves, silently, saying, transition_of}
 use Rattle.bmx_protocol.specs.declared.inputs.NodeAnswer.{NodeAnswer}
 use Rattle.bmx_protocol.specs.declared.inputs.NodeAnswer.TheVariants as answer
 use Rattle.bmx_protocol.specs.Nodes.{NodeState, Known, fields_known, value_in, seen_graph, share_of}
 use Rattle.bmx_protocol.specs.Changes.{Change, Knows, after_changes}
-use Rattle.bmx_protocol.specs.Rules.{Draft, Outcome, only, refused, message, drafts_of, info_of, told_fields, grant_in, with_share, act_answer, acted, act_rule, next_name, new_object, graph_changes, answered, graph_rule, token_rule, knows, command_rule, about}
+use Rattle.bmx_protocol.specs.Rules.{Draft, Reaction, only, refused, message, drafts_of, info_of, told_fields, grant_in, with_share, operation_answer, after_operation, operation_rule, next_name, new_object, graph_changes, answered, graph_rule, token_rule, knows, command_rule, about}
 use Rattle.bmx_msg.specs.declared.letters.Field.{Field}
 use Rattle.bmx_types.specs.declared.addresses.Info.{Info}
 use Rattle.bmx_store_laws.proofs.Basics.{eqb_same, put_same}
@@ -61,7 +61,7 @@ effect_names me s (Stores name index v) = tt
 effect_names me s (Holds name hold) = tt
 
 -- an outcome of a command is a step of the graph, with an effect
-pub record IsShown (me : ℕ) (s : NodeState) (g : State) (c : Command) (o : Outcome) : Type 0 where
+pub record IsShown (me : ℕ) (s : NodeState) (g : State) (c : Command) (o : Reaction) : Type 0 where
   pub effect_is : Effect
   pub answer_is : Answer
   pub same : graph_answer o.answer ≡ Some answer_is
@@ -306,11 +306,11 @@ module _ (me : ℕ) (s : NodeState) (g : State) (steady : IsSteady me s g) where
 
   -- ## commands on tokens
 
-  -- an outcome by a turn and an answer
-  by_turn : (c : Command) (lies : ℕ → Place) (x : ℕ) (k : Known) (o p : Option Turn) (a b : NodeAnswer) → o ≡ p → a ≡ b →
-      IsShown me s g c (acted s lies x k b p) → IsShown me s g c (acted s lies x k a o)
+  -- an outcome by a transition and an answer
+  by_turn : (c : Command) (lies : ℕ → Place) (x : ℕ) (k : Known) (o p : Option Transition) (a b : NodeAnswer) → o ≡ p → a ≡ b →
+      IsShown me s g c (after_operation s lies x k b p) → IsShown me s g c (after_operation s lies x k a o)
   by_turn c lies x k o p a b same answers shown =
-      subst (λ (q : Option Turn). IsShown me s g c (acted s lies x k a q)) (sym same) (subst (λ (r : NodeAnswer). IsShown me s g c (acted s lies x k r p)) (sym answers) shown)
+      subst (λ (q : Option Transition). IsShown me s g c (after_operation s lies x k a q)) (sym same) (subst (λ (r : NodeAnswer). IsShown me s g c (after_operation s lies x k r p)) (sym answers) shown)
 
   copy_same : (x : ℕ) (k : Known) (b : Share) → s.known x ≡ Some k → (fields : List Val) → fields_known (Some (with_share k k.copy b)) ≡ Some fields → g.object x ≡ Some fields
   copy_same x k b is fields h = steady.part.copies x fields (ap fields_known is ∙ fields_kept k k.copy b.copy fields h)
@@ -318,7 +318,7 @@ module _ (me : ℕ) (s : NodeState) (g : State) (steady : IsSteady me s g) where
   held_is : (x : ℕ) (k : Known) → s.known x ≡ Some k → k.part.held ≡ g.held me x
   held_is x k is = ap held_of (sym is) ∙ steady.part.held x
 
-  -- a turn after which as much is held as before
+  -- a transition after which as much is held as before
   turn_leaves : (x : ℕ) (k : Known) (b : Share) → s.known x ≡ Some k → b.part.held ≡ k.part.held → IsPart me (after_changes s (Knows x (with_share k k.copy b) ∷ [])) g
   turn_leaves x k b is held = part_knows me s g g x (with_share k k.copy b) (nowhere_else me x g)
       (record { held = held ∙ held_is x k is; fields = copy_same x k b is }) steady.part
@@ -360,15 +360,15 @@ module _ (me : ℕ) (s : NodeState) (g : State) (steady : IsSteady me s g) where
   empty_answer mode.Write on is = ap (write_answer g me) is
 
   -- where the node then holds what an operand means, no other keeps it from it
-  abbrev pub IsFree : Mode → Operand → Outcome → Type 0
+  abbrev pub IsFree : Mode → Operand → Reaction → Type 0
   IsFree m on o = (x : ℕ) → target_of g me on ≡ Some x → held_of ((after_changes s o.changes).known x) ≡ Some m → is_excluded m g me x ≡ false
 
   -- the node wants what an operand means in no other mode
   abbrev pub IsUncrossed : Mode → Operand → Type 0
   IsUncrossed m on = (x : ℕ) → target_of g me on ≡ Some x → (n : Mode) → want_of (s.known x) ≡ Some n → n ≡ m
 
-  taking_shown : (m : Mode) (on : Operand) (lies : ℕ → Place) (x : ℕ) (k : Known) (o : Option Turn) (a : NodeAnswer) → target_of g me on ≡ Some x → s.known x ≡ Some k →
-      IsUncrossed m on → Acquired m (share_of k) o a → IsFree m on (acted s lies x k a o) → IsShown me s g (takes m on) (acted s lies x k a o)
+  taking_shown : (m : Mode) (on : Operand) (lies : ℕ → Place) (x : ℕ) (k : Known) (o : Option Transition) (a : NodeAnswer) → target_of g me on ≡ Some x → s.known x ≡ Some k →
+      IsUncrossed m on → Acquired m (share_of k) o a → IsFree m on (after_operation s lies x k a o) → IsShown me s g (takes m on) (after_operation s lies x k a o)
   taking_shown m on lies x k o a is known uncrossed comes free = by_case comes
     where
       answers : (b : Bool) → is_some k.part.held ≡ b →
@@ -384,11 +384,11 @@ module _ (me : ℕ) (s : NodeState) (g : State) (steady : IsSteady me s g) where
       fits a b same may = subst (λ (z : Answer). MayAnswer (takes m on) z b) (sym same) may
 
       -- it is held then
-      holds : (b : Share) → o ≡ Some (silently b) → b.part.held ≡ Some m → held_of ((after_changes s (acted s lies x k a o).changes).known x) ≡ Some m
-      holds b does held = ap (λ (q : Option Turn). held_of ((after_changes s (acted s lies x k a q).changes).known x)) does
+      holds : (b : Share) → o ≡ Some (silently b) → b.part.held ≡ Some m → held_of ((after_changes s (after_operation s lies x k a o).changes).known x) ≡ Some m
+      holds b does held = ap (λ (q : Option Transition). held_of ((after_changes s (after_operation s lies x k a q).changes).known x)) does
           ∙ ap held_of (put_same s.known x (Some (with_share k k.copy b))) ∙ held
 
-      by_case : Acquired m (share_of k) o a → IsShown me s g (takes m on) (acted s lies x k a o)
+      by_case : Acquired m (share_of k) o a → IsShown me s g (takes m on) (after_operation s lies x k a o)
       by_case (Takes b none does held want nil) = by_turn (takes m on) lies x k o (Some (silently b)) a answer.Nil does nil (record {
         effect_is = Holds x (Some m);
         answer_is = graph.Nil;
@@ -420,12 +420,12 @@ module _ (me : ℕ) (s : NodeState) (g : State) (steady : IsSteady me s g) where
       IsFree m on (token_rule me s lies (Acquires m) (target_of h me on)) → IsShown me s g (takes m on) (token_rule me s lies (Acquires m) (target_of h me on))
   take_shown m on lies aware uncrossed = by_target (target_of g me on) refl
     where
-      Shown : Outcome → Type 0
+      Shown : Reaction → Type 0
       Shown o = IsFree m on o → IsShown me s g (takes m on) o
 
-      by_known : (x : ℕ) → target_of g me on ≡ Some x → (k : Option Known) → s.known x ≡ k → is_some k ≡ true → Shown (act_rule me s lies (Acquires m) (answer.Refused refusal.Empty) x k)
+      by_known : (x : ℕ) → target_of g me on ≡ Some x → (k : Option Known) → s.known x ≡ k → is_some k ≡ true → Shown (operation_rule me s lies (Acquires m) (answer.Refused refusal.Empty) x k)
       by_known x is None known some = absurd cc
-      by_known x is (Some k) known some = taking_shown m on lies x k (turn_of me (Acquires m) (share_of k)) (act_answer me (Acquires m) (share_of k)) is known uncrossed (acquiring me m (share_of k))
+      by_known x is (Some k) known some = taking_shown m on lies x k (transition_of me (Acquires m) (share_of k)) (operation_answer me (Acquires m) (share_of k)) is known uncrossed (acquiring me m (share_of k))
 
       by_target : (t : Option ℕ) → target_of g me on ≡ t → Shown (token_rule me s lies (Acquires m) (target_of h me on))
       by_target None is = subst (λ (t : Option ℕ). Shown (token_rule me s lies (Acquires m) t)) (sym (target_same on ∙ is))
@@ -433,15 +433,15 @@ module _ (me : ℕ) (s : NodeState) (g : State) (steady : IsSteady me s g) where
       by_target (Some x) is = subst (λ (t : Option ℕ). Shown (token_rule me s lies (Acquires m) t)) (sym (target_same on ∙ is)) (by_known x is (s.known x) refl (aware x is))
 
   -- done
-  giving_shown : (on : Operand) (lies : ℕ → Place) (x : ℕ) (k : Known) (o : Option Turn) (a : NodeAnswer) → target_of g me on ≡ Some x → s.known x ≡ Some k →
-      Released (share_of k) o a → IsShown me s g (command.Done on) (acted s lies x k a o)
+  giving_shown : (on : Operand) (lies : ℕ → Place) (x : ℕ) (k : Known) (o : Option Transition) (a : NodeAnswer) → target_of g me on ≡ Some x → s.known x ≡ Some k →
+      Released (share_of k) o a → IsShown me s g (command.Done on) (after_operation s lies x k a o)
   giving_shown on lies x k o a is known comes = by_case comes
     where
       answers : (b : Bool) → is_some k.part.held ≡ b → answer_of g me (command.Done on) ≡ cond b graph.Nil (graph.Refused refusal.NoToken)
       answers b held = ap (done_answer g me) is ∙ (λ i. cond (is_some (sym (held_is x k known) i)) graph.Nil (graph.Refused refusal.NoToken))
           ∙ (λ i. cond (held i) graph.Nil (graph.Refused refusal.NoToken))
 
-      by_case : Released (share_of k) o a → IsShown me s g (command.Done on) (acted s lies x k a o)
+      by_case : Released (share_of k) o a → IsShown me s g (command.Done on) (after_operation s lies x k a o)
       by_case (Frees b sends some does held want grants nil) = by_turn (command.Done on) lies x k o (Some (saying b sends)) a answer.Nil does nil (record {
         effect_is = Holds x None;
         answer_is = graph.Nil;
@@ -461,9 +461,9 @@ module _ (me : ℕ) (s : NodeState) (g : State) (steady : IsSteady me s g) where
   give_shown on lies aware = by_target (target_of g me on) refl
     where
       by_known : (x : ℕ) → target_of g me on ≡ Some x → (k : Option Known) → s.known x ≡ k → is_some k ≡ true →
-          IsShown me s g (command.Done on) (act_rule me s lies Releases (answer.Refused refusal.Empty) x k)
+          IsShown me s g (command.Done on) (operation_rule me s lies Releases (answer.Refused refusal.Empty) x k)
       by_known x is None known some = absurd cc
-      by_known x is (Some k) known some = giving_shown on lies x k (turn_of me Releases (share_of k)) (act_answer me Releases (share_of k)) is known (releasing me (share_of k))
+      by_known x is (Some k) known some = giving_shown on lies x k (transition_of me Releases (share_of k)) (operation_answer me Releases (share_of k)) is known (releasing me (share_of k))
 
       by_target : (t : Option ℕ) → target_of g me on ≡ t → IsShown me s g (command.Done on) (token_rule me s lies Releases (target_of h me on))
       by_target None is = subst (λ (t : Option ℕ). IsShown me s g (command.Done on) (token_rule me s lies Releases t)) (sym (target_same on ∙ is))
@@ -473,7 +473,7 @@ module _ (me : ℕ) (s : NodeState) (g : State) (steady : IsSteady me s g) where
   -- ## each command
 
   -- what a command needs of the node and of what it comes to
-  pub record IsMet (c : Command) (o : Outcome) : Type 0 where
+  pub record IsMet (c : Command) (o : Reaction) : Type 0 where
     pub aware : (on : Operand) (x : ℕ) → IsAbout c on → target_of g me on ≡ Some x → is_some (s.known x) ≡ true
     pub free : (m : Mode) (on : Operand) → c ≡ takes m on → IsFree m on o
     pub uncrossed : (m : Mode) (on : Operand) → c ≡ takes m on → IsUncrossed m on

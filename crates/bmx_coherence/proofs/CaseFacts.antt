@@ -7,7 +7,7 @@ use Rattle.bmx_types.specs.declared.numbers.Mode.TheVariants as mode
 use Rattle.bmx_types.specs.declared.commands.Command.{Command}
 use Rattle.bmx_graph.specs.declared.answers.Answer.TheVariants as graph
 use Rattle.bmx_graph.specs.State.{State}
-use Rattle.bmx_msg.specs.declared.letters.Field.TheVariants as told
+use Rattle.bmx_msg.specs.declared.letters.Field.TheVariants as msg_field
 use Rattle.bmx_protocol.specs.Steps.{first_node}
 use Rattle.bmx_protocol.specs.Worlds.{world_of, IsCurrent}
 use Rattle.bmx_protocol.specs.Cases.{the_anchor, told_of_the_object, written_by_its_taker}
@@ -32,7 +32,7 @@ refers (Some (val.Ref x ∷ fields)) = true
 
 no_graph : HasGraph (world_of granted.nodes granted_of_old) (graph_after store granted_of_old) → ⊥
 unfolding refers
-no_graph h = (let both : true ≡ false = ap refers (h.grants 0 1 old_fields.letter the_anchor (replicate 32 told.Null) (0, omega arith, refl) refl) in cc)
+no_graph h = (let both : true ≡ false = ap refers (h.grants 0 1 old_fields.letter the_anchor (replicate 32 msg_field.Null) (0, omega arith, refl) refl) in cc)
 
 not_current : AreCurrent store (world_of told_of_the_object.nodes never_made) (graph_after store never_made) → ⊥
 not_current c =

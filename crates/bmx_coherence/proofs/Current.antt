@@ -12,7 +12,7 @@ use Rattle.bmx_types.specs.declared.addresses.Info.{Info}
 use Rattle.bmx_graph.specs.State.{State, fields_of}
 use Rattle.bmx_graph.specs.Reached as Reached
 use Rattle.bmx_msg.specs.declared.letters.Field.{Field}
-use Rattle.bmx_msg.specs.declared.letters.Field.TheVariants as told
+use Rattle.bmx_msg.specs.declared.letters.Field.TheVariants as msg_field
 use Rattle.bmx_msg.specs.declared.letters.Letter.{Letter}
 use Rattle.bmx_msg.specs.declared.letters.Msg.{Msg}
 use Rattle.bmx_msg.specs.declared.letters.Msg.TheVariants as msg
@@ -77,12 +77,12 @@ told_in (f ∷ fields) y c = by_field f (one_or_more (value_in (heard_field f)) 
   where
     by_field : (f : Field) → (value_in (heard_field f) ≡ val.Ref y) ⊎ Contains (values_told fields) (val.Ref y) → (Contains (values_told fields) (val.Ref y) → Contains (targets fields) y) →
         Contains (targets (f ∷ fields)) y
-    by_field told.Null (inl e) rest = absurd cc
-    by_field told.Null (inr there) rest = rest there
-    by_field (told.Int k) (inl e) rest = absurd cc
-    by_field (told.Int k) (inr there) rest = rest there
-    by_field (told.Ref info) (inl e) rest = (let same : info.name ≡ y = cc in (0, omega arith, same))
-    by_field (told.Ref info) (inr there) rest = (let c : Contains (targets fields) y = rest there in (suc c.0, omega (arith, c.1), c.2))
+    by_field msg_field.Null (inl e) rest = absurd cc
+    by_field msg_field.Null (inr there) rest = rest there
+    by_field (msg_field.Int k) (inl e) rest = absurd cc
+    by_field (msg_field.Int k) (inr there) rest = rest there
+    by_field (msg_field.Ref info) (inl e) rest = (let same : info.name ≡ y = cc in (0, omega arith, same))
+    by_field (msg_field.Ref info) (inr there) rest = (let c : Contains (targets fields) y = rest there in (suc c.0, omega (arith, c.1), c.2))
 
 has_it : (y : ℕ) (names : List ℕ) → Contains names y → has_name y names ≡ true
 has_it y [] c = absurd (omega (arith, c.1))

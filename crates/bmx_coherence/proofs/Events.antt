@@ -15,7 +15,8 @@ use Rattle.bmx_types.specs.declared.addresses.Place.{Place}
 use Rattle.bmx_types.specs.declared.commands.Operand.{Operand}
 use Rattle.bmx_types.specs.declared.commands.Command.{Command}
 use Rattle.bmx_types.specs.declared.commands.Command.TheVariants as command
-use Rattle.bmx_graph.specs.State.{State, put, opening_state}
+use Rattle.bmx_graph.specs.State.{State, opening_state}
+use Rattle.bmx_types.specs.Updates.{put}
 use Rattle.bmx_graph.specs.Step.{target_of, is_writer, Effect, Nothing, Makes as MakesOne, Sets as SetsOne, Stores, Holds, changed, state_after, state_after_all, Act, IsAnswer, IsRun}
 use Rattle.bmx_graph.specs.Inside.Parts.{excludes, is_excluded}
 use Rattle.bmx_graph.proofs.Excluded.{is_excluded-none}
@@ -24,7 +25,7 @@ use Rattle.bmx_msg.specs.declared.letters.Field.{Field}
 use Rattle.bmx_msg.specs.declared.letters.Letter.{Letter}
 use Rattle.bmx_msg.specs.declared.letters.Msg.{Msg}
 use Rattle.bmx_msg.specs.declared.letters.Msg.TheVariants as msg
-use Rattle.bmx_token.specs.Turns.{Share, Note, Asks, Grants, Recalls, Returns, Send, Turn, Serves, note_turn}
+use Rattle.bmx_token.specs.Transitions.{Share, Note, Asks, Grants, Recalls, Returns, Send, Transition, Serves, note_transition}
 use Rattle.bmx_protocol.specs.declared.inputs.Input.{Input}
 use Rattle.bmx_protocol.specs.declared.inputs.Input.TheVariants as input
 use Rattle.bmx_protocol.specs.declared.inputs.NodeAnswer.{NodeAnswer}
@@ -35,7 +36,7 @@ use Rattle.bmx_protocol.specs.declared.events.Event.{Event}
 use Rattle.bmx_protocol.specs.declared.views.ViewField.{ViewField}
 use Rattle.bmx_protocol.specs.Nodes.{Setting, NodeState, Known, fields_known, value_in, seen_graph, share_of}
 use Rattle.bmx_protocol.specs.Changes.{Change, after_changes, with_step}
-use Rattle.bmx_protocol.specs.Rules.{Draft, Outcome, only, heard_field, name_in, note_in, grant_in, with_share, act_rule, copy_after, took, take_rule, next_name, command_rule, about}
+use Rattle.bmx_protocol.specs.Rules.{Draft, Reaction, only, heard_field, name_in, note_in, grant_in, with_share, operation_rule, copy_after, took, take_rule, next_name, command_rule, about}
 use Rattle.bmx_protocol.specs.Strays.{too_large, is_no_node, is_bad_msg, is_bad_letter}
 use Rattle.bmx_protocol.specs.Steps.{Node, command_in, letter_in, Told, rule, numbered, letters_of, sent_changes, closed, IsStep}
 use Rattle.bmx_protocol.specs.Histories.{letters_to, issued, arrived, in_flight, IsNext, is_wait, waits_after, waits_with, IsAgain, IsCommandOf, IsInputOf, IsOperandOf, Fits}
@@ -112,7 +113,7 @@ same_on f on h = cc
 -- ## what an event is for the graph
 
 -- an event has an effect on the graph, or none; its node is as the graph is then, and so are the grants that it issues
-pub record IsSeen (st : Setting) (past : List Event) (nodes : ℕ → Node) (e : Event) (after : Node) (o : Outcome) : Type 0 where
+pub record IsSeen (st : Setting) (past : List Event) (nodes : ℕ → Node) (e : Event) (after : Node) (o : Reaction) : Type 0 where
   pub effect_is : Effect
   pub graph : graph_after st (past ++ e ∷ []) ≡ changed (graph_after st past) e.node effect_is
   pub some : IfSome (command_in e.input) (λ c. IsSome (act_of e))
@@ -145,7 +146,7 @@ module _ (st : Setting) (past : List Event) (nodes : ℕ → Node) (e : Event) (
 
   -- ## after the step
 
-  module _ (o : Outcome) (is : o ≡ rule st me s ev.step.told e.input) where
+  module _ (o : Reaction) (is : o ≡ rule st me s ev.step.told e.input) where
     abbrev own_state : NodeState
     own_state = after_changes s o.changes
 
@@ -153,7 +154,7 @@ module _ (st : Setting) (past : List Event) (nodes : ℕ → Node) (e : Event) (
     letters_are = ap (λ (d : Done). d.letters) ev.step.outcome ∙ ap (letters_of e.stamp s) (sym is)
 
     pub answer_same : e.done.answer ≡ o.answer
-    answer_same = ap (λ (d : Done). d.answer) ev.step.outcome ∙ ap (λ (p : Outcome). p.answer) (sym is)
+    answer_same = ap (λ (d : Done). d.answer) ev.step.outcome ∙ ap (λ (p : Reaction). p.answer) (sym is)
 
     left : IsLeft own_state (after_changes own_state (flat_map sent_changes (letters_of e.stamp s o)))
     left = letters_left (letters_of e.stamp s o) own_state
@@ -266,7 +267,7 @@ module _ (st : Setting) (past : List Event) (nodes : ℕ → Node) (e : Event) (
       ∙ append-nil (acts_of past)
 
   -- with no effect on the graph
-  silent_seen : (o : Outcome) → command_in e.input ≡ None → IsPart me (after_changes s o.changes) g → EachBrings g o.drafts → IsWaitingWith me (after_changes s o.changes) waiting →
+  silent_seen : (o : Reaction) → command_in e.input ≡ None → IsPart me (after_changes s o.changes) g → EachBrings g o.drafts → IsWaitingWith me (after_changes s o.changes) waiting →
       IsSeen st past nodes e after o
   silent_seen o none part brings waits = record {
     effect_is = Nothing;
@@ -280,7 +281,7 @@ module _ (st : Setting) (past : List Event) (nodes : ℕ → Node) (e : Event) (
     waits = subst (IsWaitingWith me (after_changes s o.changes)) (ap (λ (c : Option Command). option_map_or (λ d. cond (is_wait e.done.answer) (Some d) None) c waiting) (sym none)) waits;
   }
 
-  -- what is left of a name by a turn fits the graph, if its fields do
+  -- what is left of a name by a transition fits the graph, if its fields do
   left_fits : (name : ℕ) (k : Known) (fields : Option (List ViewField)) → s.known name ≡ Some k →
       ((l : List Val) → option_map (map value_in) fields ≡ Some l → g.object name ≡ Some l) → LeavesIt (Leaves me g) name k fields
   left_fits name k fields is there h held want = record {
@@ -294,15 +295,15 @@ module _ (st : Setting) (past : List Event) (nodes : ℕ → Node) (e : Event) (
   copy_there : (name : ℕ) (k : Known) → s.known name ≡ Some k → (l : List Val) → option_map (map value_in) k.copy ≡ Some l → g.object name ≡ Some l
   copy_there name k is l has = (ev.stands.parts me).copies name l (ap fields_known is ∙ has)
 
-  serve_seen : (lies : ℕ → Place) (unknown : NodeAnswer) (name : ℕ) → command_in e.input ≡ None → IsSeen st past nodes e after (act_rule me s lies Serves unknown name (s.known name))
+  serve_seen : (lies : ℕ → Place) (unknown : NodeAnswer) (name : ℕ) → command_in e.input ≡ None → IsSeen st past nodes e after (operation_rule me s lies Serves unknown name (s.known name))
   serve_seen lies unknown name none = silent_seen o none
       (parts_left me g o.changes (served_each (Leaves me g) me s lies unknown name (s.known name) (λ k is. left_fits name k k.copy is (copy_there name k is))) s (ev.stands.parts me))
       (served_brings g me s lies unknown name (s.known name) refl (λ k is owns. (sound st past nodes ev.stands.now me name k is).owner_has owns)
       (λ l has. (ev.stands.parts me).copies name l has))
       (alike_waits me s (after_changes s o.changes) waiting (alike_after s o.changes (served_each (KeepsWants s) me s lies unknown name (s.known name) (λ k is. left_wants name k k.copy is))) (ev.stands.waits me))
     where
-      o : Outcome
-      o = act_rule me s lies Serves unknown name (s.known name)
+      o : Reaction
+      o = operation_rule me s lies Serves unknown name (s.known name)
 
   stray_seen : command_in e.input ≡ None → IsSeen st past nodes e after (only answer.Stray)
   stray_seen none = silent_seen (only answer.Stray) none (ev.stands.parts me) tt (ev.stands.waits me)
@@ -321,14 +322,14 @@ module _ (st : Setting) (past : List Event) (nodes : ℕ → Node) (e : Event) (
   take_seen lies from l none brings = silent_seen o none
       (parts_left me g o.changes (took_each (Leaves me g) me s lies from l.seq l.msg (s.known (name_in l.msg)) (λ info. tt) (λ name. tt) tt
       (λ k is. left_fits (name_in l.msg) k (copy_after l.msg (Some k)) is (letter_fields l.msg k brings (copy_there (name_in l.msg) k is)))) s (ev.stands.parts me))
-      (by_turn (note_turn me from (note_in l.msg) (option_map share_of (s.known (name_in l.msg)))) (note_grants me from (note_in l.msg) (option_map share_of (s.known (name_in l.msg)))))
+      (by_turn (note_transition me from (note_in l.msg) (option_map share_of (s.known (name_in l.msg)))) (note_grants me from (note_in l.msg) (option_map share_of (s.known (name_in l.msg)))))
       (alike_waits me s (after_changes s o.changes) waiting (alike_after s o.changes (took_each (KeepsWants s) me s lies from l.seq l.msg (s.known (name_in l.msg)) (λ info. tt) (λ name. tt) tt
       (λ k is. left_wants (name_in l.msg) k (copy_after l.msg (Some k)) is))) (ev.stands.waits me))
     where
-      o : Outcome
+      o : Reaction
       o = take_rule me s lies from l.seq l.msg
 
-      by_turn : (t : Option Turn) → GrantsNothing t → EachBrings g (took s lies from l.seq l.msg (s.known (name_in l.msg)) t).drafts
+      by_turn : (t : Option Transition) → GrantsNothing t → EachBrings g (took s lies from l.seq l.msg (s.known (name_in l.msg)) t).drafts
       by_turn None none = tt
       by_turn (Some t) none = ungranted_brings g _ (notes_ungranting s lies (name_in l.msg) t.sends none)
 
@@ -339,7 +340,7 @@ module _ (st : Setting) (past : List Event) (nodes : ℕ → Node) (e : Event) (
   good_number false false true c d f h = refl
   good_number false false false c d f h = absurd cc
 
-  letter_seen : (from : ℕ) (l : Letter) → e.input ≡ input.Take from l → (o : Outcome) → o ≡ rule st me s ev.step.told (input.Take from l) → IsSeen st past nodes e after o
+  letter_seen : (from : ℕ) (l : Letter) → e.input ≡ input.Take from l → (o : Reaction) → o ≡ rule st me s ev.step.told (input.Take from l) → IsSeen st past nodes e after o
   letter_seen from l is o same = subst (IsSeen st past nodes e after) (sym same) (by_test (is_bad_letter st me s from l || ev.step.told.clash) refl)
     where
       none : command_in e.input ≡ None
@@ -391,7 +392,7 @@ module _ (st : Setting) (past : List Event) (nodes : ℕ → Node) (e : Event) (
           ∙ ap (λ (t : Option (Mode × ℕ)). wanted_at t x) taken ∙ (λ i. cond (eqb_of {a = x} refl i) (Some m) None))
 
   -- where it then holds an object, no other node keeps it from it
-  free : (o : Outcome) → o ≡ rule st me s ev.step.told e.input → (m : Mode) (x : ℕ) → held_of ((after_changes s o.changes).known x) ≡ Some m → is_excluded m g me x ≡ false
+  free : (o : Reaction) → o ≡ rule st me s ev.step.told e.input → (m : Mode) (x : ℕ) → held_of ((after_changes s o.changes).known x) ≡ Some m → is_excluded m g me x ≡ false
   free o is m x held = is_excluded-none m g me x (λ k below. by_node k (k == me) refl)
     where
       nodes_after : ℕ → Node
@@ -445,7 +446,7 @@ module _ (st : Setting) (past : List Event) (nodes : ℕ → Node) (e : Event) (
   about_of (command.Show f index) on is of = subst (IsOperandOf st) (same_on f on is) of
   about_of (command.Same left right) on is of = absurd cc
 
-  command_seen : (c : Command) → e.input ≡ input.Do c → (o : Outcome) → o ≡ command_rule me s ev.step.told.full ev.step.told.lies c (about c) → IsSeen st past nodes e after o
+  command_seen : (c : Command) → e.input ≡ input.Do c → (o : Reaction) → o ≡ command_rule me s ev.step.told.full ev.step.told.lies c (about c) → IsSeen st past nodes e after o
   command_seen c is o same = record {
     effect_is = shown.effect_is;
     graph = ap (state_after_all (opening_state st.births)) acts ∙ after_more (opening_state st.births) (acts_of past) (act ∷ []) ∙ shown.leads;
@@ -457,7 +458,7 @@ module _ (st : Setting) (past : List Event) (nodes : ℕ → Node) (e : Event) (
     names = shown.names;
     waits = subst (IsWaitingWith me (after_changes s o.changes))
         ((λ i. cond (is_wait (sym answered i)) (Some c) None) ∙ ap (λ (j : Input). waits_after waiting j e.done.answer) (sym is))
-        (subst (λ (p : Outcome). IsWaitingWith me (after_changes s p.changes) (cond (is_wait p.answer) (Some c) None)) (sym same)
+        (subst (λ (p : Reaction). IsWaitingWith me (after_changes s p.changes) (cond (is_wait p.answer) (Some c) None)) (sym same)
         (command_waits me s waiting ev.step.told.full ev.step.told.lies c (ev.stands.waits me) (again c is)));
   }
     where
@@ -470,7 +471,7 @@ module _ (st : Setting) (past : List Event) (nodes : ℕ → Node) (e : Event) (
       shown : IsShown me s g c o
       shown = subst (IsShown me s g c) (sym same) (command_shown me s g steady ev.step.told.full ev.step.told.lies c (record {
         aware = λ on x on_it means. aware st past nodes ev.stands.now me x on g ev.fits.a_node (ev.stands.parts me) (about_of c on on_it (subst (IsInputOf st) is ev.fits.an_input)) means;
-        free = λ m on taken x means held. free o ruled m x (ap (λ (p : Outcome). held_of ((after_changes s p.changes).known x)) same ∙ held);
+        free = λ m on taken x means held. free o ruled m x (ap (λ (p : Reaction). held_of ((after_changes s p.changes).known x)) same ∙ held);
         uncrossed = uncrossed c is;
       }))
 

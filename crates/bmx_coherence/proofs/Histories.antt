@@ -9,7 +9,8 @@ use Rattle.bmx_types.specs.Openings.{IsOpening}
 use Rattle.bmx_types.specs.declared.openings.Birth.{Birth}
 use Rattle.bmx_types.specs.declared.values.Val.{Val}
 use Rattle.bmx_types.specs.declared.numbers.Mode.{Mode}
-use Rattle.bmx_graph.specs.State.{put, opening_state}
+use Rattle.bmx_graph.specs.State.{opening_state}
+use Rattle.bmx_types.specs.Updates.{put}
 use Rattle.bmx_protocol.specs.declared.events.Event.{Event}
 use Rattle.bmx_protocol.specs.Nodes.{Setting, Known, fields_known, value_in, field_of, birth_of, is_anchor, owned_birth, heard_birth, first_known}
 use Rattle.bmx_protocol.specs.Steps.{Node, first_node, IsStep}

@@ -23,7 +23,7 @@ use Rattle.bmx_msg.specs.declared.letters.Msg.{Msg}
 use Rattle.bmx_msg.specs.declared.letters.Msg.TheVariants as msg
 use Rattle.bmx_token.specs.declared.parts.Role.{Role}
 use Rattle.bmx_token.specs.declared.parts.Role.TheVariants as role
-use Rattle.bmx_token.specs.Turns.{Share, Note}
+use Rattle.bmx_token.specs.Transitions.{Share, Note}
 use Rattle.bmx_token_model.specs.Machine.{IsNowhere, IsSilent}
 use Rattle.bmx_token_model.proofs.Readers.{one_or_more}
 use Rattle.bmx_token_model.proofs.Sound.{IsSound, IsSoundIf}

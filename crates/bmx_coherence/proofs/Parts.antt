@@ -9,7 +9,8 @@ use Rattle.bmx_types.specs.declared.values.Val.{Val}
 use Rattle.bmx_types.specs.declared.values.Val.TheVariants as val
 use Rattle.bmx_types.specs.declared.numbers.Mode.{Mode}
 use Rattle.bmx_types.specs.declared.addresses.Info.{Info}
-use Rattle.bmx_graph.specs.State.{State, put, put_at, fields_of}
+use Rattle.bmx_graph.specs.State.{State, fields_of}
+use Rattle.bmx_types.specs.Updates.{put, put_at}
 use Rattle.bmx_graph.specs.Step.{Effect, Nothing, Makes as MakesOne, Sets as SetsOne, Stores, Holds, changed}
 use Rattle.bmx_graph.specs.Step as graph_step
 use Rattle.bmx_protocol.specs.declared.views.ViewField.{ViewField}

@@ -5,7 +5,7 @@ use Rattle.std.specs.Option.{option_map_or}
 use Rattle.bmx_types.specs.declared.commands.Command.{Command}
 use Rattle.bmx_types.specs.declared.commands.Command.TheVariants as command
 use Rattle.bmx_types.specs.declared.commands.Refusal.TheVariants as refusal
-use Rattle.bmx_graph.specs.State.{put}
+use Rattle.bmx_types.specs.Updates.{put}
 use Rattle.bmx_protocol.specs.declared.inputs.Input.{Input}
 use Rattle.bmx_protocol.specs.declared.inputs.Input.TheVariants as input
 use Rattle.bmx_protocol.specs.declared.inputs.NodeAnswer.{NodeAnswer}
@@ -14,7 +14,7 @@ use Rattle.bmx_protocol.specs.declared.inputs.Done.{Done}
 use Rattle.bmx_protocol.specs.declared.events.Event.{Event}
 use Rattle.bmx_protocol.specs.Nodes.{Setting}
 use Rattle.bmx_protocol.specs.Places.{Places, is_full}
-use Rattle.bmx_protocol.specs.Rules.{Outcome}
+use Rattle.bmx_protocol.specs.Rules.{Reaction}
 use Rattle.bmx_protocol.specs.Steps.{Node, IsStep, rule, command_in, finds_full, first_node}
 use Rattle.bmx_protocol.specs.Histories.{Replays}
 use Rattle.bmx_protocol.proofs.Replayed.{replay_is_determined}
@@ -81,7 +81,7 @@ full_is_at_the_limit st past rest e nodes register bunch size legal after is = (
     given : Bool → NodeAnswer
     given b = cond b (answer.Refused refusal.Full) answer.Nil
 
-    by_outcome : (b : Bool) (o p : Outcome) → (cond b o p).answer ≡ cond b o.answer p.answer
+    by_outcome : (b : Bool) (o p : Reaction) → (cond b o p).answer ≡ cond b o.answer p.answer
     by_outcome true o p = refl
     by_outcome false o p = refl
 

@@ -15,7 +15,7 @@ use Rattle.bmx_token.specs.declared.parts.Role.{Role}
 use Rattle.bmx_token.specs.declared.parts.Role.TheVariants as role
 use Rattle.bmx_token.specs.declared.answers.Served.{Served}
 use Rattle.bmx_token.specs.Tokens.{is_write, revoke, serve_alone, serve_write, serve_head, serve_by, serve}
-use Rattle.bmx_token.specs.Turns.{Share, Note, same_mode, is_request_of, is_grant_of, is_served, can_serve}
+use Rattle.bmx_token.specs.Transitions.{Share, Note, same_mode, is_request_of, is_grant_of, is_served, can_serve}
 use Rattle.bmx_token.specs.declared.answers.Served.TheVariants as served_is
 use Rattle.bmx_token_model.specs.Laws.{is_owner, owned_at, queue_at, answers_owed, owes, is_due, waits_for, count_notes, is_recall, is_return, AnswersAreOwed}
 use Rattle.bmx_token_model.proofs.Stated.{each_owes_one_answer}

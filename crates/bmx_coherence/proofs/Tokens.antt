@@ -17,16 +17,16 @@ use Rattle.bmx_token.specs.declared.answers.Requested.TheVariants as requested_i
 use Rattle.bmx_token.specs.declared.answers.Revoked.{Revoked}
 use Rattle.bmx_token.specs.declared.answers.Revoked.TheVariants as revoked_is
 use Rattle.bmx_token.specs.Tokens.{take_wanted, want_read, want_write, acquire_by, acquire, release_by, release, is_write, revoke, serve_alone, serve_write, serve_head, serve_by, serve, request_by, request, granted_by, granted, inval_by, inval, ack_by, ack}
-use Rattle.bmx_token.specs.Turns.{Share, Note, Asks, Grants, Recalls, Returns, Send, Turn, silently, saying, Act, Acquires, Releases, Serves, acquired, released, served, turn_of, requested, grant_taken, recalled, returned, note_turn}
+use Rattle.bmx_token.specs.Transitions.{Share, Note, Asks, Grants, Recalls, Returns, Send, Transition, silently, saying, Operation, Acquires, Releases, Serves, acquired, released, served, transition_of, requested, grant_taken, recalled, returned, note_transition}
 use Rattle.bmx_protocol.specs.declared.inputs.NodeAnswer.{NodeAnswer}
 use Rattle.bmx_protocol.specs.declared.inputs.NodeAnswer.TheVariants as answer
-use Rattle.bmx_protocol.specs.Rules.{acquire_answer, release_answer, act_answer}
+use Rattle.bmx_protocol.specs.Rules.{acquire_answer, release_answer, operation_answer}
 use Rattle.bmx_store_laws.proofs.Copies.{NoGrants}
 
 -- ## taking a token
 
 -- a token is taken in a mode, is waited for, or is barred: something is held, or it is wanted in the other mode
-pub data Acquired (m : Mode) (b : Share) (o : Option Turn) (a : NodeAnswer) : Type 0 where
+pub data Acquired (m : Mode) (b : Share) (o : Option Transition) (a : NodeAnswer) : Type 0 where
   Holds : (h : Share) → b.part.held ≡ None → o ≡ Some (silently h) → h.part.held ≡ Some m → h.part.want ≡ None → a ≡ answer.Nil → Acquired m b o a
   Waits : (h : Share) (sends : List Send) → b.part.held ≡ None → o ≡ Some (saying h sends) → h.part.held ≡ None → h.part.want ≡ Some m → NoGrants sends →
       a ≡ answer.Wait → Acquired m b o a
@@ -65,13 +65,13 @@ acquire_comes me Write b None (Some Read) h w = Crosses Read w write_apart refl 
 acquire_comes me Write b None (Some Write) h w = wanted_comes me Write b b.part.ready h w
 acquire_comes me Write b None None h w = write_comes me b b.part.role b.part.readers h w
 
-pub acquiring : (me : ℕ) (m : Mode) (b : Share) → Acquired m b (turn_of me (Acquires m) b) (act_answer me (Acquires m) b)
+pub acquiring : (me : ℕ) (m : Mode) (b : Share) → Acquired m b (transition_of me (Acquires m) b) (operation_answer me (Acquires m) b)
 acquiring me m b = acquire_comes me m b b.part.held b.part.want refl refl
 
 -- ## giving it back
 
 -- it is given back, or wasn't held
-pub data Released (b : Share) (o : Option Turn) (a : NodeAnswer) : Type 0 where
+pub data Released (b : Share) (o : Option Transition) (a : NodeAnswer) : Type 0 where
   Frees : (h : Share) (sends : List Send) → is_some b.part.held ≡ true → o ≡ Some (saying h sends) → h.part.held ≡ None → h.part.want ≡ b.part.want → NoGrants sends →
       a ≡ answer.Nil → Released b o a
   Lacks : b.part.held ≡ None → o ≡ None → a ≡ answer.Refused refusal.NoToken → Released b o a
@@ -82,13 +82,13 @@ release_comes b None due h = Lacks h refl refl
 release_comes b (Some held) None h = Frees _ [] (ap is_some h) refl refl refl tt refl
 release_comes b (Some held) (Some owner) h = Frees _ _ (ap is_some h) refl refl refl (refl, tt) refl
 
-pub releasing : (me : ℕ) (b : Share) → Released b (turn_of me Releases b) (act_answer me Releases b)
+pub releasing : (me : ℕ) (b : Share) → Released b (transition_of me Releases b) (operation_answer me Releases b)
 releasing me b = release_comes b b.part.held b.part.due refl
 
 -- ## serves and letters
 
--- a turn, where there is one, leaves an entry, and what is held and wanted there
-abbrev pub Keeps : Share → Option Turn → Type 0
+-- a transition, where there is one, leaves an entry, and what is held and wanted there
+abbrev pub Keeps : Share → Option Transition → Type 0
 Keeps b None = Unit {0}
 Keeps b (Some t) = (h : Share) × (t.after ≡ Some h) × (h.part.held ≡ b.part.held) × (h.part.want ≡ b.part.want)
 
@@ -129,11 +129,11 @@ serve_same me p (Parent parent) queue = same p
 serve_same me p Owner [] = same p
 serve_same me p Owner (head ∷ rest) = head_same me p head.asker rest head.mode
 
-pub serving_keeps : (me : ℕ) (b : Share) → Keeps b (turn_of me Serves b)
+pub serving_keeps : (me : ℕ) (b : Share) → Keeps b (transition_of me Serves b)
 serving_keeps me b = served_keeps b (serve me b.part).0 (serve me b.part).1 (serve_same me b.part b.part.role b.part.queue)
 
 -- only an owner serves
-pub serving_owns : (me : ℕ) (b : Share) (t : Turn) → turn_of me Serves b ≡ Some t → b.part.role ≡ Owner
+pub serving_owns : (me : ℕ) (b : Share) (t : Transition) → transition_of me Serves b ≡ Some t → b.part.role ≡ Owner
 serving_owns me b t does = by_role b.part.role refl does
   where
     by_role : (role : Role) → b.part.role ≡ role → served b (serve_by me b.part role b.part.queue).0 (serve_by me b.part role b.part.queue).1 ≡ Some t → b.part.role ≡ Owner
@@ -164,7 +164,7 @@ ack_keeps b from (Parent parent) = tt
 ack_keeps b from Owner =
     either (λ (r : Part × Bool). Keeps b (returned b r.0 r.1)) (list_any (λ node. node == from) b.part.waiting) _ _ (_, refl, refl, refl) tt
 
-pub note_keeps : (me from : ℕ) (n : Note) (b : Share) → Keeps b (note_turn me from n (Some b))
+pub note_keeps : (me from : ℕ) (n : Note) (b : Share) → Keeps b (note_transition me from n (Some b))
 note_keeps me from (Asks m asker) b = request_keeps me b asker m b.part.role
 note_keeps me from (Grants m) b = granted_keeps b from m b.part.role b.part.want b.part.ready
 note_keeps me from Recalls b = inval_keeps b from b.part.role b.part.due b.copy

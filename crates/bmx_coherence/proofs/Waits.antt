@@ -13,17 +13,18 @@ use Rattle.bmx_types.specs.declared.commands.Operand.TheVariants as operand
 use Rattle.bmx_types.specs.declared.commands.Command.{Command}
 use Rattle.bmx_types.specs.declared.commands.Command.TheVariants as command
 use Rattle.bmx_types.specs.declared.commands.Refusal.TheVariants as refusal
-use Rattle.bmx_graph.specs.State.{State, put, fields_of}
+use Rattle.bmx_graph.specs.State.{State, fields_of}
+use Rattle.bmx_types.specs.Updates.{put}
 use Rattle.bmx_graph.specs.Step.{value_of, reference, target_of, same_value, is_writer, add_at, sum_of, answer_of, Effect, Nothing, Makes as MakesOne, Sets as SetsOne, Stores, Holds, effect}
 use Rattle.bmx_graph.specs.Step as step
 use Rattle.bmx_graph.specs.declared.answers.Answer.{Answer}
 use Rattle.bmx_graph.specs.declared.answers.Answer.TheVariants as graph
-use Rattle.bmx_token.specs.Turns.{Share, Send, Turn, Act, Acquires, Releases, Serves, silently, saying, turn_of, note_turn}
+use Rattle.bmx_token.specs.Transitions.{Share, Send, Transition, Operation, Acquires, Releases, Serves, silently, saying, transition_of, note_transition}
 use Rattle.bmx_protocol.specs.declared.inputs.NodeAnswer.{NodeAnswer}
 use Rattle.bmx_protocol.specs.declared.inputs.NodeAnswer.TheVariants as answer
 use Rattle.bmx_protocol.specs.Nodes.{NodeState, Known, seen_graph, share_of}
 use Rattle.bmx_protocol.specs.Changes.{Change, Sets, Makes, Knows, Hears, Gives, Gets, Issues, Takes, heard_of, after_change, after_changes}
-use Rattle.bmx_protocol.specs.Rules.{Outcome, only, refused, with_share, act_answer, acted, act_rule, stored, graph_changes, answered, graph_rule, token_rule, knows, command_rule, about}
+use Rattle.bmx_protocol.specs.Rules.{Reaction, only, refused, with_share, operation_answer, after_operation, operation_rule, stored, graph_changes, answered, graph_rule, token_rule, knows, command_rule, about}
 use Rattle.bmx_protocol.specs.Histories.{is_wait}
 use Rattle.bmx_protocol.proofs.Changing.{Each, kept_by_each}
 use Rattle.bmx_store_laws.proofs.Basics.{eqb_of, eqb_same, Two, Same, Apart, two, put_same, put_apart}
@@ -178,7 +179,7 @@ effect_unwanted me s (Holds name hold) none = tt
 
 module _ (me : ℕ) (s : NodeState) (w : Option Command) (c : Command) (i : IsWaitingWith me s w) (again : (w ≡ None) ⊎ (w ≡ Some c)) where
   -- what it wants after an outcome is what it then waits for
-  abbrev Waited : Outcome → Type 0
+  abbrev Waited : Reaction → Type 0
   Waited o = IsWaitingWith me (after_changes s o.changes) (cond (is_wait o.answer) (Some c) None)
 
   -- a command that takes no token comes where nothing is wanted
@@ -207,15 +208,15 @@ module _ (me : ℕ) (s : NodeState) (w : Option Command) (c : Command) (i : IsWa
       by_answer (graph.Refused why) is = nothing_waits me s (untaken none)
 
   -- one of two outcomes, by a test
-  either_waits : (b : Bool) (o p : Outcome) → Waited o → Waited p → Waited (cond b o p)
+  either_waits : (b : Bool) (o p : Reaction) → Waited o → Waited p → Waited (cond b o p)
   either_waits true o p h k = h
   either_waits false o p h k = k
 
-  by_turn : (lies : ℕ → Place) (x : ℕ) (k : Known) (o p : Option Turn) (a b : NodeAnswer) → o ≡ p → a ≡ b → Waited (acted s lies x k b p) → Waited (acted s lies x k a o)
+  by_turn : (lies : ℕ → Place) (x : ℕ) (k : Known) (o p : Option Transition) (a b : NodeAnswer) → o ≡ p → a ≡ b → Waited (after_operation s lies x k b p) → Waited (after_operation s lies x k a o)
   by_turn lies x k o p a b same answers h =
-      subst (λ (q : Option Turn). Waited (acted s lies x k a q)) (sym same) (subst (λ (r : NodeAnswer). Waited (acted s lies x k r p)) (sym answers) h)
+      subst (λ (q : Option Transition). Waited (after_operation s lies x k a q)) (sym same) (subst (λ (r : NodeAnswer). Waited (after_operation s lies x k r p)) (sym answers) h)
 
-  -- what is known of a name after a turn
+  -- what is known of a name after a transition
   after_turn : (x : ℕ) (j : Known) (F : Option Known → Option Mode) (v : Option Mode) → F (Some j) ≡ v → (y : ℕ) → Two x y → (other : Option Mode) → F (s.known y) ≡ other →
       F (put s.known x (Some j) y) ≡ cond (x == y) v other
   after_turn x j F v here y (Same e) other else = subst (λ (z : ℕ). F (put s.known x (Some j) z) ≡ cond (x == z) v other) e
@@ -226,15 +227,15 @@ module _ (me : ℕ) (s : NodeState) (w : Option Command) (c : Command) (i : IsWa
   release_waits lies None none = nothing_waits me s (untaken none)
   release_waits lies (Some x) none = by_known (s.known x) refl
     where
-      gone : (k : Known) → s.known x ≡ Some k → (o : Option Turn) (a : NodeAnswer) → Released (share_of k) o a → Waited (acted s lies x k a o)
+      gone : (k : Known) → s.known x ≡ Some k → (o : Option Transition) (a : NodeAnswer) → Released (share_of k) o a → Waited (after_operation s lies x k a o)
       gone k is o a (Frees b sends some does held want grants nil) = by_turn lies x k o (Some (saying b sends)) a answer.Nil does nil
           (nothing_waits me (after_changes s (Knows x (with_share k k.copy b) ∷ []))
           (still_nothing s (Knows x (with_share k k.copy b)) (want ∙ sym (ap want_of is) ∙ untaken none x) (untaken none)))
       gone k is o a (Lacks held does lacks) = by_turn lies x k o None a (answer.Refused refusal.NoToken) does lacks (nothing_waits me s (untaken none))
 
-      by_known : (k : Option Known) → s.known x ≡ k → Waited (act_rule me s lies Releases (answer.Refused refusal.Empty) x k)
+      by_known : (k : Option Known) → s.known x ≡ k → Waited (operation_rule me s lies Releases (answer.Refused refusal.Empty) x k)
       by_known None is = nothing_waits me s (untaken none)
-      by_known (Some k) is = gone k is (turn_of me Releases (share_of k)) (act_answer me Releases (share_of k)) (releasing me (share_of k))
+      by_known (Some k) is = gone k is (transition_of me Releases (share_of k)) (operation_answer me Releases (share_of k)) (releasing me (share_of k))
 
   -- where a token is to be taken nothing is wanted, or that token in that mode
   data Before (m : Mode) (x : ℕ) : Type 0 where
@@ -255,8 +256,8 @@ module _ (me : ℕ) (s : NodeState) (w : Option Command) (c : Command) (i : IsWa
   elsewhere m x (Fresh none) y apart = none y
   elsewhere m x (Again wants) y apart = wants y ∙ (λ l. cond (apart l) (Some m) None)
 
-  acquire_waits : (lies : ℕ → Place) (m : Mode) (x : ℕ) (k : Known) (o : Option Turn) (a : NodeAnswer) → taken_by me s c ≡ Some (m, x) → s.known x ≡ Some k →
-      Acquired m (share_of k) o a → Waited (acted s lies x k a o)
+  acquire_waits : (lies : ℕ → Place) (m : Mode) (x : ℕ) (k : Known) (o : Option Transition) (a : NodeAnswer) → taken_by me s c ≡ Some (m, x) → s.known x ≡ Some k →
+      Acquired m (share_of k) o a → Waited (after_operation s lies x k a o)
   acquire_waits lies m x k o a taken is comes = by_case comes (before m x taken)
     where
       other : Before m x → (b : Share) (v : Option Mode) → b.part.want ≡ v → (y : ℕ) → want_of (put s.known x (Some (with_share k k.copy b)) y) ≡ cond (x == y) v None
@@ -271,7 +272,7 @@ module _ (me : ℕ) (s : NodeState) (w : Option Command) (c : Command) (i : IsWa
       none_anywhere true = refl
       none_anywhere false = refl
 
-      by_case : Acquired m (share_of k) o a → Before m x → Waited (acted s lies x k a o)
+      by_case : Acquired m (share_of k) o a → Before m x → Waited (after_operation s lies x k a o)
       by_case (TakesIt b none does held want nil) q = by_turn lies x k o (Some (silently b)) a answer.Nil does nil
           (nothing_waits me (after_changes s (Knows x (with_share k k.copy b) ∷ [])) (λ y. other q b None want y ∙ none_anywhere (x == y)))
       by_case (Waits b sends none does held want grants waits) q = by_turn lies x k o (Some (saying b sends)) a answer.Wait does waits (record {
@@ -307,10 +308,10 @@ module _ (me : ℕ) (s : NodeState) (w : Option Command) (c : Command) (i : IsWa
   take_waits lies m None taken = nothing_waits me s (untaken taken)
   take_waits lies m (Some x) taken = by_known (s.known x) refl (before m x taken)
     where
-      by_known : (k : Option Known) → s.known x ≡ k → Before m x → Waited (act_rule me s lies (Acquires m) (answer.Refused refusal.Empty) x k)
+      by_known : (k : Option Known) → s.known x ≡ k → Before m x → Waited (operation_rule me s lies (Acquires m) (answer.Refused refusal.Empty) x k)
       by_known None is (Fresh none) = nothing_waits me s none
       by_known None is (Again wants) = (let both : None ≡ Some m = sym (ap want_of is) ∙ wants x ∙ wanted_here m x in absurd cc)
-      by_known (Some k) is q = acquire_waits lies m x k (turn_of me (Acquires m) (share_of k)) (act_answer me (Acquires m) (share_of k)) taken is (acquiring me m (share_of k))
+      by_known (Some k) is q = acquire_waits lies m x k (transition_of me (Acquires m) (share_of k)) (operation_answer me (Acquires m) (share_of k)) taken is (acquiring me m (share_of k))
 
 -- ## each command
 

@@ -9,7 +9,7 @@ use Rattle.bmx_types.specs.declared.numbers.Mode.TheVariants as mode
 use Rattle.bmx_graph.specs.Step.{Act}
 use Rattle.bmx_graph.specs.declared.answers.Answer.{Answer}
 use Rattle.bmx_graph.specs.declared.answers.Answer.TheVariants as graph
-use Rattle.bmx_msg.specs.declared.letters.Field.TheVariants as told
+use Rattle.bmx_msg.specs.declared.letters.Field.TheVariants as msg_field
 use Rattle.bmx_msg.specs.declared.letters.Msg.TheVariants as msg
 use Rattle.bmx_protocol.specs.declared.inputs.NodeAnswer.{NodeAnswer}
 use Rattle.bmx_protocol.specs.declared.inputs.NodeAnswer.TheVariants as answer
@@ -70,7 +70,7 @@ granted = played store (
 
 -- and brings the fields that the anchor had before
 abbrev pub old_fields : Sending
-old_fields = record { to = 1; letter = record { seq = 1; stamp = 6; msg = msg.ReadGrant the_anchor (replicate 32 told.Null) } }
+old_fields = record { to = 1; letter = record { seq = 1; stamp = 6; msg = msg.ReadGrant the_anchor (replicate 32 msg_field.Null) } }
 
 abbrev pub granted_of_old : List Event
 granted_of_old = changed_at 6 (with_letters (old_fields ∷ [])) granted.past
