@@ -60,7 +60,7 @@ effect_names me s (SetsOne register v) = tt
 effect_names me s (Stores name index v) = tt
 effect_names me s (Holds name hold) = tt
 
--- an outcome of a command is a step of the graph, with an effect
+-- a reaction to a command is a step of the graph, with an effect
 pub record IsShown (me : ℕ) (s : NodeState) (g : State) (c : Command) (o : Reaction) : Type 0 where
   pub effect_is : Effect
   pub answer_is : Answer
@@ -161,7 +161,7 @@ module _ (me : ℕ) (s : NodeState) (g : State) (steady : IsSteady me s g) where
       by_known (Some k) is = by_copy k is k.part.held refl
           (ap (λ (j : Option Known). is_some (held_of j)) (sym is) ∙ ap (λ (m : Option Mode). is_some m) (steady.part.held x) ∙ holds)
 
-  -- ## outcomes that change nothing
+  -- ## reactions that change nothing
 
   refused_shown : (c : Command) (why : Refusal) → MayAnswer c (answer_of g me c) (graph.Refused why) → IsShown me s g c (refused why)
   refused_shown c why may = record { effect_is = Nothing; answer_is = graph.Refused why; same = refl; fits = may; leads = refl; part = steady.part; ungranting = tt; own = tt; names = tt }
@@ -306,10 +306,10 @@ module _ (me : ℕ) (s : NodeState) (g : State) (steady : IsSteady me s g) where
 
   -- ## commands on tokens
 
-  -- an outcome by a transition and an answer
-  by_turn : (c : Command) (lies : ℕ → Place) (x : ℕ) (k : Known) (o p : Option Transition) (a b : NodeAnswer) → o ≡ p → a ≡ b →
+  -- a reaction by a transition and an answer
+  by_transition : (c : Command) (lies : ℕ → Place) (x : ℕ) (k : Known) (o p : Option Transition) (a b : NodeAnswer) → o ≡ p → a ≡ b →
       IsShown me s g c (after_operation s lies x k b p) → IsShown me s g c (after_operation s lies x k a o)
-  by_turn c lies x k o p a b same answers shown =
+  by_transition c lies x k o p a b same answers shown =
       subst (λ (q : Option Transition). IsShown me s g c (after_operation s lies x k a q)) (sym same) (subst (λ (r : NodeAnswer). IsShown me s g c (after_operation s lies x k r p)) (sym answers) shown)
 
   copy_same : (x : ℕ) (k : Known) (b : Share) → s.known x ≡ Some k → (fields : List Val) → fields_known (Some (with_share k k.copy b)) ≡ Some fields → g.object x ≡ Some fields
@@ -319,13 +319,13 @@ module _ (me : ℕ) (s : NodeState) (g : State) (steady : IsSteady me s g) where
   held_is x k is = ap held_of (sym is) ∙ steady.part.held x
 
   -- a transition after which as much is held as before
-  turn_leaves : (x : ℕ) (k : Known) (b : Share) → s.known x ≡ Some k → b.part.held ≡ k.part.held → IsPart me (after_changes s (Knows x (with_share k k.copy b) ∷ [])) g
-  turn_leaves x k b is held = part_knows me s g g x (with_share k k.copy b) (nowhere_else me x g)
+  transition_leaves : (x : ℕ) (k : Known) (b : Share) → s.known x ≡ Some k → b.part.held ≡ k.part.held → IsPart me (after_changes s (Knows x (with_share k k.copy b) ∷ [])) g
+  transition_leaves x k b is held = part_knows me s g g x (with_share k k.copy b) (nowhere_else me x g)
       (record { held = held ∙ held_is x k is; fields = copy_same x k b is }) steady.part
 
-  turn_holds : (x : ℕ) (k : Known) (b : Share) (hold : Option Mode) → s.known x ≡ Some k → b.part.held ≡ hold →
+  transition_holds : (x : ℕ) (k : Known) (b : Share) (hold : Option Mode) → s.known x ≡ Some k → b.part.held ≡ hold →
       IsPart me (after_changes s (Knows x (with_share k k.copy b) ∷ [])) (changed g me (Holds x hold))
-  turn_holds x k b hold is held = part_holds me s g x (with_share k k.copy b) hold held (copy_same x k b is) steady.part
+  transition_holds x k b hold is held = part_holds me s g x (with_share k k.copy b) hold held (copy_same x k b is) steady.part
 
   -- read and write
   abbrev pub takes : Mode → Operand → Command
@@ -389,30 +389,30 @@ module _ (me : ℕ) (s : NodeState) (g : State) (steady : IsSteady me s g) where
           ∙ ap held_of (put_same s.known x (Some (with_share k k.copy b))) ∙ held
 
       by_case : Acquired m (share_of k) o a → IsShown me s g (takes m on) (after_operation s lies x k a o)
-      by_case (Takes b none does held want nil) = by_turn (takes m on) lies x k o (Some (silently b)) a answer.Nil does nil (record {
+      by_case (Takes b none does held want nil) = by_transition (takes m on) lies x k o (Some (silently b)) a answer.Nil does nil (record {
         effect_is = Holds x (Some m);
         answer_is = graph.Nil;
         same = refl;
         fits = fits (cond (is_excluded m g me x) graph.Wait graph.Nil) graph.Nil (answers false (unheld none))
             (subst (λ (w : Bool). MayAnswer (takes m on) (cond w graph.Wait graph.Nil) graph.Nil) (sym (free x is (holds b does held))) (taken_fits m on));
         leads = taken_leads m on x is;
-        part = turn_holds x k b (Some m) known held;
+        part = transition_holds x k b (Some m) known held;
         ungranting = tt;
         own = tt;
         names = tt;
       })
-      by_case (Waits b sends none does held want grants waits) = by_turn (takes m on) lies x k o (Some (saying b sends)) a answer.Wait does waits (record {
+      by_case (Waits b sends none does held want grants waits) = by_transition (takes m on) lies x k o (Some (saying b sends)) a answer.Wait does waits (record {
         effect_is = Nothing;
         answer_is = graph.Wait;
         same = refl;
         fits = fits (cond (is_excluded m g me x) graph.Wait graph.Nil) graph.Wait (answers false (unheld none)) (wait_fits m on (is_excluded m g me x));
         leads = refl;
-        part = turn_leaves x k b known (held ∙ sym none);
+        part = transition_leaves x k b known (held ∙ sym none);
         ungranting = notes_ungranting s lies x sends grants;
         own = tt;
         names = tt;
       })
-      by_case (Bars held does bars) = by_turn (takes m on) lies x k o None a (answer.Refused refusal.Held) does bars
+      by_case (Bars held does bars) = by_transition (takes m on) lies x k o None a (answer.Refused refusal.Held) does bars
           (refused_shown (takes m on) refusal.Held (fits (graph.Refused refusal.Held) (graph.Refused refusal.Held) (answers true held) (refusal_fits m on refusal.Held)))
       by_case (Crosses n want apart does bars) = absurd (apart (uncrossed x is n (ap want_of known ∙ want)))
 
@@ -442,18 +442,18 @@ module _ (me : ℕ) (s : NodeState) (g : State) (steady : IsSteady me s g) where
           ∙ (λ i. cond (held i) graph.Nil (graph.Refused refusal.NoToken))
 
       by_case : Released (share_of k) o a → IsShown me s g (command.Done on) (after_operation s lies x k a o)
-      by_case (Frees b sends some does held want grants nil) = by_turn (command.Done on) lies x k o (Some (saying b sends)) a answer.Nil does nil (record {
+      by_case (Frees b sends some does held want grants nil) = by_transition (command.Done on) lies x k o (Some (saying b sends)) a answer.Nil does nil (record {
         effect_is = Holds x None;
         answer_is = graph.Nil;
         same = refl;
         fits = sym (answers true some);
         leads = ap (λ (t : Option ℕ). changed g me (holding t None)) is;
-        part = turn_holds x k b None known held;
+        part = transition_holds x k b None known held;
         ungranting = notes_ungranting s lies x sends grants;
         own = tt;
         names = tt;
       })
-      by_case (Lacks none does lacks) = by_turn (command.Done on) lies x k o None a (answer.Refused refusal.NoToken) does lacks
+      by_case (Lacks none does lacks) = by_transition (command.Done on) lies x k o None a (answer.Refused refusal.NoToken) does lacks
           (refused_shown (command.Done on) refusal.NoToken (sym (answers false (ap (λ (n : Option Mode). is_some n) none))))
 
   give_shown : (on : Operand) (lies : ℕ → Place) → ((x : ℕ) → target_of g me on ≡ Some x → is_some (s.known x) ≡ true) →
@@ -483,8 +483,17 @@ module _ (me : ℕ) (s : NodeState) (g : State) (steady : IsSteady me s g) where
     where
       by_full : (b : Bool) → IsShown me s g (command.New register bunch size) (cond b (refused refusal.Full) (graph_rule me s (command.New register bunch size)))
       by_full true = refused_shown (command.New register bunch size) refusal.Full tt
-      by_full false = record { effect_is = MakesOne register bunch size; answer_is = graph.Nil; same = refl; fits = refl; leads = refl;
-          part = effect_part me s g (MakesOne register bunch size) steady.new steady.part; ungranting = tt; own = tt; names = effect_names me s (MakesOne register bunch size) }
+      by_full false = record {
+        effect_is = MakesOne register bunch size;
+        answer_is = graph.Nil;
+        same = refl;
+        fits = refl;
+        leads = refl;
+        part = effect_part me s g (MakesOne register bunch size) steady.new steady.part;
+        ungranting = tt;
+        own = tt;
+        names = effect_names me s (MakesOne register bunch size);
+      }
   command_shown full lies (command.Copy register value) met =
       graph_shown (command.Copy register value) (λ a. refl) refl (λ d. record { effects = ap (SetsOne register) (value_same value); ready = tt; own = tt })
   command_shown full lies (command.Drop register) met = graph_shown (command.Drop register) (λ a. refl) refl (λ d. record { effects = refl; ready = tt; own = tt })

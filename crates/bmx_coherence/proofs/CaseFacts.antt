@@ -1,6 +1,6 @@
 -- Each law applies to runs worked by hand, and tells them from the same with one outcome changed.
-use Rattle.std.proofs.Common.{◌≡◌, ℕ, arith, refl, ap, Bool, true, false, List, [], ◌∷◌, replicate}
-use Rattle.std.specs.Prelude.{Option, Some, None, is_some, slice_get}
+use Rattle.std.proofs.Common.{◌≡◌, ℕ, ◌<◌, arith, refl, ap, sym, subst, ◌∙◌, Bool, true, false, cond, List, [], ◌∷◌, replicate, drop, length, zero, suc}
+use Rattle.std.specs.Prelude.{◌==◌, ◌&&◌, nat_lt, Option, Some, None, IsSome, is_some}
 use Rattle.bmx_types.specs.declared.values.Val.{Val}
 use Rattle.bmx_types.specs.declared.values.Val.TheVariants as val
 use Rattle.bmx_types.specs.declared.numbers.Mode.TheVariants as mode
@@ -10,14 +10,16 @@ use Rattle.bmx_graph.specs.State.{State}
 use Rattle.bmx_msg.specs.declared.letters.Field.TheVariants as msg_field
 use Rattle.bmx_protocol.specs.Steps.{first_node}
 use Rattle.bmx_protocol.specs.Worlds.{world_of, IsCurrent}
-use Rattle.bmx_protocol.specs.Cases.{the_anchor, told_of_the_object, written_by_its_taker}
+use Rattle.bmx_protocol.specs.Cases.{anchor, the_anchor, told_of_the_object, written_by_its_taker}
 use Rattle.bmx_store_laws.proofs.Applied.{laws_apply}
 use Rattle.bmx_coherence.specs.Graphs.{graph_after}
 use Rattle.bmx_coherence.specs.Waits.{WaitsFor, WantsAreWaitedFor}
 use Rattle.bmx_coherence.specs.Copies.{AreCurrent, TargetsAreKnown}
 use Rattle.bmx_coherence.specs.Laws.{IsGraphRun, HasGraph}
 use Rattle.bmx_coherence.specs.Cases.{store, old_fields, read_while_written, never_made, granted, granted_of_old}
-use Rattle.bmx_coherence.specs.Telling.{LawsTell}
+
+use Rattle.bmx_coherence.specs.Telling.{LawsTell, WrongRulesBreak}
+use Rattle.bmx_coherence.specs.Wrong.{three, hastily_granted, deafly_taken, rashly_dropped}
 
 no_run : IsGraphRun store read_while_written → ⊥
 no_run r = (let both : graph.Nil ≡ graph.Wait = r.run.1.1.0 in cc)
@@ -58,3 +60,18 @@ laws_tell = record {
   targets = not_known;
   waits = not_waited;
 }
+
+-- ## wrong rules
+
+-- node 2 writes what node 1 holds for reading
+hasty : IsGraphRun three hastily_granted.past → ⊥
+hasty r = (let both : graph.Nil ≡ graph.Wait = r.run.1.1.1.0 in cc)
+
+deaf : TargetsAreKnown store (world_of deafly_taken.nodes deafly_taken.past) → ⊥
+deaf t = (let both : false ≡ true = t.copies 1 1 2 _ _ (omega arith) refl refl (0, omega arith, refl) in cc)
+
+rash : IsGraphRun three rashly_dropped.past → ⊥
+rash r = (let both : graph.Nil ≡ graph.Wait = r.run.1.1.1.0 in cc)
+
+pub wrong_rules_break : WrongRulesBreak
+wrong_rules_break = record { hasty = hasty; deaf = deaf; rash = rash }

@@ -43,7 +43,7 @@ use Rattle.bmx_store_laws.proofs.Lifted.{one_seat}
 use Rattle.bmx_coherence.specs.Graphs.{graph_after}
 use Rattle.bmx_coherence.specs.Copies.{HasRecord}
 use Rattle.bmx_coherence.proofs.Moments.{came, sound}
-use Rattle.bmx_coherence.proofs.Turns.{values_told}
+use Rattle.bmx_coherence.proofs.Transitions.{values_told}
 use Rattle.bmx_coherence.proofs.Events.{Stands}
 
 -- ## lists

@@ -53,7 +53,7 @@ use Rattle.bmx_coherence.specs.Waits.{taking}
 use Rattle.bmx_coherence.proofs.Flight.{flight_more, taken_flies}
 use Rattle.bmx_coherence.proofs.Parts.{held_of, want_of, IsPart, KnowsIt, Leaves, parts_left, fields_kept, object_kept, part_else}
 use Rattle.bmx_coherence.proofs.Answers.{Ungranting, IsOwnStore, IsShown, IsSteady, IsAbout, notes_ungranting, NamesIt, takes, target_same, IsFree, IsUncrossed, IsMet, command_shown}
-use Rattle.bmx_coherence.proofs.Turns.{LeavesIt, served_each, took_each, values_told, BringsFields, EachBrings, heard_values, served_brings}
+use Rattle.bmx_coherence.proofs.Transitions.{LeavesIt, served_each, took_each, values_told, BringsFields, EachBrings, heard_values, served_brings}
 use Rattle.bmx_coherence.proofs.Waits.{taken_by, wanted_at, waited, IsWaitingWith, KeepsWants, alike_after, alike_waits, command_waits}
 use Rattle.bmx_coherence.proofs.Moments.{IsMoment, IsAlone, came, sound, real, aware, new_unknown, IsAlonePer, alone_per, beside_copy, beside_grant}
 
@@ -322,16 +322,16 @@ module _ (st : Setting) (past : List Event) (nodes : ℕ → Node) (e : Event) (
   take_seen lies from l none brings = silent_seen o none
       (parts_left me g o.changes (took_each (Leaves me g) me s lies from l.seq l.msg (s.known (name_in l.msg)) (λ info. tt) (λ name. tt) tt
       (λ k is. left_fits (name_in l.msg) k (copy_after l.msg (Some k)) is (letter_fields l.msg k brings (copy_there (name_in l.msg) k is)))) s (ev.stands.parts me))
-      (by_turn (note_transition me from (note_in l.msg) (option_map share_of (s.known (name_in l.msg)))) (note_grants me from (note_in l.msg) (option_map share_of (s.known (name_in l.msg)))))
+      (by_transition (note_transition me from (note_in l.msg) (option_map share_of (s.known (name_in l.msg)))) (note_grants me from (note_in l.msg) (option_map share_of (s.known (name_in l.msg)))))
       (alike_waits me s (after_changes s o.changes) waiting (alike_after s o.changes (took_each (KeepsWants s) me s lies from l.seq l.msg (s.known (name_in l.msg)) (λ info. tt) (λ name. tt) tt
       (λ k is. left_wants (name_in l.msg) k (copy_after l.msg (Some k)) is))) (ev.stands.waits me))
     where
       o : Reaction
       o = take_rule me s lies from l.seq l.msg
 
-      by_turn : (t : Option Transition) → GrantsNothing t → EachBrings g (took s lies from l.seq l.msg (s.known (name_in l.msg)) t).drafts
-      by_turn None none = tt
-      by_turn (Some t) none = ungranted_brings g _ (notes_ungranting s lies (name_in l.msg) t.sends none)
+      by_transition : (t : Option Transition) → GrantsNothing t → EachBrings g (took s lies from l.seq l.msg (s.known (name_in l.msg)) t).drafts
+      by_transition None none = tt
+      by_transition (Some t) none = ungranted_brings g _ (notes_ungranting s lies (name_in l.msg) t.sends none)
 
   -- a letter that isn't bad has the next number
   good_number : (a b t c d f : Bool) → (a || b || not t || c || d || f) ≡ false → t ≡ true

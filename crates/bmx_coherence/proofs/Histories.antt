@@ -28,7 +28,7 @@ use Rattle.bmx_coherence.proofs.Events.{Stands, IsEvent, one_more}
 abbrev known_first : Option Birth → Bool → Bool → Option Known
 known_first b first told = cond first (option_map owned_birth b) (cond told (option_map heard_birth b) None)
 
-held_first : (b : Option Birth) (z t : Bool) → held_of (known_first b z t) ≡ None
+pub held_first : (b : Option Birth) (z t : Bool) → held_of (known_first b z t) ≡ None
 held_first None true t = refl
 held_first (Some b) true t = refl
 held_first None false true = refl

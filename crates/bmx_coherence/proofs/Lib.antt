@@ -2,7 +2,7 @@ pub mod Flight
 pub mod Tokens
 pub mod Parts
 pub mod Answers
-pub mod Turns
+pub mod Transitions
 pub mod Waits
 pub mod Moments
 pub mod Events

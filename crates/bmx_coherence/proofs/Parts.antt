@@ -112,7 +112,7 @@ parts_left me g changes each s p = kept_by_each (λ t. IsPart me t g) (Leaves me
 
 -- ## effects at the node
 
--- a turn leaves the fields of a copy, or takes the copy away
+-- a transition leaves the fields of a copy, or takes the copy away
 pub fields_kept : (k : Known) (copy : Option (List ViewField)) (b : Bool) (fields : List Val) →
     option_map (map value_in) (cond b copy None) ≡ Some fields → option_map (map value_in) copy ≡ Some fields
 fields_kept k copy true fields h = h

@@ -81,13 +81,13 @@ full_is_at_the_limit st past rest e nodes register bunch size legal after is = (
     given : Bool → NodeAnswer
     given b = cond b (answer.Refused refusal.Full) answer.Nil
 
-    by_outcome : (b : Bool) (o p : Reaction) → (cond b o p).answer ≡ cond b o.answer p.answer
-    by_outcome true o p = refl
-    by_outcome false o p = refl
+    by_reaction : (b : Bool) (o p : Reaction) → (cond b o p).answer ≡ cond b o.answer p.answer
+    by_reaction true o p = refl
+    by_reaction false o p = refl
 
     same : e.done.answer ≡ given (is_full st.limit places bunch size)
     same = ap (λ (d : Done). d.answer) step.outcome ∙ ap (λ (i : Input). (rule st e.node (nodes e.node).state step.told i).answer) is
-        ∙ by_outcome step.told.full _ _ ∙ ap given (step.is_told.full ∙ ap (λ (i : Input). option_map_or (finds_full st places) (command_in i) false) is)
+        ∙ by_reaction step.told.full _ _ ∙ ap given (step.is_told.full ∙ ap (λ (i : Input). option_map_or (finds_full st places) (command_in i) false) is)
 
     by_full : (b : Bool) → is_full st.limit places bunch size ≡ b → given (is_full st.limit places bunch size) ≡ answer.Refused refusal.Full → is_full st.limit places bunch size ≡ true
     by_full true e h = e

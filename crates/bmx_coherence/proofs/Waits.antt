@@ -178,7 +178,7 @@ effect_unwanted me s (Stores name index v) none = by_known (s.known name) refl
 effect_unwanted me s (Holds name hold) none = tt
 
 module _ (me : ℕ) (s : NodeState) (w : Option Command) (c : Command) (i : IsWaitingWith me s w) (again : (w ≡ None) ⊎ (w ≡ Some c)) where
-  -- what it wants after an outcome is what it then waits for
+  -- what it wants after a reaction is what it then waits for
   abbrev Waited : Reaction → Type 0
   Waited o = IsWaitingWith me (after_changes s o.changes) (cond (is_wait o.answer) (Some c) None)
 
@@ -207,31 +207,31 @@ module _ (me : ℕ) (s : NodeState) (w : Option Command) (c : Command) (i : IsWa
       by_answer graph.Wait is = absurd (never is)
       by_answer (graph.Refused why) is = nothing_waits me s (untaken none)
 
-  -- one of two outcomes, by a test
+  -- one of two reactions, by a test
   either_waits : (b : Bool) (o p : Reaction) → Waited o → Waited p → Waited (cond b o p)
   either_waits true o p h k = h
   either_waits false o p h k = k
 
-  by_turn : (lies : ℕ → Place) (x : ℕ) (k : Known) (o p : Option Transition) (a b : NodeAnswer) → o ≡ p → a ≡ b → Waited (after_operation s lies x k b p) → Waited (after_operation s lies x k a o)
-  by_turn lies x k o p a b same answers h =
+  by_transition : (lies : ℕ → Place) (x : ℕ) (k : Known) (o p : Option Transition) (a b : NodeAnswer) → o ≡ p → a ≡ b → Waited (after_operation s lies x k b p) → Waited (after_operation s lies x k a o)
+  by_transition lies x k o p a b same answers h =
       subst (λ (q : Option Transition). Waited (after_operation s lies x k a q)) (sym same) (subst (λ (r : NodeAnswer). Waited (after_operation s lies x k r p)) (sym answers) h)
 
   -- what is known of a name after a transition
-  after_turn : (x : ℕ) (j : Known) (F : Option Known → Option Mode) (v : Option Mode) → F (Some j) ≡ v → (y : ℕ) → Two x y → (other : Option Mode) → F (s.known y) ≡ other →
+  after_transition : (x : ℕ) (j : Known) (F : Option Known → Option Mode) (v : Option Mode) → F (Some j) ≡ v → (y : ℕ) → Two x y → (other : Option Mode) → F (s.known y) ≡ other →
       F (put s.known x (Some j) y) ≡ cond (x == y) v other
-  after_turn x j F v here y (Same e) other else = subst (λ (z : ℕ). F (put s.known x (Some j) z) ≡ cond (x == z) v other) e
+  after_transition x j F v here y (Same e) other else = subst (λ (z : ℕ). F (put s.known x (Some j) z) ≡ cond (x == z) v other) e
       (ap F (put_same s.known x (Some j)) ∙ here ∙ (λ l. cond (sym (eqb_same x) l) v other))
-  after_turn x j F v here y (Apart h d) other else = ap F (put_apart s.known x y (Some j) h) ∙ else ∙ (λ l. cond (sym h l) v other)
+  after_transition x j F v here y (Apart h d) other else = ap F (put_apart s.known x y (Some j) h) ∙ else ∙ (λ l. cond (sym h l) v other)
 
   release_waits : (lies : ℕ → Place) (on : Option ℕ) → taken_by me s c ≡ None → Waited (token_rule me s lies Releases on)
   release_waits lies None none = nothing_waits me s (untaken none)
   release_waits lies (Some x) none = by_known (s.known x) refl
     where
       gone : (k : Known) → s.known x ≡ Some k → (o : Option Transition) (a : NodeAnswer) → Released (share_of k) o a → Waited (after_operation s lies x k a o)
-      gone k is o a (Frees b sends some does held want grants nil) = by_turn lies x k o (Some (saying b sends)) a answer.Nil does nil
+      gone k is o a (Frees b sends some does held want grants nil) = by_transition lies x k o (Some (saying b sends)) a answer.Nil does nil
           (nothing_waits me (after_changes s (Knows x (with_share k k.copy b) ∷ []))
           (still_nothing s (Knows x (with_share k k.copy b)) (want ∙ sym (ap want_of is) ∙ untaken none x) (untaken none)))
-      gone k is o a (Lacks held does lacks) = by_turn lies x k o None a (answer.Refused refusal.NoToken) does lacks (nothing_waits me s (untaken none))
+      gone k is o a (Lacks held does lacks) = by_transition lies x k o None a (answer.Refused refusal.NoToken) does lacks (nothing_waits me s (untaken none))
 
       by_known : (k : Option Known) → s.known x ≡ k → Waited (operation_rule me s lies Releases (answer.Refused refusal.Empty) x k)
       by_known None is = nothing_waits me s (untaken none)
@@ -264,18 +264,18 @@ module _ (me : ℕ) (s : NodeState) (w : Option Command) (c : Command) (i : IsWa
       other q b v want y = by_two (two x y)
         where
           by_two : Two x y → want_of (put s.known x (Some (with_share k k.copy b)) y) ≡ cond (x == y) v None
-          by_two (Same e) = after_turn x (with_share k k.copy b) want_of v want y (Same e) (want_of (s.known y)) refl
+          by_two (Same e) = after_transition x (with_share k k.copy b) want_of v want y (Same e) (want_of (s.known y)) refl
               ∙ (λ l. cond (eqb_of e l) v (want_of (s.known y))) ∙ (λ l. cond (sym (eqb_of e) l) v None)
-          by_two (Apart h d) = after_turn x (with_share k k.copy b) want_of v want y (Apart h d) None (elsewhere m x q y h)
+          by_two (Apart h d) = after_transition x (with_share k k.copy b) want_of v want y (Apart h d) None (elsewhere m x q y h)
 
       none_anywhere : (b : Bool) → cond {A = Option Mode} b None None ≡ None
       none_anywhere true = refl
       none_anywhere false = refl
 
       by_case : Acquired m (share_of k) o a → Before m x → Waited (after_operation s lies x k a o)
-      by_case (TakesIt b none does held want nil) q = by_turn lies x k o (Some (silently b)) a answer.Nil does nil
+      by_case (TakesIt b none does held want nil) q = by_transition lies x k o (Some (silently b)) a answer.Nil does nil
           (nothing_waits me (after_changes s (Knows x (with_share k k.copy b) ∷ [])) (λ y. other q b None want y ∙ none_anywhere (x == y)))
-      by_case (Waits b sends none does held want grants waits) q = by_turn lies x k o (Some (saying b sends)) a answer.Wait does waits (record {
+      by_case (Waits b sends none does held want grants waits) q = by_transition lies x k o (Some (saying b sends)) a answer.Wait does waits (record {
         wants = λ y. other q b (Some m) want y ∙ ap (λ (t : Option (Mode × ℕ)). wanted_at t y) (sym taken_now);
         unheld = unheld;
         takes = λ d same. ap (λ (e : Command). is_some (taken_by me after e)) (sym (some_same c d same)) ∙ ap (λ (t : Option (Mode × ℕ)). is_some t) taken_now;
@@ -296,11 +296,11 @@ module _ (me : ℕ) (s : NodeState) (w : Option Command) (c : Command) (i : IsWa
               by_two : Two x y → held_of (put s.known x (Some (with_share k k.copy b)) y) ≡ None
               by_two (Same e) = subst (λ (z : ℕ). held_of (put s.known x (Some (with_share k k.copy b)) z) ≡ None) e (ap held_of (put_same s.known x (Some (with_share k k.copy b))) ∙ held)
               by_two (Apart h d) = (let both : None ≡ Some n = sym (other q b (Some m) want y ∙ (λ l. cond (h l) (Some m) None)) ∙ wants in absurd cc)
-      by_case (Bars held does bars) (Fresh none) = by_turn lies x k o None a (answer.Refused refusal.Held) does bars (nothing_waits me s none)
+      by_case (Bars held does bars) (Fresh none) = by_transition lies x k o None a (answer.Refused refusal.Held) does bars (nothing_waits me s none)
       by_case (Bars held does bars) (Again wants) =
           (let unheld : k.part.held ≡ None = sym (ap held_of is) ∙ i.unheld x m (wants x ∙ wanted_here m x) in
           let both : true ≡ false = sym held ∙ ap (λ (h : Option Mode). is_some h) unheld in absurd cc)
-      by_case (Crosses n want apart does bars) (Fresh none) = by_turn lies x k o None a (answer.Refused refusal.Held) does bars (nothing_waits me s none)
+      by_case (Crosses n want apart does bars) (Fresh none) = by_transition lies x k o None a (answer.Refused refusal.Held) does bars (nothing_waits me s none)
       by_case (Crosses n want apart does bars) (Again wants) =
           (let both : Some n ≡ Some m = sym want ∙ sym (ap want_of is) ∙ wants x ∙ wanted_here m x in absurd (apart cc))
 

@@ -4,4 +4,5 @@ pub mod Copies
 pub mod Stuck
 pub mod Laws
 pub mod Cases
+pub mod Wrong
 pub mod Telling

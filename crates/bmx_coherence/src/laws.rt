@@ -1,5 +1,5 @@
 ghost use Rattle.bmx_coherence.specs.Laws.{EveryHistoryIsAGraphRun, FullIsAtTheLimit, NodesHaveTheGraph, CopiesAreCurrent, TargetsStand, EachWaitsForItsWant, StuckNodesNameHolders};
-ghost use Rattle.bmx_coherence.specs.Telling.{LawsTell};
+ghost use Rattle.bmx_coherence.specs.Telling.{LawsTell, WrongRulesBreak};
 
 /// The law that the commands of every legal history, with their answers, are a run of the plain graph from the
 /// opening: a node waits only for a token that it might have got or that another node keeps from it, and answers
@@ -48,4 +48,10 @@ pub fn stuck_nodes_name_holders()
 /// changed. It does nothing.
 pub fn laws_tell()
     ensures { LawsTell }
+{}
+
+/// The law that three wrong rules break the others: a write granted while a reader has its copy, a grant taken
+/// without hearing of what its fields refer to, a recall that drops a held copy. It does nothing.
+pub fn wrong_rules_break()
+    ensures { WrongRulesBreak }
 {}

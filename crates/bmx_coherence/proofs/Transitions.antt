@@ -34,11 +34,11 @@ known_each Has name k fields t keeps leaves = subst (λ (h : Option Share). Each
 pub served_each : (Has : Change → Type 0) (me : ℕ) (s : NodeState) (lies : ℕ → Place) (unknown : NodeAnswer) (name : ℕ) (k : Option Known) →
     ((j : Known) → k ≡ Some j → LeavesIt Has name j j.copy) → Each Has (operation_rule me s lies Serves unknown name k).changes
 served_each Has me s lies unknown name None leaves = tt
-served_each Has me s lies unknown name (Some k) leaves = by_turn (transition_of me Serves (share_of k)) (serving_keeps me (share_of k))
+served_each Has me s lies unknown name (Some k) leaves = by_transition (transition_of me Serves (share_of k)) (serving_keeps me (share_of k))
   where
-    by_turn : (t : Option Transition) → Keeps (share_of k) t → Each Has (after_operation s lies name k (operation_answer me Serves (share_of k)) t).changes
-    by_turn None keeps = tt
-    by_turn (Some t) keeps = known_each Has name k k.copy t keeps (leaves k refl)
+    by_transition : (t : Option Transition) → Keeps (share_of k) t → Each Has (after_operation s lies name k (operation_answer me Serves (share_of k)) t).changes
+    by_transition None keeps = tt
+    by_transition (Some t) keeps = known_each Has name k k.copy t keeps (leaves k refl)
 
 pub took_each : (Has : Change → Type 0) (me : ℕ) (s : NodeState) (lies : ℕ → Place) (from seq : ℕ) (m : Msg) (k : Option Known) →
     ((info : Info) → Has (Hears from info)) → ((name : ℕ) → Has (Gets name from seq)) → Has (Takes from) →
@@ -61,10 +61,10 @@ took_each Has me s lies from seq m k hears gets takes leaves = by_known k leaves
     with_known changes each = each_append Has (map (Hears from) (infos m)) _ (heard (infos m))
         (each_append Has changes _ each (each_append Has (got_change from seq (name_in m) (note_in m)) (Takes from ∷ []) (got (note_in m)) (takes, tt)))
 
-    by_turn : (j : Known) → ((i : Known) → Some j ≡ Some i → LeavesIt Has (name_in m) i (copy_after m (Some i))) → (t : Option Transition) → Keeps (share_of j) t →
+    by_transition : (j : Known) → ((i : Known) → Some j ≡ Some i → LeavesIt Has (name_in m) i (copy_after m (Some i))) → (t : Option Transition) → Keeps (share_of j) t →
         Each Has (took s lies from seq m (Some j) t).changes
-    by_turn j leaves None keeps = tt
-    by_turn j leaves (Some t) keeps = with_known (known_change (name_in m) (Some j) (copy_after m (Some j)) t.after)
+    by_transition j leaves None keeps = tt
+    by_transition j leaves (Some t) keeps = with_known (known_change (name_in m) (Some j) (copy_after m (Some j)) t.after)
         (known_each Has (name_in m) j (copy_after m (Some j)) t keeps (leaves j refl))
 
     by_none : (t : Option Transition) → Each Has (took s lies from seq m None t).changes
@@ -74,7 +74,7 @@ took_each Has me s lies from seq m k hears gets takes leaves = by_known k leaves
     by_known : (k : Option Known) → ((j : Known) → k ≡ Some j → LeavesIt Has (name_in m) j (copy_after m (Some j))) →
         Each Has (took s lies from seq m k (note_transition me from (note_in m) (option_map share_of k))).changes
     by_known None leaves = by_none (note_transition me from (note_in m) None)
-    by_known (Some j) leaves = by_turn j leaves (note_transition me from (note_in m) (Some (share_of j))) (note_keeps me from (note_in m) (share_of j))
+    by_known (Some j) leaves = by_transition j leaves (note_transition me from (note_in m) (Some (share_of j))) (note_keeps me from (note_in m) (share_of j))
 
 -- ## what grants bring
 
@@ -136,13 +136,13 @@ pub served_brings : (g : State) (me : ℕ) (s : NodeState) (lies : ℕ → Place
     ((j : Known) → k ≡ Some j → j.part.role ≡ Owner → is_some j.copy ≡ true) →
     ((fields : List Val) → fields_known k ≡ Some fields → g.object name ≡ Some fields) → EachBrings g (operation_rule me s lies Serves unknown name k).drafts
 served_brings g me s lies unknown name None is has copies = tt
-served_brings g me s lies unknown name (Some k) is has copies = by_turn (transition_of me Serves (share_of k)) refl
+served_brings g me s lies unknown name (Some k) is has copies = by_transition (transition_of me Serves (share_of k)) refl
   where
     by_copy : (c : Option (List ViewField)) → k.copy ≡ c → is_some c ≡ true → (sends : List Send) → EachBrings g (drafts_of s lies name sends)
     by_copy None is_copy some sends = absurd cc
     by_copy (Some fields) is_copy some sends = notes_bring g s lies name k fields is is_copy
         (copies (map value_in fields) (ap (λ (c : Option (List ViewField)). option_map (map value_in) c) is_copy)) sends
 
-    by_turn : (t : Option Transition) → transition_of me Serves (share_of k) ≡ t → EachBrings g (after_operation s lies name k (operation_answer me Serves (share_of k)) t).drafts
-    by_turn None does = tt
-    by_turn (Some t) does = by_copy k.copy refl (has k refl (serving_owns me (share_of k) t does)) t.sends
+    by_transition : (t : Option Transition) → transition_of me Serves (share_of k) ≡ t → EachBrings g (after_operation s lies name k (operation_answer me Serves (share_of k)) t).drafts
+    by_transition None does = tt
+    by_transition (Some t) does = by_copy k.copy refl (has k refl (serving_owns me (share_of k) t does)) t.sends
