@@ -1,4 +1,4 @@
-ghost use Rattle.std.specs.Prelude.{◌≡◌, ◌+◌, ◌≤◌, ◌<◌, ◌↔◌, ◌==◌, [], length, slice_get, Some, OnOk, OnErr, IfOk, IsTrue, MatchResult};
+ghost use Rattle.std.specs.Prelude.{◌≡◌, ◌+◌, ◌^◌, ◌≤◌, ◌<◌, ◌↔◌, ◌==◌, [], length, slice_get, Some, OnOk, OnErr, IfOk, IsTrue, MatchResult};
 ghost use Rattle.std.specs.List.{list_any};
 ghost use Rattle.std.specs.List.Sorted.{IsStrictlyIncreasing};
 
@@ -199,6 +199,7 @@ impl Records {
         requires { IsStrictlyIncreasing listed.now }
         ensures list { self.new.list ≡ cleaned self.old.list bunch from sent got listed.now }
         ensures count { result ≡ stale_count self.old.list bunch from sent got listed.now }
+        ensures small { result < 2 ^ 63 }
         ensures spare { self.old.spare + result ≤ self.new.spare }
     {
         let before = self.records.len();
