@@ -43,11 +43,6 @@ fn lists_nothing(alloc: Global, from: u8, sent: u64, got: u64, clock: u64) -> Re
 #[test]
 fn a_table_waits_for_the_letters_before_it(rt: HostRuntime) -> Result<(), Fail> {
     let table = lists_nothing(rt.alloc(), 1, 5, 3, 7)?;
-    let mut inter = Inter::new(rt.alloc());
-    let mut records = Records::new(rt.alloc());
-    records.reserve(1)?;
-    records.give(name(2)?, bunch(0)?, node(1)?, 3);
-    assert_eq!(rt; apply(&mut records, &mut inter, 4, &table), Applied::Early);
     let record = Record {
         name: name(2)?,
         bunch: bunch(0)?,
@@ -55,7 +50,12 @@ fn a_table_waits_for_the_letters_before_it(rt: HostRuntime) -> Result<(), Fail> 
         sent: 3,
         got: 0,
     };
-    assert_eq!(rt; records.find(name(2)?, node(1)?), Some(record));
+    let mut inter = Inter::new(rt.alloc());
+    let mut records = Records::new(rt.alloc());
+    records.reserve(1)?;
+    records.give(record.name, record.bunch, record.from, 3);
+    assert_eq!(rt; apply(&mut records, &mut inter, 4, &table), Applied::Early);
+    assert_eq!(rt; records.find(record.name, record.from), Some(record));
     assert_eq!(rt;
         apply(&mut records, &mut inter, 5, &table),
         Applied::Removed(1)
@@ -70,17 +70,18 @@ fn a_table_waits_for_the_letters_before_it(rt: HostRuntime) -> Result<(), Fail> 
 
 #[test]
 fn scions_go_by_the_own_table_alone(rt: HostRuntime) -> Result<(), Fail> {
-    let mut inter = Inter::new(rt.alloc());
-    let mut records = Records::new(rt.alloc());
-    inter.reserve(1)?;
-    inter.pair(name(2)?, bunch(0)?, name(3)?, 7);
+    let (source, of, target) = (name(2)?, bunch(0)?, name(3)?);
     let other = lists_nothing(rt.alloc(), 1, 5, 3, 7)?;
+    let own = lists_nothing(rt.alloc(), 0, 0, 0, 7)?;
+    let mut records = Records::new(rt.alloc());
+    let mut inter = Inter::new(rt.alloc());
+    inter.reserve(1)?;
+    inter.pair(source, of, target, 7);
     assert_eq!(rt;
         apply(&mut records, &mut inter, 5, &other),
         Applied::Removed(0)
     );
     assert!(rt; inter.scion(0).is_some());
-    let own = lists_nothing(rt.alloc(), 0, 0, 0, 7)?;
     assert_eq!(rt;
         apply(&mut records, &mut inter, 0, &own),
         Applied::Removed(1)
