@@ -10,7 +10,7 @@ build:
 	mkdir -p bin
 	cp crates/bmx_cli/out/bmx_cli bin/bmx
 
-# The gate: every proof, each edit that must fail, each test and program, the table of runs, and the claims.
+# The gate: every proof, each must-fail edit, each test and program, the table of runs, and the claims.
 test:
 	./.ci/run
 

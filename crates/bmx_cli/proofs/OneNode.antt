@@ -7,7 +7,7 @@ use Rattle.bmx_types.specs.declared.commands.Operand.{Operand}
 use Rattle.bmx_types.specs.declared.commands.Operand.TheVariants as operand
 use Rattle.bmx_types.specs.declared.commands.Command.{Command}
 use Rattle.bmx_types.specs.declared.commands.Command.TheVariants as command
-use Rattle.bmx_script.specs.declared.knowledge.Known.{Known}
+use Rattle.bmx_script.specs.declared.knowledge.Knowledge.{Knowledge}
 use Rattle.bmx_script.specs.declared.lines.Line.{Line}
 use Rattle.bmx_script.specs.declared.lines.LineKind.{LineKind}
 use Rattle.bmx_script.specs.declared.lines.LineKind.TheVariants as line
@@ -16,7 +16,7 @@ use Rattle.bmx_local.specs.Solos.{FitsOperand, FitsCommand}
 use Rattle.bmx_cli.specs.Inside.Progress.{FitsLine}
 
 -- no bunch is known before the bunch line and one behind it, and there is one node at most
-pub record IsSmall (k : Known) : Type 0 where
+pub record IsSmall (k : Knowledge) : Type 0 where
   pub before : k.section < 3 → length k.bunches ≡ 0
   pub behind : 3 ≤ k.section → length k.bunches ≡ 1
   pub nodes : k.nodes ≤ 1
@@ -52,21 +52,21 @@ one_bunch b h = ⊎_elim
     third b e h = absurd (false≢true (subst (λ (n : ℕ). ((n == 4) || (n == 5)) ≡ true) e h))
 
 -- a line that isn't a bunch line keeps that, before or behind one
-stays_before : (k : Known) (s n : ℕ) (l : _) → s < 3 → n ≤ 1 → IsSmall k → may_follow k.section s ≡ true → IsSmall (record { section = s; nodes = n; bunches = k.bunches; limit = l })
+stays_before : (k : Knowledge) (s n : ℕ) (l : _) → s < 3 → n ≤ 1 → IsSmall k → may_follow k.section s ≡ true → IsSmall (record { section = s; nodes = n; bunches = k.bunches; limit = l })
 stays_before k s n l early few small stands = record {
   before = λ _. small.before (omega (arith, follows k.section s stands, early));
   behind = λ h. absurd (omega (arith, h, early));
   nodes = few;
 }
 
-stays_behind : (k : Known) (s : ℕ) (l : _) → 4 ≤ s → IsSmall k → may_follow k.section s ≡ true → IsSmall (record { section = s; nodes = k.nodes; bunches = k.bunches; limit = l })
+stays_behind : (k : Knowledge) (s : ℕ) (l : _) → 4 ≤ s → IsSmall k → may_follow k.section s ≡ true → IsSmall (record { section = s; nodes = k.nodes; bunches = k.bunches; limit = l })
 stays_behind k s l above small stands = record {
   before = λ h. absurd (omega (arith, h, above));
   behind = λ _. small.behind (late k.section s above stands);
   nodes = small.nodes;
 }
 
-small_after : (k : Known) (what : LineKind) → IsSmall k → may_follow k.section (section_of what) ≡ true → in_range k what ≡ true → IsSmall (known_after k what)
+small_after : (k : Knowledge) (what : LineKind) → IsSmall k → may_follow k.section (section_of what) ≡ true → in_range k what ≡ true → IsSmall (known_after k what)
 small_after k line.Version small stands range = stays_before k 1 k.nodes k.limit (omega arith) small.nodes small stands
 small_after k (line.Nodes count) small stands range = stays_before k 2 count k.limit (omega arith) (omega (arith, eqb-true count 1 range)) small stands
 small_after k (line.Bunch w file) small stands range = record {
@@ -85,7 +85,7 @@ small_after k (line.Collect n b) small stands range = stays_behind k 5 k.limit (
 small_after k (line.Sweep n) small stands range = stays_behind k 5 k.limit (omega arith) small stands
 small_after k line.Settle small stands range = stays_behind k 6 k.limit (omega arith) small stands
 
-small_all : (k : Known) (ls : List Line) → IsSmall k → AreInOrder k ls → IsSmall (known_after_all k ls)
+small_all : (k : Knowledge) (ls : List Line) → IsSmall k → AreInOrder k ls → IsSmall (known_after_all k ls)
 small_all k [] small order = small
 small_all k (l ∷ ls) small order = small_all (known_after k l.what) ls (small_after k l.what small order.0 order.2) order.3
 
@@ -96,7 +96,7 @@ nothing_small = record { before = λ _. refl; behind = λ h. absurd (omega (arit
 pub one_bunch_of : (lines : List Line) → AreScript lines → length (bunches_of lines) ≡ 1
 one_bunch_of lines script = (small_all nothing_known lines nothing_small script.order).behind (leb-true 3 (known_after_all nothing_known lines).section script.head)
 
-few_bunches : (k : Known) → IsSmall k → length k.bunches ≤ 1
+few_bunches : (k : Knowledge) → IsSmall k → length k.bunches ≤ 1
 few_bunches k small = ⊎_elim (λ early. omega (arith, small.before early)) (λ late. omega (arith, small.behind late)) (cases_lt k.section 3)
 
 fits_on : (k : ℕ) (o : Operand) → k ≤ 1 → fits_operand k o ≡ true → FitsOperand o
@@ -127,7 +127,7 @@ fits_one k (command.Same l r) few h =
     let parts : (fits_operand k l ≡ true) × (fits_operand k r ≡ true) = and_parts (fits_operand k l) (fits_operand k r) h in
     (fits_on k l few parts.0, fits_on k r few parts.1)
 
-fits_what : (k : Known) (what : LineKind) → IsSmall k → in_range k what ≡ true → FitsLine what
+fits_what : (k : Knowledge) (what : LineKind) → IsSmall k → in_range k what ≡ true → FitsLine what
 fits_what k line.Version small h = tt
 fits_what k (line.Nodes n) small h = tt
 fits_what k (line.Bunch w f) small h = tt
@@ -144,7 +144,7 @@ fits_what k (line.Collect n b) small h = tt
 fits_what k (line.Sweep n) small h = tt
 fits_what k line.Settle small h = tt
 
-fits_in : (k : Known) (ls : List Line) (i : ℕ) (d : Line) → IsSmall k → AreInOrder k ls → i < length ls → FitsLine (get_or ls i d).what
+fits_in : (k : Knowledge) (ls : List Line) (i : ℕ) (d : Line) → IsSmall k → AreInOrder k ls → i < length ls → FitsLine (get_or ls i d).what
 fits_in k [] i d small order below = absurd (omega arith)
 fits_in k (l ∷ ls) zero d small order below = fits_what k l.what small order.2
 fits_in k (l ∷ ls) (suc i) d small order below = fits_in (known_after k l.what) ls i d (small_after k l.what small order.0 order.2) order.3 (omega arith)

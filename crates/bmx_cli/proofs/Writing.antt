@@ -23,7 +23,7 @@ use Rattle.bmx_cli.specs.Texts.{step_text, text_of, has_refusal}
 use Rattle.bmx_local.specs.Locals.{MeansGraph}
 use Rattle.bmx_cli.specs.Runs.{graph_after}
 use Rattle.bmx_cli.specs.Words.{misfit_in}
-use Rattle.bmx_cli.specs.Top.{Call, Device, HadFault, Wrote, WroteFront, WrotePart, read_limit, Gave, IsRun, Explains}
+use Rattle.bmx_cli.specs.Top.{Call, Device, HadFault, Wrote, WrotePrefix, WrotePart, read_limit, Gave, IsRun, Explains}
 use Rattle.bmx_cli.specs.Inside.Progress.{IsEnd}
 use Rattle.bmx_cli.specs.Inside.Writing.{Ends, printed_by, status_after}
 
@@ -72,11 +72,11 @@ part_of a b c front piece rest first part =
       subst (λ (t : List ℕ). Appends a c t) (sym same) (Appends-trans a b c _ _ first part.2),
     )
 
-front_from_all : (sink : Device) (text : List ℕ) → Wrote sink text → WroteFront sink text
-front_from_all sink text h = (length text, subst (λ (t : List ℕ). Wrote sink t) (sym (take_all (length text) text (omega arith))) h)
+prefix_from_all : (sink : Device) (text : List ℕ) → Wrote sink text → WrotePrefix sink text
+prefix_from_all sink text h = (length text, subst (λ (t : List ℕ). Wrote sink t) (sym (take_all (length text) text (omega arith))) h)
 
-front_from_part : (sink : Device) (text : List ℕ) → WrotePart sink text → WroteFront sink text
-front_from_part sink text h = (h.0, h.2)
+prefix_from_part : (sink : Device) (text : List ℕ) → WrotePart sink text → WrotePrefix sink text
+prefix_from_part sink text h = (h.0, h.2)
 
 pub nothing_written : (a : Option (List ℕ)) → Appends a a []
 nothing_written None = tt
@@ -130,9 +130,9 @@ refused_as c s t run same none why =
 pub ends_so : (run : Run) (e : RunEnd) (wrote : Result (Unit {0}) SinkError) (refused : Bool) (sink : Device)
     → OnOk wrote (Wrote sink run.text) → OnErr wrote (WrotePart sink run.text) → (IsErrOf wrote fault.Failed → HadFault sink) → refused ≡ has_refusal run.history
     → Ends run e sink (status_after e wrote refused)
-ends_so run end.NoMemory (Ok done) refused sink all part failed is = front_from_all sink run.text all
-ends_so run end.NoMemory (Err why) refused sink all part failed is = front_from_part sink run.text part
+ends_so run end.NoMemory (Ok done) refused sink all part failed is = prefix_from_all sink run.text all
+ends_so run end.NoMemory (Err why) refused sink all part failed is = prefix_from_part sink run.text part
 ends_so run end.Ended (Ok done) true sink all part failed is = (sym is, all)
 ends_so run end.Ended (Ok done) false sink all part failed is = (sym is, all)
 ends_so run end.Ended (Err fault.Failed) refused sink all part failed is = (failed refl, part)
-ends_so run end.Ended (Err fault.NoMemory) refused sink all part failed is = front_from_part sink run.text part
+ends_so run end.Ended (Err fault.NoMemory) refused sink all part failed is = prefix_from_part sink run.text part

@@ -36,9 +36,9 @@ HadFault d = Rose d.faults_before d.faults_behind
 abbrev pub Wrote : Device → List ℕ → Type 0
 Wrote sink text = Appends sink.before sink.behind text
 
--- a part of these bytes was, from their front, or all of them
-abbrev pub WroteFront : Device → List ℕ → Type 0
-WroteFront sink text = (n : ℕ) × Wrote sink (take n text)
+-- a part of these bytes was, from their start, or all of them
+abbrev pub WrotePrefix : Device → List ℕ → Type 0
+WrotePrefix sink text = (n : ℕ) × Wrote sink (take n text)
 
 -- a part of them was, but not all
 abbrev pub WrotePart : Device → List ℕ → Type 0
@@ -71,7 +71,7 @@ Explains c (status.Usage word) None = (misfit_in c.words ≡ Some word) × Wrote
 Explains c status.ReadFault None = (misfit_in c.words ≡ None) × HadFault c.source × Wrote c.sink []
 Explains c (status.BadScript bad) None = Gave c (Err bad) × Wrote c.sink []
 Explains c status.NoMemory None = (misfit_in c.words ≡ None) × Wrote c.sink []
-Explains c status.NoMemory (Some run) = ((to_come : List Order) × IsRun c to_come run) × WroteFront c.sink run.text
+Explains c status.NoMemory (Some run) = ((to_come : List Order) × IsRun c to_come run) × WrotePrefix c.sink run.text
 Explains c status.Done (Some run) = IsRun c [] run × (has_refusal run.history ≡ false) × Wrote c.sink run.text
 Explains c status.SomeRefused (Some run) = IsRun c [] run × (has_refusal run.history ≡ true) × Wrote c.sink run.text
 Explains c status.WriteFault (Some run) = IsRun c [] run × HadFault c.sink × WrotePart c.sink run.text

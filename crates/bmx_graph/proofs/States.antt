@@ -10,7 +10,8 @@ use Rattle.bmx_types.specs.Words.{maker, count_of}
 use Rattle.bmx_types.specs.declared.values.Val.{Val}
 use Rattle.bmx_types.specs.declared.values.Val.TheVariants as val
 use Rattle.bmx_graph.specs.declared.graphs.Graph.{Graph}
-use Rattle.bmx_graph.specs.State.{State, put, put_at}
+use Rattle.bmx_graph.specs.State.{State}
+use Rattle.bmx_types.specs.Updates.{put, put_at}
 use Rattle.bmx_graph.specs.Step.{with_register, with_new, next_name}
 use Rattle.bmx_graph.specs.Graphs.{state_of, same_name, same_hold, register_in}
 

@@ -5,7 +5,8 @@ use Rattle.bmx_types.specs.Words.{anchor_of}
 use Rattle.bmx_types.specs.declared.values.Val.{Val}
 use Rattle.bmx_types.specs.declared.values.Val.TheVariants as val
 use Rattle.bmx_types.specs.declared.openings.Birth.{Birth}
-use Rattle.bmx_graph.specs.State.{State, fields_of, opening_state, put_at}
+use Rattle.bmx_graph.specs.State.{State, fields_of, opening_state}
+use Rattle.bmx_types.specs.Updates.{put_at}
 
 -- x is reached with so many nodes and bunches: from a register of a node, as an anchor, or from the
 -- fields of an object that is reached

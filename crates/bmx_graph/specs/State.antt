@@ -18,14 +18,6 @@ pub record State : Type 0 where
   -- how many names a node has made
   pub made : ℕ → ℕ
 
--- a function with another value at x
-abbrev pub put : {A : Type 0} → (ℕ → A) → ℕ → A → ℕ → A
-put f x v y = if x == y then v else f y
-
--- a function of two numbers with another value at (n, x)
-abbrev pub put_at : {A : Type 0} → (ℕ → ℕ → A) → ℕ → ℕ → A → ℕ → ℕ → A
-put_at f n x v = put f n (put (f n) x v)
-
 -- the fields that the object of a name opens with
 abbrev pub born_as : List Birth → ℕ → Option (List Val)
 born_as births name = option_map (λ b. b.fields) (find (λ b. b.name == name) births)

@@ -16,7 +16,8 @@ use Rattle.bmx_types.specs.declared.commands.Command.TheVariants as command
 use Rattle.bmx_types.specs.declared.commands.Refusal.TheVariants as refusal
 use Rattle.bmx_graph.specs.declared.answers.Answer.{Answer}
 use Rattle.bmx_graph.specs.declared.answers.Answer.TheVariants as answer
-use Rattle.bmx_graph.specs.State.{State, put, put_at, fields_of}
+use Rattle.bmx_graph.specs.State.{State, fields_of}
+use Rattle.bmx_types.specs.Updates.{put, put_at}
 
 -- what an operand stands for at a node
 abbrev pub value_of : State → ℕ → Operand → Val

@@ -1,4 +1,4 @@
--- A number, and a field, at the front of bytes.
+-- A number, and a field, at the start of bytes.
 use Rattle.std.proofs.Common.{◌≡◌, ℕ, suc, ◌+◌, ◌^◌, ◌<◌, Bool, false, cond, ltb, leb, List, ◌∷◌, ◌++◌, length, drop, max, Some, None, refl, sym, ap, ◌∙◌, arith}
 use Rattle.std.specs.Int.{w64, cast_unsigned, cast_signed}
 use Rattle.std.specs.Prelude.{ℤ, pos, negsuc, FitsSigned}
@@ -13,7 +13,7 @@ use Rattle.bmx_image.specs.declared.images.ImageField.TheVariants as field
 use Rattle.bmx_image.specs.Spelling.{field_bytes}
 use Rattle.bmx_image.specs.Images.{FieldFits, FitsBehind, top_of_fields}
 use Rattle.bmx_image.specs.Faults.{field_fault}
-use Rattle.bmx_image.proofs.OneFront.{AreSpelled}
+use Rattle.bmx_image.proofs.OnePrefix.{AreSpelled}
 
 pub one_number : (n a b : ℕ) (r s : List ℕ) → a < 256 ^ n → b < 256 ^ n → big_bytes n a ++ r ≡ big_bytes n b ++ s → (a ≡ b) × (r ≡ s)
 one_number n a b r s fa fb e = (

@@ -3,7 +3,7 @@ mod Gathered
 mod Mentioning
 mod Numbers
 mod Objects
-mod OneFront
+mod OnePrefix
 mod OneReading
 mod Sizes
 mod Steps

@@ -50,7 +50,7 @@ number_has_one_spelling (suc n) (b ∷ bytes) len fits =
     let rest : bytes_high_first n (b * 256 ^ n + y) ≡ bytes = high_unseen n b y ∙ number_has_one_spelling n bytes (omega arith) others in
     ap (bytes_high_first (suc n)) value ∙ ap (λ (x : ℕ). x ∷ bytes_high_first n (b * 256 ^ n + y)) first ∙ ap (λ (bs : List ℕ). b ∷ bs) rest
 
--- a number at the front of bytes, and what is behind it
+-- a number at the start of bytes, and what is behind it
 pub number_parts : (n : ℕ) (bytes : List ℕ) → n ≤ length bytes → IsBytes bytes → bytes ≡ big_bytes n (big_number n bytes) ++ drop n bytes
 number_parts n bytes le fits =
     let front : big_bytes n (big_number n bytes) ≡ take n bytes =

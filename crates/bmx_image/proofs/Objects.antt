@@ -1,4 +1,4 @@
--- An object at the front of bytes.
+-- An object at the start of bytes.
 use Rattle.std.proofs.Common.{◌≡◌, ℕ, ◌^◌, ◌<◌, ◌≤◌, ◌⊎◌, false, ltb, List, [], ◌∷◌, ◌++◌, length, max, None, refl, sym, ap, ◌∙◌, arith, inl, inr}
 use Rattle.std.specs.Prelude.{IsTrue}
 use Rattle.std.specs.List.{flat_map}
@@ -9,15 +9,15 @@ use Rattle.bmx_image.specs.declared.images.ImageObject.{ImageObject}
 use Rattle.bmx_image.specs.Spelling.{field_bytes, object_bytes}
 use Rattle.bmx_image.specs.Images.{EachFits, FitsBehind, ObjectFits, StandsBehind, is_size, top_of, top_of_fields}
 use Rattle.bmx_image.specs.Faults.{size_fault, field_fault, IsObjectFault}
-use Rattle.bmx_image.proofs.OneFront.{AreSpelled, one_front}
+use Rattle.bmx_image.proofs.OnePrefix.{AreSpelled, one_prefix}
 use Rattle.bmx_image.proofs.FieldBytes.{head, tail, WrongField, fields_are_spelled}
 
--- two lists of fields of one object that spell the front of the same bytes
+-- two lists of fields of one object that spell the start of the same bytes
 one_list : (count top n : ℕ) (xs ys : List ImageField) (r s : List ℕ) → count < 2 ^ 32 → EachFits (FitsBehind count top) [] xs → EachFits (FitsBehind count top) [] ys
     → (length xs ≡ n) ⊎ ((length xs < n) × WrongField count top xs r) → (length ys ≡ n) ⊎ ((length ys < n) × WrongField count top ys s)
     → flat_map field_bytes xs ++ r ≡ flat_map field_bytes ys ++ s → (xs ≡ ys) × (r ≡ s)
 one_list count top n xs ys r s few fx fy ex ey e =
-    one_front field_bytes (FitsBehind count top) (WrongField count top) n (fields_are_spelled count top few) [] xs ys r s fx fy ex ey e
+    one_prefix field_bytes (FitsBehind count top) (WrongField count top) n (fields_are_spelled count top few) [] xs ys r s fx fy ex ey e
 
 object_one : (count index top : ℕ) (x y : ImageObject) (r s : List ℕ) → count < 2 ^ 32 → ObjectFits count index top x → ObjectFits count index top y → object_bytes x ++ r ≡ object_bytes y ++ s → (x ≡ y) × (r ≡ s)
 object_one count index top x y r s few fx fy e =

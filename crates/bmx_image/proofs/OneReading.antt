@@ -13,7 +13,7 @@ use Rattle.bmx_image.specs.Spelling.{head_bytes, object_bytes, image_bytes}
 use Rattle.bmx_image.specs.Images.{EachFits, StandsBehind, IsImage, is_count, top_of}
 use Rattle.bmx_image.specs.Faults.{head_fault, first_fault, version_fault, count_fault, HasObjectFault, IsObjectFault, Trails, IsFault, told_of, at, short}
 use Rattle.bmx_image.specs.Laws.{ReadingIsDetermined, ImageIsReadAgain, ImageHasOneSpelling}
-use Rattle.bmx_image.proofs.OneFront.{Ends, one_front}
+use Rattle.bmx_image.proofs.OnePrefix.{Ends, one_prefix}
 use Rattle.bmx_image.proofs.FieldBytes.{one_number}
 use Rattle.bmx_image.proofs.Objects.{WrongObject, object_fault_one, objects_are_spelled}
 
@@ -58,13 +58,13 @@ record Front (bytes : List ℕ) : Type 0 where
   fit : EachFits (StandsBehind count) [] objects
   ends : Ends count (WrongObject count) objects rest
 
-one_front_of : (bytes : List ℕ) (a b : Front bytes) → (a.count ≡ b.count) × (a.objects ≡ b.objects) × (a.rest ≡ b.rest)
-one_front_of bytes a b =
+one_prefix_of : (bytes : List ℕ) (a b : Front bytes) → (a.count ≡ b.count) × (a.objects ≡ b.objects) × (a.rest ≡ b.rest)
+one_prefix_of bytes a b =
     let e : head_bytes a.count ++ (flat_map object_bytes a.objects ++ a.rest) ≡ head_bytes b.count ++ (flat_map object_bytes b.objects ++ b.rest) = sym a.parts ∙ b.parts in
     let first = one_number 4 a.count b.count (flat_map object_bytes a.objects ++ a.rest) (flat_map object_bytes b.objects ++ b.rest) (few a.count a.counted) (few b.count b.counted) (ap (drop 6) e) in
     let fit_b : EachFits (StandsBehind a.count) [] b.objects = subst (λ (n : ℕ). EachFits (StandsBehind n) [] b.objects) (sym first.0) b.fit in
     let ends_b : Ends a.count (WrongObject a.count) b.objects b.rest = subst (λ (n : ℕ). Ends n (WrongObject n) b.objects b.rest) (sym first.0) b.ends in
-    let both = one_front object_bytes (StandsBehind a.count) (WrongObject a.count) a.count (objects_are_spelled a.count (few a.count a.counted)) [] a.objects b.objects a.rest b.rest a.fit fit_b a.ends ends_b first.1 in
+    let both = one_prefix object_bytes (StandsBehind a.count) (WrongObject a.count) a.count (objects_are_spelled a.count (few a.count a.counted)) [] a.objects b.objects a.rest b.rest a.fit fit_b a.ends ends_b first.1 in
     (first.0, both.0, both.1)
 
 abbrev of_image : (bytes : List ℕ) (objects : List ImageObject) (rest : List ℕ) → IsImage objects → bytes ≡ image_bytes objects ++ rest → Front bytes
@@ -93,19 +93,19 @@ image_or_fault bytes objects f image parts fault =
     elim fault [
       | inl h ↦ headed bytes f a h
       | inr (inl h) ↦
-          let both = one_front_of bytes a (of_fault bytes f h) in
+          let both = one_prefix_of bytes a (of_fault bytes f h) in
           let counts : length objects ≡ h.count = both.0 in
           let lists : length objects ≡ length h.objects = ap length both.1 in
           omega (arith, h.fewer)
       | inr (inr h) ↦
-          let both = one_front_of bytes a (of_image bytes h.objects h.rest h.image h.parts) in
+          let both = one_prefix_of bytes a (of_image bytes h.objects h.rest h.image h.parts) in
           let ended : 0 ≡ length h.rest = ap length both.2 in
           omega (arith, h.some)
     ]
 
 trailing_or_fault : (bytes : List ℕ) (f g : Fault) → Trails bytes f → HasObjectFault bytes g → ⊥
 trailing_or_fault bytes f g t h =
-    let both = one_front_of bytes (of_image bytes t.objects t.rest t.image t.parts) (of_fault bytes g h) in
+    let both = one_prefix_of bytes (of_image bytes t.objects t.rest t.image t.parts) (of_fault bytes g h) in
     let counts : length t.objects ≡ h.count = both.0 in
     let lists : length t.objects ≡ length h.objects = ap length both.1 in
     omega (arith, h.fewer)
@@ -116,7 +116,7 @@ one_fault bytes f g (inl x) (inr (inl y)) = absurd (headed bytes f (of_fault byt
 one_fault bytes f g (inl x) (inr (inr y)) = absurd (headed bytes f (of_image bytes y.objects y.rest y.image y.parts) x)
 one_fault bytes f g (inr (inl x)) (inl y) = absurd (headed bytes g (of_fault bytes f x) y)
 one_fault bytes f g (inr (inl x)) (inr (inl y)) =
-    let both = one_front_of bytes (of_fault bytes f x) (of_fault bytes g y) in
+    let both = one_prefix_of bytes (of_fault bytes f x) (of_fault bytes g y) in
     let P : ℕ → List ImageObject → List ℕ → Type 0 = λ count objects rest. IsObjectFault count (length objects) (top_of objects) rest g in
     let here : P x.count x.objects x.rest =
     subst (λ (n : ℕ). P n x.objects x.rest) (sym both.0) (subst (λ (os : List ImageObject). P y.count os x.rest) (sym both.1) (subst (λ (r : List ℕ). P y.count y.objects r) (sym both.2) y.wrong)) in
@@ -125,12 +125,12 @@ one_fault bytes f g (inr (inl x)) (inr (inr y)) = absurd (trailing_or_fault byte
 one_fault bytes f g (inr (inr x)) (inl y) = absurd (headed bytes g (of_image bytes x.objects x.rest x.image x.parts) y)
 one_fault bytes f g (inr (inr x)) (inr (inl y)) = absurd (trailing_or_fault bytes f g x y)
 one_fault bytes f g (inr (inr x)) (inr (inr y)) =
-    let both = one_front_of bytes (of_image bytes x.objects x.rest x.image x.parts) (of_image bytes y.objects y.rest y.image y.parts) in
+    let both = one_prefix_of bytes (of_image bytes x.objects x.rest x.image x.parts) (of_image bytes y.objects y.rest y.image y.parts) in
     x.told ∙ ap (at cause.Trailing) both.2 ∙ sym y.told
 
 pub reading_is_determined : ReadingIsDetermined
 reading_is_determined bytes (Ok x) (Ok y) (ix, px) (iy, py) =
-    let both = one_front_of bytes (of_image bytes x [] ix (px ∙ sym (append-nil (image_bytes x)))) (of_image bytes y [] iy (py ∙ sym (append-nil (image_bytes y)))) in
+    let both = one_prefix_of bytes (of_image bytes x [] ix (px ∙ sym (append-nil (image_bytes x)))) (of_image bytes y [] iy (py ∙ sym (append-nil (image_bytes y)))) in
     ap Ok both.1
 reading_is_determined bytes (Ok x) (Err b) (ix, px) y = absurd (image_or_fault bytes x y.0 ix px y.1)
 reading_is_determined bytes (Err a) (Ok y) x (iy, py) = absurd (image_or_fault bytes y x.0 iy py x.1)

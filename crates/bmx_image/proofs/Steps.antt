@@ -29,7 +29,7 @@ pub top_of_more : (os : List ImageObject) (o : ImageObject) → top_of (os ++ o 
 top_of_more [] o = omega arith
 top_of_more (p ∷ os) o = let e = top_of_more os o in omega arith
 
--- the bytes of one more thing stand at the front of what was left
+-- the bytes of one more thing stand at the start of what was left
 spelled_more : {A : Type 0} (spell : A → List ℕ) (xs : List A) (x : A) (left rest after : List ℕ) → left ≡ flat_map spell xs ++ rest → rest ≡ spell x ++ after
     → left ≡ flat_map spell (xs ++ x ∷ []) ++ after
 spelled_more spell xs x left rest after e h =

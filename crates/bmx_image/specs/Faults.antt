@@ -20,11 +20,11 @@ use Rattle.bmx_image.specs.Images.{EachFits, FitsBehind, StandsBehind, IsImage, 
 abbrev pub short : Fault
 short = record { left = 0; cause = cause.Short }
 
--- or the item at the front of what is left is wrong.
+-- or the item at the start of what is left is wrong.
 abbrev pub at : ImageCause → List ℕ → Fault
 at c bytes = record { left = length bytes; cause = c }
 
--- what is wrong at the front of bytes with the index of a field, in an image of count objects, where
+-- what is wrong at the start of bytes with the index of a field, in an image of count objects, where
 -- the greatest index before it is top
 abbrev pub index_fault : ℕ → ℕ → List ℕ → Option Fault
 index_fault count top bytes =
@@ -32,7 +32,7 @@ index_fault count top bytes =
     else (if nat_le count (big_number 4 bytes) then Some (at cause.Target bytes)
     else (if nat_lt (top + 1) (big_number 4 bytes) then Some (at cause.Order bytes) else None))
 
--- what is wrong at the front of bytes with a field
+-- what is wrong at the start of bytes with a field
 abbrev pub field_fault : ℕ → ℕ → List ℕ → Option Fault
 field_fault count top [] = Some short
 field_fault count top (zero ∷ rest) = None
@@ -40,7 +40,7 @@ field_fault count top (suc zero ∷ rest) = if nat_lt (length rest) 8 then Some 
 field_fault count top (suc (suc zero) ∷ rest) = index_fault count top rest
 field_fault count top (suc (suc (suc t)) ∷ rest) = Some (at cause.Tag (suc (suc (suc t)) ∷ rest))
 
--- what is wrong at the front of bytes with the size of the object at this index, where the greatest
+-- what is wrong at the start of bytes with the size of the object at this index, where the greatest
 -- index before it is top: first, that no object may stand there
 abbrev pub size_fault : ℕ → ℕ → List ℕ → Option Fault
 size_fault index top [] = Some short
@@ -59,7 +59,7 @@ pub record HasFieldFault (count index top : ℕ) (bytes : List ℕ) (f : Fault) 
   pub fewer : length fields < size
   pub wrong : field_fault count (max top (top_of_fields fields)) rest ≡ Some f
 
--- the first item of an object that doesn't fit, at the front of bytes
+-- the first item of an object that doesn't fit, at the start of bytes
 abbrev pub IsObjectFault : ℕ → ℕ → ℕ → List ℕ → Fault → Type 0
 IsObjectFault count index top bytes f = (size_fault index top bytes ≡ Some f) ⊎ HasFieldFault count index top bytes f
 
@@ -69,13 +69,13 @@ magic_fault [] bytes = None
 magic_fault (m ∷ ms) [] = Some short
 magic_fault (m ∷ ms) (b ∷ bytes) = if b == m then magic_fault ms bytes else Some (at cause.Magic (b ∷ bytes))
 
--- what is wrong at the front of bytes with the version
+-- what is wrong at the start of bytes with the version
 abbrev pub version_fault : List ℕ → Option Fault
 version_fault bytes =
     if nat_lt (length bytes) 2 then Some short
     else (if big_number 2 bytes == 1 then None else Some (at cause.Magic bytes))
 
--- what is wrong at the front of bytes with the count
+-- what is wrong at the start of bytes with the count
 abbrev pub count_fault : List ℕ → Option Fault
 count_fault bytes =
     if nat_lt (length bytes) 4 then Some short

@@ -57,7 +57,7 @@ impl Fault {
         }
     }
 
-    /// The item at the front of what is left is wrong.
+    /// The item at the start of what is left is wrong.
     pub fn at(cause: ImageCause, bytes: &[u8]) -> Fault
         ensures { result ≡ at_lem cause bytes.now }
     {

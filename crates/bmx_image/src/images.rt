@@ -3,9 +3,6 @@ ghost use Rattle.bmx_image.specs.Facts.{IsImage-prop};
 
 use bmx_types::Items;
 
-/// Bytes in order.
-pub type Bytes = Items<u8>;
-
 /// What a field of an object holds.
 #[derive(Clone, Copy, Debug, PartialEq, Eq)]
 pub enum ImageField {

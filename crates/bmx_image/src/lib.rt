@@ -13,7 +13,7 @@ mod writing;
 
 pub use faults::{BadImage, ImageCause, ImageError};
 pub use gathering::{Fields, GatherError, gather};
-pub use images::{Bytes, Image, ImageField, ImageFields, ImageObject, ImageObjects};
+pub use images::{Image, ImageField, ImageFields, ImageObject, ImageObjects};
 pub use laws::{
     image_has_one_spelling, image_is_read_again, number_has_one_spelling, reading_is_determined,
 };

@@ -125,7 +125,7 @@ fn number(bytes: &[u8]) -> Result<(u32, &[u8]), Fault>
     Ok((BigEndian::read_u32(bytes), &bytes[4..]))
 }
 
-/// The object at the front of bytes.
+/// The object at the start of bytes.
 fn object(alloc: Global, bytes: &[u8], before: Before) -> Result<Read<'_>, Stop>
     ensures { IsObject before bytes.now result }
 {
@@ -172,7 +172,7 @@ fn is_size(index: u32, size: u8) -> bool
     if index == 0 { size == 32 } else { size <= 32 }
 }
 
-/// The field at the front of bytes, where the greatest index before it is `top`.
+/// The field at the start of bytes, where the greatest index before it is `top`.
 fn field(bytes: &[u8], count: u32, top: u32) -> Result<(ImageField, &[u8]), Fault>
     ensures { MatchResult result (λ x. (bytes.now ≡ field_bytes x.0 ++ x.1.now) × FieldFits count top x.0) (λ f. field_fault count top bytes.now ≡ Some f) }
 {

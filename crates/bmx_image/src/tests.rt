@@ -140,7 +140,7 @@ fn a_list_and_back(rt: HostRuntime) -> Result<(), Fail> {
 }
 
 #[test]
-fn a_front_is_short(rt: HostRuntime) {
+fn a_prefix_is_short(rt: HostRuntime) {
     for (place, _) in LIST.iter().enumerate() {
         let short = BadImage {
             place: place as u64,

@@ -2,8 +2,8 @@ ghost use Rattle.std.specs.Prelude.{◌≡◌, ◌++◌, ◌≤◌, length, OnOk
 ghost use Rattle.byteorder.specs.Endian.{big_bytes};
 ghost use Rattle.bmx_image.specs.Spelling.{field_bytes, object_bytes, image_bytes};
 
-use crate::images::{Bytes, Image, ImageField, ImageObject};
-use bmx_types::{Items, NoMemory};
+use crate::images::{Image, ImageField, ImageObject};
+use bmx_types::{Bytes, Items, NoMemory};
 use byteorder::{BigEndian, ByteOrder};
 use std::alloc::Global;
 

@@ -13,8 +13,7 @@ use Rattle.bmx_segment.specs.Headers.{kind_number}
 use Rattle.bmx_segment.specs.Blocks.{Block}
 use Rattle.bmx_segment.specs.Stores.{header_at}
 use Rattle.bmx_segment.specs.declared.headers.Header.{Header}
-use Rattle.bmx_graph.specs.State.{put}
-use Rattle.bmx_segment.specs.Updates.{Puts}
+use Rattle.bmx_types.specs.Updates.{put, Puts}
 use Rattle.bmx_replica.specs.declared.directory.Slot.{Slot}
 use Rattle.bmx_replica.specs.declared.words.Word.{Word}
 use Rattle.bmx_replica.specs.Chains.{name_at, AllLive}

@@ -6,7 +6,8 @@ use Rattle.std.specs.HashMap.{get}
 use Rattle.bmx_types.specs.declared.values.Val.{Val}
 use Rattle.bmx_types.specs.declared.values.Val.TheVariants as val
 use Rattle.bmx_types.specs.declared.numbers.Mode.{Mode}
-use Rattle.bmx_graph.specs.State.{State, put, put_at}
+use Rattle.bmx_graph.specs.State.{State}
+use Rattle.bmx_types.specs.Updates.{put, put_at}
 use Rattle.bmx_graph.specs.Graphs.{same_name}
 use Rattle.bmx_graph.proofs.States.{put_at-is, same_name-is, get_or-set_put}
 use Rattle.bmx_replica.specs.declared.words.Word.{Word}

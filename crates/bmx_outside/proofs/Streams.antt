@@ -6,18 +6,18 @@ use Rattle.std.proofs.lemmas.List.{take-append-drop, drop-drop}
 use Rattle.std.proofs.KnownBytes.{Appends-trans, Consumes-trans}
 use Rattle.std.specs.Io.KnownBytes.{Appends, Consumes}
 
--- a front of a text is written, and then some of the rest: a longer front of the text is
+-- a prefix of a text is written, and then some of the rest: a longer prefix of the text is
 pub Appends-take_add : (a b c : Option (List ℕ)) (text : List ℕ) (at k : ℕ) → Appends a b (take at text) → Appends b c (take k (drop at text)) → Appends a c (take (at + k) text)
 Appends-take_add a b c text at k first second =
     rw take-add (Appends-trans a b c _ _ first second)
 
--- some bytes were read, and then the front of a piece: both together were
+-- some bytes were read, and then the start of a piece: both together were
 pub Consumes-both : (a b c : Option (List ℕ)) (bytes piece : List ℕ) (k limit : ℕ) → Consumes a b bytes → Consumes b c (take k piece) → length bytes + k ≤ limit
     → (all : List ℕ) × Consumes a c all × (length all ≤ limit)
 Consumes-both a b c bytes piece k limit first second fits =
     (bytes ++ take k piece, Consumes-trans a b c _ _ first second, omega (arith, length-append bytes (take k piece), length-take k piece))
 
--- a part of the items is copied to the front of a buffer: what was left is that front and then the rest
+-- a part of the items is copied to the start of a buffer: what was left is that prefix and then the rest
 pub Consumes-copied : (items copied rest left : List ℕ) (at count : ℕ) → left ≡ drop at items → copied ≡ take ((at + count) - at) (drop at items) → at + count ≤ length items
     → left ≡ take count (copied ++ rest) ++ drop (at + count) items
 Consumes-copied items copied rest left at count is_left is_copied fits =

@@ -1,6 +1,6 @@
 -- What contracts see of sources and sinks in memory.
 use Rattle.std.specs.Prelude.{◌≡◌, ℕ, ◌+◌, ◌-◌, ◌^◌, ◌<◌, min, List, [], ◌∷◌, length, Contains, refl}
-use Rattle.bmx_outside.specs.Faults.{raised}
+use Rattle.bmx_outside.specs.Faults.{one_more}
 
 -- which calls are to fail, by their numbers from 1; how many calls were made, and how many of them failed
 pub record Plan : Type 0 where
@@ -10,7 +10,7 @@ pub record Plan : Type 0 where
 
 -- the number of the next call; it stands still at the end of its type
 abbrev pub next_call : Plan → ℕ
-next_call plan = raised plan.calls
+next_call plan = one_more plan.calls
 
 -- the next call is to fail; none is from the number 2 ^ 64 - 1 on
 abbrev pub IsNextToFail : Plan → Type 0

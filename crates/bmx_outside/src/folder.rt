@@ -1,10 +1,10 @@
 ghost use Rattle.std.specs.Prelude.{◌≡◌, None};
 
-use crate::shelves::{Bytes, Shelf, ShelfError};
+use crate::shelves::{Shelf, ShelfError};
 use crate::sinks::{SinkError, write_all};
 use crate::sources::{ReadError, read_to_limit};
 use crate::standard::{StdSink, StdSource};
-use bmx_types::Items;
+use bmx_types::{Bytes, Items};
 use std::alloc::Global;
 use std::fs;
 use std::io::ErrorKind;

@@ -22,7 +22,7 @@ pub use inputs::{MemSource, NoFaultSource};
 pub use mem_shelves::{MemShelf, NoFaultShelf};
 pub use outputs::{MemSink, NoFaultSink};
 pub use plans::Calls;
-pub use shelves::{Bytes, Shelf, ShelfError};
+pub use shelves::{Shelf, ShelfError};
 pub use sinks::{Sink, SinkError, write_all};
 pub use sources::{Failed, ReadError, Source, read_to_limit};
 pub use standard::{StdSink, StdSource};

@@ -5,8 +5,8 @@ ghost use Rattle.bmx_outside.specs.Memory.{IsNextToFail, after_fault, after_succ
 ghost use Rattle.bmx_outside.specs.Shelves.{Stores, file_of};
 
 use crate::plans::{Calls, FaultPlan};
-use crate::shelves::{Bytes, Shelf, ShelfError};
-use bmx_types::{Items, NoMemory, Text};
+use crate::shelves::{Shelf, ShelfError};
+use bmx_types::{Bytes, Items, NoMemory, Text};
 use std::alloc::Global;
 use std::marker::Model;
 

@@ -2,11 +2,8 @@ ghost use Rattle.std.specs.Prelude.{◌≡◌, ℕ, ◌≤◌, List, Option, IfO
 ghost use Rattle.bmx_outside.specs.Faults.{Rose};
 ghost use Rattle.bmx_outside.specs.Shelves.{IfTold, KeepsOthers, Stores};
 
-use bmx_types::{Items, NoMemory};
+use bmx_types::{Bytes, NoMemory};
 use std::alloc::{AllocError, AllocFailed, Global};
-
-/// Bytes in order.
-pub type Bytes = Items<u8>;
 
 /// Why a shelf could not do what was asked.
 #[derive(Clone, Copy, Debug, PartialEq, Eq, Hash)]

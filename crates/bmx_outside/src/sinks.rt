@@ -45,7 +45,7 @@ pub trait Sink {
 }
 
 /// Writes the whole text, each write offering what is left of it. A write that takes no byte is
-/// answered as Failed. After an Err a part of the text is written, from its front, but not all.
+/// answered as Failed. After an Err a part of the text is written, from its start, but not all.
 pub fn write_all<K: Sink>(sink: &mut K, text: &[u8]) -> Result<(), SinkError>
     ensures ok { OnOk result (Appends (K.out sink.old) (K.out sink.new) text.now) }
     ensures err { OnErr result (AppendsPart (K.out sink.old) (K.out sink.new) text.now) }

@@ -20,7 +20,7 @@ pub trait Source {
     // How many faults it had, which stands still at 2 ^ 64 - 1.
     ghost faults: { Self → ℕ };
 
-    /// Reads some bytes to the front of the buffer and says how many. 0 is the end of the input.
+    /// Reads some bytes to the start of the buffer and says how many. 0 is the end of the input.
     /// Behind them the buffer holds whatever was put there. A source that failed may be read again.
     fn read(&mut self, buf: &mut [u8]) -> Result<usize, Failed>
         requires { 0 < length buf.old }

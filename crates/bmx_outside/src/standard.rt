@@ -1,5 +1,5 @@
 ghost use Rattle.std.specs.Prelude.{◌≡◌, ◌≤◌, ◌<◌, ◌-◌, ◌^◌, length, None, IfOk, OnOk, OnErr, IfErr, IsErr};
-ghost use Rattle.bmx_outside.specs.Faults.{raised};
+ghost use Rattle.bmx_outside.specs.Faults.{one_more};
 
 use crate::sinks::{Sink, SinkError};
 use crate::sources::{Failed, Source};
@@ -49,7 +49,7 @@ impl<R: Read> Source for StdSource<R> {
 
         ensures count { IfOk result (λ k. k ≤ length buf.new) }
         ensures ok { OnOk result (self.new ≡ self.old) }
-        ensures err { OnErr result (self.new ≡ raised self.old) }
+        ensures err { OnErr result (self.new ≡ one_more self.old) }
         ensures faults { self.old ≤ self.new }
         ensures for_good { self.old ≡ 2 ^ 64 - 1 → IsErr result }
     {
@@ -110,7 +110,7 @@ impl<W: Write> Sink for StdSink<W> {
 
         ensures count { IfOk result (λ k. (0 < k) × (k ≤ length piece.now)) }
         ensures ok { OnOk result (self.new ≡ self.old) }
-        ensures err { IfErr result (λ e. (e ≡ SinkError.Failed) × (self.new ≡ raised self.old)) }
+        ensures err { IfErr result (λ e. (e ≡ SinkError.Failed) × (self.new ≡ one_more self.old)) }
         ensures faults { self.old ≤ self.new }
         ensures for_good { self.old ≡ 2 ^ 64 - 1 → IsErr result }
     {

@@ -11,21 +11,22 @@ use Rattle.bmx_types.specs.declared.commands.Operand.TheVariants as operand
 use Rattle.bmx_types.specs.declared.commands.Command.{Command}
 use Rattle.bmx_types.specs.declared.commands.Command.TheVariants as command
 use Rattle.bmx_types.specs.declared.addresses.Place.{Place}
-use Rattle.bmx_graph.specs.State.{State, put}
+use Rattle.bmx_graph.specs.State.{State}
+use Rattle.bmx_types.specs.Updates.{put}
 use Rattle.bmx_graph.specs.Step as effect_is
 use Rattle.bmx_graph.specs.Step.{value_of, target_of, reference, answer_of, set_answer, add_answer, get_answer, same_value, field_at, Effect, effect, storing, setting, raised_by}
 use Rattle.bmx_graph.specs.declared.answers.Answer.TheVariants as graph
 use Rattle.bmx_types.specs.declared.numbers.Mode.TheVariants as mode
 use Rattle.bmx_types.specs.declared.commands.Refusal.TheVariants as refusal
 use Rattle.bmx_msg.specs.declared.letters.Msg.{Msg}
-use Rattle.bmx_token.specs.Turns.{Turn, Act, Acquires, Releases, Serves, turn_of, note_turn}
+use Rattle.bmx_token.specs.Transitions.{Transition, Operation, Acquires, Releases, Serves, transition_of, note_transition}
 use Rattle.bmx_protocol.specs.declared.inputs.Input.{Input}
 use Rattle.bmx_protocol.specs.declared.inputs.Input.TheVariants as input
 use Rattle.bmx_protocol.specs.declared.inputs.NodeAnswer.{NodeAnswer}
 use Rattle.bmx_protocol.specs.declared.inputs.NodeAnswer.TheVariants as answer
 use Rattle.bmx_protocol.specs.Nodes.{Setting, NodeState, Known, seen_graph, share_of}
 use Rattle.bmx_protocol.specs.Changes.{Change, Sets, Makes, Knows, Hears, Gives, Gets, Issues, Takes, heard, after_change, after_changes}
-use Rattle.bmx_protocol.specs.Rules.{only, refused, act_answer, acted, act_rule, about, graph_changes, answered, graph_rule, token_rule, knows, command_rule, took, take_rule, name_in, note_in}
+use Rattle.bmx_protocol.specs.Rules.{only, refused, operation_answer, after_operation, operation_rule, about, graph_changes, answered, graph_rule, token_rule, knows, command_rule, took, take_rule, name_in, note_in}
 use Rattle.bmx_protocol.specs.Strays.{too_large, is_no_node, is_bad_msg}
 use Rattle.bmx_protocol.specs.Steps.{Told, rule}
 use Rattle.bmx_protocol.specs.Histories.{IsOperandOf, IsCommandOf, IsInputOf}
@@ -128,20 +129,20 @@ module _ (s : NodeState) (registers : ℕ → Val) (issues takes : ℕ → ℕ) 
       changes_same (effect_is.Holds name hold) = refl
 
   -- a rule of a token
-  act_same : (me : ℕ) (lies : ℕ → Place) (a : Act) (unknown : NodeAnswer) (name : ℕ) (k : Option Known) →
-      act_rule me s lies a unknown name k ≡ act_rule me t lies a unknown name k
+  act_same : (me : ℕ) (lies : ℕ → Place) (a : Operation) (unknown : NodeAnswer) (name : ℕ) (k : Option Known) →
+      operation_rule me s lies a unknown name k ≡ operation_rule me t lies a unknown name k
   act_same me lies a unknown name None = refl
-  act_same me lies a unknown name (Some k) = by_turn (turn_of me a (share_of k))
+  act_same me lies a unknown name (Some k) = by_transition (transition_of me a (share_of k))
     where
-      by_turn : (u : Option Turn) → acted s lies name k (act_answer me a (share_of k)) u ≡ acted t lies name k (act_answer me a (share_of k)) u
-      by_turn None = refl
-      by_turn (Some u) = refl
+      by_transition : (u : Option Transition) → after_operation s lies name k (operation_answer me a (share_of k)) u ≡ after_operation t lies name k (operation_answer me a (share_of k)) u
+      by_transition None = refl
+      by_transition (Some u) = refl
 
-  token_same : (me : ℕ) (lies : ℕ → Place) (a : Act) (x : Option ℕ) → token_rule me s lies a x ≡ token_rule me t lies a x
+  token_same : (me : ℕ) (lies : ℕ → Place) (a : Operation) (x : Option ℕ) → token_rule me s lies a x ≡ token_rule me t lies a x
   token_same me lies a None = refl
   token_same me lies a (Some name) = act_same me lies a _ name (s.known name)
 
-  token_on : (st : Setting) (me : ℕ) (lies : ℕ → Place) (a : Act) (on : Operand) → IsOperandOf st on →
+  token_on : (st : Setting) (me : ℕ) (lies : ℕ → Place) (a : Operation) (on : Operand) → IsOperandOf st on →
       token_rule me s lies a (target_of (seen_graph me s) me on) ≡ token_rule me t lies a (target_of (seen_graph me t) me on)
   token_on st me lies a on h =
       ap (token_rule me s lies a) (target_same st me on h) ∙ token_same me lies a (target_of (seen_graph me t) me on)
@@ -195,11 +196,11 @@ module _ (s : NodeState) (registers : ℕ → Val) (issues takes : ℕ → ℕ) 
 
   -- a letter
   take_same : (me : ℕ) (lies : ℕ → Place) (from seq : ℕ) (m : Msg) → take_rule me s lies from seq m ≡ take_rule me t lies from seq m
-  take_same me lies from seq m = by_turn (s.known (name_in m)) (note_turn me from (note_in m) (option_map share_of (s.known (name_in m))))
+  take_same me lies from seq m = by_transition (s.known (name_in m)) (note_transition me from (note_in m) (option_map share_of (s.known (name_in m))))
     where
-      by_turn : (k : Option Known) (u : Option Turn) → took s lies from seq m k u ≡ took t lies from seq m k u
-      by_turn k None = refl
-      by_turn k (Some u) = refl
+      by_transition : (k : Option Known) (u : Option Transition) → took s lies from seq m k u ≡ took t lies from seq m k u
+      by_transition k None = refl
+      by_transition k (Some u) = refl
 
   pub rule_same : (st : Setting) → SameBelow st.nodes s.taken takes → (me : ℕ) (told : Told) (i : Input) → IsInputOf st i → rule st me s told i ≡ rule st me t told i
   rule_same st same me told (input.Do c) ok = command_same st me told.full told.lies c ok

@@ -10,14 +10,14 @@ use Rattle.bmx_graph.specs.declared.answers.Answer.TheVariants as graph
 use Rattle.bmx_graph.specs.Step.{answer_of, target_of, Effect, effect}
 use Rattle.bmx_graph.specs.Step as graph_effect
 use Rattle.bmx_msg.specs.declared.letters.Msg.{Msg}
-use Rattle.bmx_token.specs.Turns.{Share, Note, Asks, Grants, Recalls, Returns, Turn, Act, Serves, turn_of}
+use Rattle.bmx_token.specs.Transitions.{Share, Note, Asks, Grants, Recalls, Returns, Transition, Operation, Serves, transition_of}
 use Rattle.bmx_protocol.specs.declared.inputs.Input.{Input}
 use Rattle.bmx_protocol.specs.declared.inputs.Input.TheVariants as input
 use Rattle.bmx_protocol.specs.declared.inputs.NodeAnswer.{NodeAnswer}
 use Rattle.bmx_protocol.specs.declared.inputs.NodeAnswer.TheVariants as answer
 use Rattle.bmx_protocol.specs.Nodes.{Setting, NodeState, Known, seen_graph, share_of}
 use Rattle.bmx_protocol.specs.Changes.{Change, Sets, Makes, Knows, Hears, Gives, Gets, Issues, Takes, after_change, after_changes}
-use Rattle.bmx_protocol.specs.Rules.{Outcome, known_change, act_answer, acted, act_rule, About, Token, Fields, Making, Nothing, about, stored, graph_changes, answered, graph_rule, token_rule, knows, command_rule, copy_after, got_change, took, take_rule, infos, name_in, note_in}
+use Rattle.bmx_protocol.specs.Rules.{Reaction, known_change, operation_answer, after_operation, operation_rule, About, Token, Fields, Making, Nothing, about, stored, graph_changes, answered, graph_rule, token_rule, knows, command_rule, copy_after, got_change, took, take_rule, infos, name_in, note_in}
 use Rattle.bmx_protocol.specs.Strays.{is_bad_letter}
 use Rattle.bmx_protocol.specs.Steps.{Told, rule}
 
@@ -54,7 +54,7 @@ pub kept_by_each : (P : NodeState → Type 0) (Has : Change → Type 0) → ((s 
 kept_by_each P Has step [] each s p = p
 kept_by_each P Has step (c ∷ changes) each s p = kept_by_each P Has step changes each.1 (after_change s c) (step s c each.0 p)
 
-abbrev OwnIn : Outcome → Type 0
+abbrev OwnIn : Reaction → Type 0
 OwnIn o = Each IsOwn o.changes
 
 known_own : (name : ℕ) (k : Option Known) (fields : _) (h : Option Share) → Each IsOwn (known_change name k fields h)
@@ -62,13 +62,13 @@ known_own name None fields h = tt
 known_own name (Some k) fields None = tt
 known_own name (Some k) fields (Some h) = (tt, tt)
 
-act_own : (me : ℕ) (s : NodeState) (lies : ℕ → Place) (a : Act) (unknown : NodeAnswer) (name : ℕ) (k : Option Known) → OwnIn (act_rule me s lies a unknown name k)
+act_own : (me : ℕ) (s : NodeState) (lies : ℕ → Place) (a : Operation) (unknown : NodeAnswer) (name : ℕ) (k : Option Known) → OwnIn (operation_rule me s lies a unknown name k)
 act_own me s lies a unknown name None = tt
-act_own me s lies a unknown name (Some k) = by_turn (turn_of me a (share_of k))
+act_own me s lies a unknown name (Some k) = by_transition (transition_of me a (share_of k))
   where
-    by_turn : (t : Option Turn) → OwnIn (acted s lies name k (act_answer me a (share_of k)) t)
-    by_turn None = tt
-    by_turn (Some t) = known_own name (Some k) k.copy t.after
+    by_transition : (t : Option Transition) → OwnIn (after_operation s lies name k (operation_answer me a (share_of k)) t)
+    by_transition None = tt
+    by_transition (Some t) = known_own name (Some k) k.copy t.after
 
 effect_own : (me : ℕ) (s : NodeState) (e : Effect) → Each IsOwn (graph_changes me s e)
 effect_own me s graph_effect.Nothing = tt
@@ -92,11 +92,11 @@ answered_own changes (graph.Refused why) h = tt
 graph_own : (me : ℕ) (s : NodeState) (c : Command) → OwnIn (graph_rule me s c)
 graph_own me s c = answered_own _ (answer_of (seen_graph me s) me c) (effect_own me s (effect (seen_graph me s) me c))
 
-token_own : (me : ℕ) (s : NodeState) (lies : ℕ → Place) (a : Act) (name : Option ℕ) → OwnIn (token_rule me s lies a name)
+token_own : (me : ℕ) (s : NodeState) (lies : ℕ → Place) (a : Operation) (name : Option ℕ) → OwnIn (token_rule me s lies a name)
 token_own me s lies a None = tt
 token_own me s lies a (Some name) = act_own me s lies a _ name (s.known name)
 
-either_own : (b : Bool) (o p : Outcome) → OwnIn o → OwnIn p → OwnIn (cond b o p)
+either_own : (b : Bool) (o p : Reaction) → OwnIn o → OwnIn p → OwnIn (cond b o p)
 either_own true o p h k = h
 either_own false o p h k = k
 
@@ -118,11 +118,11 @@ got_own from seq name Recalls = tt
 got_own from seq name Returns = tt
 
 take_own : (me : ℕ) (s : NodeState) (lies : ℕ → Place) (from seq : ℕ) (m : Msg) → OwnIn (take_rule me s lies from seq m)
-take_own me s lies from seq m = by_turn (s.known (name_in m)) _
+take_own me s lies from seq m = by_transition (s.known (name_in m)) _
   where
-    by_turn : (k : Option Known) (t : Option Turn) → OwnIn (took s lies from seq m k t)
-    by_turn k None = tt
-    by_turn k (Some t) =
+    by_transition : (k : Option Known) (t : Option Transition) → OwnIn (took s lies from seq m k t)
+    by_transition k None = tt
+    by_transition k (Some t) =
         each_append IsOwn (map (Hears from) (infos m)) _ (heard_own from (infos m))
         (each_append IsOwn (known_change (name_in m) k (copy_after m k) t.after) _ (known_own (name_in m) k (copy_after m k) t.after)
         (each_append IsOwn (got_change from seq (name_in m) (note_in m)) (Takes from ∷ []) (got_own from seq (name_in m) (note_in m)) (tt, tt)))

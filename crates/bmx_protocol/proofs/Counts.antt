@@ -4,7 +4,7 @@ use Rattle.std.specs.Prelude.{◌==◌}
 use Rattle.std.specs.List.{flat_map}
 use Rattle.std.proofs.lemmas.List.{length-append}
 use Rattle.std.proofs.lemmas.Bool.{eqb-true}
-use Rattle.bmx_graph.specs.State.{put}
+use Rattle.bmx_types.specs.Updates.{put}
 use Rattle.bmx_msg.specs.Letters.{given}
 use Rattle.bmx_protocol.specs.declared.inputs.Input.{Input}
 use Rattle.bmx_protocol.specs.declared.inputs.Sending.{Sending}
@@ -12,7 +12,7 @@ use Rattle.bmx_protocol.specs.declared.inputs.Done.{Done}
 use Rattle.bmx_protocol.specs.declared.events.Event.{Event}
 use Rattle.bmx_protocol.specs.Nodes.{Setting, NodeState}
 use Rattle.bmx_protocol.specs.Changes.{Change, Sets, Makes, Knows, Hears, Gives, Gets, Issues, Takes, after_change, after_changes}
-use Rattle.bmx_protocol.specs.Rules.{Outcome}
+use Rattle.bmx_protocol.specs.Rules.{Reaction}
 use Rattle.bmx_protocol.specs.Steps.{Node, IsStep, rule, letters_of, sent_changes, first_node}
 use Rattle.bmx_protocol.specs.Histories.{letters_to, issued, Replays}
 use Rattle.bmx_protocol.specs.Laws.{IssuedIsCounted}
@@ -62,7 +62,7 @@ letters_count (l ∷ letters) s m =
 step_count : (st : Setting) (me stamp : ℕ) (i : Input) (n n' : Node) (d : Done) → IsStep st me n stamp i d n' → (m : ℕ) →
     n'.state.issued m ≡ n.state.issued m + length (letters_to m d.letters)
 step_count st me stamp i n n' d step m =
-    let o : Outcome = rule st me n.state step.told i in
+    let o : Reaction = rule st me n.state step.told i in
     let letters : List Sending = letters_of stamp n.state o in
     ap (λ (s : NodeState). s.issued m) step.state
     ∙ ap (λ (s : NodeState). s.issued m) (after_append n.state o.changes (flat_map sent_changes letters))

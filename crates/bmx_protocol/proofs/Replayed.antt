@@ -1,6 +1,6 @@
 -- A step makes one outcome and one node, and a history leads to one world.
 use Rattle.std.proofs.Common.{◌≡◌, ℕ, refl, ap, sym, ◌∙◌, subst, List, [], ◌∷◌}
-use Rattle.bmx_graph.specs.State.{put}
+use Rattle.bmx_types.specs.Updates.{put}
 use Rattle.bmx_protocol.specs.declared.inputs.Input.{Input}
 use Rattle.bmx_protocol.specs.declared.inputs.Input.TheVariants as input
 use Rattle.bmx_protocol.specs.declared.inputs.NodeAnswer.{NodeAnswer}

@@ -16,7 +16,7 @@ use Rattle.bmx_protocol.specs.declared.inputs.Input.TheVariants as input
 use Rattle.bmx_protocol.specs.Nodes.{AreAll}
 use Rattle.bmx_protocol.specs.Steps.{first_node}
 use Rattle.bmx_protocol.specs.Runs.Programs.{CanServe}
-use Rattle.bmx_protocol.specs.Runs.Turns.{Commands, ComesNext}
+use Rattle.bmx_protocol.specs.Runs.Turns.{TriesCommand, ComesNext}
 use Rattle.bmx_protocol.proofs.WorldCases.{none_served}
 use Rattle.bmx_protocol.specs.Cases.{Do, one_bunch, played}
 use Rattle.bmx_protocol.specs.Runs.Programs.{Body, Gives, Phase, Stage, Runs, Follows, BeginsStage, DoesStage, commands_in, completed}
@@ -133,7 +133,7 @@ the_first_turn e is = record {
   names = λ n. [];
   served = λ n real. nothing_served n;
   turn = record {
-    action = Commands 0 (command.Copy 0 (operand.Int (pos 1)));
+    action = TriesCommand 0 (command.Copy 0 (operand.Int (pos 1)));
     picks = refl;
     by_node = ap (λ (l : List Event). node_of l) (sym is);
     by_input = ap (λ (l : List Event). input_of_first l) (sym is);

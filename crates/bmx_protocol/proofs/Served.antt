@@ -5,8 +5,8 @@ use Rattle.std.specs.Option.{option_map, option_map_or}
 use Rattle.std.specs.List.Sorted.{IsStrictlyIncreasing}
 use Rattle.std.proofs.lemmas.Bool.{eqb-true, eqb-false}
 use Rattle.bmx_types.specs.declared.openings.Birth.{Birth}
-use Rattle.bmx_graph.specs.State.{put}
-use Rattle.bmx_token.specs.Turns.{can_serve}
+use Rattle.bmx_types.specs.Updates.{put}
+use Rattle.bmx_token.specs.Transitions.{can_serve}
 use Rattle.bmx_protocol.specs.declared.events.Event.{Event}
 use Rattle.bmx_protocol.specs.Nodes.{Setting, NodeState, Known, birth_of, is_anchor, owned_birth, heard_birth, first_known}
 use Rattle.bmx_protocol.specs.Changes.{Change, Sets, Makes, Knows, Hears, Gives, Gets, Issues, Takes, heard_of, after_change, after_changes}

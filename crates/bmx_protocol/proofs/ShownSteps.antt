@@ -3,7 +3,7 @@ use Rattle.std.proofs.Common.{◌≡◌, ℕ, suc, ◌<◌, refl, ap, sym, ◌�
 use Rattle.std.specs.Prelude.{◌+◌, Option, Some, None}
 use Rattle.std.specs.Option.{option_map}
 use Rattle.std.specs.List.{flat_map}
-use Rattle.bmx_graph.specs.State.{put}
+use Rattle.bmx_types.specs.Updates.{put}
 use Rattle.bmx_protocol.specs.declared.inputs.Input.{Input}
 use Rattle.bmx_protocol.specs.declared.inputs.Sending.{Sending}
 use Rattle.bmx_protocol.specs.declared.inputs.Done.{Done}
@@ -11,7 +11,7 @@ use Rattle.bmx_protocol.specs.declared.views.Entry.{Entry}
 use Rattle.bmx_protocol.specs.declared.views.View.{View}
 use Rattle.bmx_protocol.specs.Nodes.{Setting, NodeState, Known, entry_of, AreNumbers, Shows}
 use Rattle.bmx_protocol.specs.Changes.{Change, after_changes, with_step}
-use Rattle.bmx_protocol.specs.Rules.{Draft, Outcome}
+use Rattle.bmx_protocol.specs.Rules.{Draft, Reaction}
 use Rattle.bmx_protocol.specs.Steps.{Told, rule, numbered, letters_of, sent_changes, closed, done_of}
 use Rattle.bmx_protocol.specs.Histories.{IsInputOf}
 use Rattle.bmx_protocol.specs.Laws.{ShownStepsAgree}
@@ -123,7 +123,7 @@ numbered_same nodes stamp f g (d ∷ drafts) same within =
 
 pub shown_steps_agree : ShownStepsAgree
 shown_steps_agree st me stamp i n m n' m' c d v w a b shows_n shows_m told ok within shows =
-    let o : Outcome = rule st me n.state a.told i in
+    let o : Reaction = rule st me n.state a.told i in
     let same : Alike st.nodes n.state m.state = shown_alike st.nodes v n.state m.state shows_n shows_m in
     let rules : o ≡ rule st me m.state b.told i = rules_same st me n.state m.state a.told i same ok ∙ ap (λ told. rule st me m.state told i) told in
     let near : Within st.nodes (letters_of stamp n.state o) = subst (Within st.nodes) (ap (λ (x : Done). x.letters) a.outcome) within in

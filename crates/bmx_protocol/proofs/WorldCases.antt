@@ -10,12 +10,12 @@ use Rattle.std.proofs.lemmas.Option.{slice_get-get_or}
 use Rattle.bmx_types.specs.declared.values.Val.TheVariants as val
 use Rattle.bmx_types.specs.declared.openings.Birth.{Birth}
 use Rattle.bmx_graph.specs.State.{opening_state}
-use Rattle.bmx_token.specs.Turns.{can_serve}
+use Rattle.bmx_token.specs.Transitions.{can_serve}
 use Rattle.bmx_protocol.specs.declared.views.Entry.{Entry}
 use Rattle.bmx_protocol.specs.declared.views.View.{View}
 use Rattle.bmx_protocol.specs.Nodes.{Setting, Known, owned_birth, heard_birth, birth_of, is_anchor, first_known, first_state, entry_of, AreNumbers, Shows}
 use Rattle.bmx_protocol.specs.Steps.{first_node}
-use Rattle.bmx_protocol.specs.Worlds.{World, world_of, Owned, Kept, Here, On, HasChain, IsCurrent, IsHandedOver, AnswersFor, IsIdle, IsAtRest}
+use Rattle.bmx_protocol.specs.Worlds.{World, world_of, Owned, Kept, Here, On, HasChain, IsCurrent, IsHandedOver, AnswersFor, IsUnclaimed, IsAtRest}
 use Rattle.bmx_protocol.specs.Runs.Programs.{CanServe, IsQuiet}
 use Rattle.bmx_protocol.specs.Cases.{one_bunch}
 
@@ -43,7 +43,7 @@ at_first_all P owned heard st n x k e =
 opening_is_at_rest : (st : Setting) → IsAtRest st (at_first st)
 opening_is_at_rest st = record {
   no_letter = λ n m _ _. refl;
-  no_token = λ n x k _ known. at_first_all IsIdle (λ b. record { held = refl; want = refl; ready = refl }) (λ b. record { held = refl; want = refl; ready = refl }) st n x k known;
+  no_token = λ n x k _ known. at_first_all IsUnclaimed (λ b. record { held = refl; want = refl; ready = refl }) (λ b. record { held = refl; want = refl; ready = refl }) st n x k known;
 }
 
 -- nothing can be served

@@ -9,8 +9,8 @@ use Rattle.bmx_types.specs.declared.commands.Operand.{Operand}
 use Rattle.bmx_types.specs.declared.commands.Operand.TheVariants as operand
 use Rattle.bmx_types.specs.declared.commands.Command.{Command}
 use Rattle.bmx_types.specs.declared.commands.Command.TheVariants as command
-use Rattle.bmx_graph.specs.State.{put}
-use Rattle.bmx_msg.specs.declared.letters.Field.TheVariants as told
+use Rattle.bmx_types.specs.Updates.{put}
+use Rattle.bmx_msg.specs.declared.letters.Field.TheVariants as msg_field
 use Rattle.bmx_msg.specs.declared.letters.Msg.{Msg}
 use Rattle.bmx_msg.specs.declared.letters.Msg.TheVariants as msg
 use Rattle.bmx_msg.specs.declared.letters.Letter.{Letter}
@@ -24,7 +24,7 @@ use Rattle.bmx_protocol.specs.declared.events.Event.{Event}
 use Rattle.bmx_types.specs.declared.numbers.Mode.TheVariants as mode
 use Rattle.bmx_protocol.specs.Nodes.{Known, Setting}
 use Rattle.bmx_protocol.specs.Places.{Places, with_all_learnt}
-use Rattle.bmx_protocol.specs.Rules.{Outcome, infos}
+use Rattle.bmx_protocol.specs.Rules.{Reaction, infos}
 use Rattle.bmx_protocol.specs.Strays.{some_clash}
 use Rattle.bmx_protocol.specs.Steps.{Node, first_node, command_in, letter_in, Told, nowhere, finds_full, rule, done_of, closed, made_places, is_nil, is_taken, stamp_after}
 use Rattle.bmx_protocol.specs.Histories.{in_flight}
@@ -78,7 +78,7 @@ pub record Play : Type 0 where
   pub past : List Event
 
 -- one step more
-abbrev pub with_outcome : Play → ℕ → ℕ → Input → Outcome → Play
+abbrev pub with_outcome : Play → ℕ → ℕ → Input → Reaction → Play
 with_outcome p me stamp i o = record {
   nodes = put p.nodes me (record { state = closed stamp (p.nodes me).state o; places = places_after me (p.nodes me) i o.answer });
   past = p.past ++ record { node = me; stamp = stamp; input = i; done = done_of stamp (p.nodes me).state o } ∷ [];
@@ -148,7 +148,7 @@ one_reader : Says (one_bunch 2) (
     ∷ line (Do 0 (command.Done anchor)) 7 answer.Nil []
     ∷ line (Do 1 (command.Read anchor)) 1 answer.Wait (letter 0 1 1 (msg.ReadReq 1 1) ∷ [])
     ∷ line (Next 1 0) 8 answer.Nil []
-    ∷ line (Serve 0 1) 9 answer.Nil (letter 1 1 9 (msg.ReadGrant the_anchor (told.Ref the_object ∷ replicate 31 told.Null)) ∷ [])
+    ∷ line (Serve 0 1) 9 answer.Nil (letter 1 1 9 (msg.ReadGrant the_anchor (msg_field.Ref the_object ∷ replicate 31 msg_field.Null)) ∷ [])
     ∷ line (Next 0 1) 10 answer.Nil []
     ∷ line (Do 1 (command.Read anchor)) 11 answer.Nil []
     ∷ line (Do 1 (command.Get 0 anchor 0)) 12 (answer.Value (val.Ref 2)) []
@@ -156,7 +156,7 @@ one_reader : Says (one_bunch 2) (
     ∷ line (Do 1 (command.Done anchor)) 14 answer.Nil []
     ∷ line (Do 1 (command.Read r0)) 15 answer.Wait (letter 0 2 15 (msg.ReadReq 2 1) ∷ [])
     ∷ line (Next 1 0) 16 answer.Nil []
-    ∷ line (Serve 0 2) 17 answer.Nil (letter 1 2 17 (msg.ReadGrant the_object (told.Int (pos 42) ∷ [])) ∷ [])
+    ∷ line (Serve 0 2) 17 answer.Nil (letter 1 2 17 (msg.ReadGrant the_object (msg_field.Int (pos 42) ∷ [])) ∷ [])
     ∷ line (Next 0 1) 18 answer.Nil []
     ∷ line (Do 1 (command.Read r0)) 19 answer.Nil []
     ∷ line (Do 1 (command.Show r0 0)) 20 (answer.Value (val.Int (pos 42))) []
@@ -176,35 +176,35 @@ two_readers_and_a_writer : Says (one_bunch 4) (
     ∷ line (Do 0 (command.Done anchor)) 7 answer.Nil []
     ∷ line (Do 2 (command.Read anchor)) 1 answer.Wait (letter 0 1 1 (msg.ReadReq 1 2) ∷ [])
     ∷ line (Next 2 0) 8 answer.Nil []
-    ∷ line (Serve 0 1) 9 answer.Nil (letter 2 1 9 (msg.ReadGrant the_anchor (told.Ref the_object ∷ replicate 31 told.Null)) ∷ [])
+    ∷ line (Serve 0 1) 9 answer.Nil (letter 2 1 9 (msg.ReadGrant the_anchor (msg_field.Ref the_object ∷ replicate 31 msg_field.Null)) ∷ [])
     ∷ line (Next 0 2) 10 answer.Nil []
     ∷ line (Do 2 (command.Read anchor)) 11 answer.Nil []
     ∷ line (Do 2 (command.Get 0 anchor 0)) 12 (answer.Value (val.Ref 2)) []
     ∷ line (Do 2 (command.Done anchor)) 13 answer.Nil []
     ∷ line (Do 2 (command.Read r0)) 14 answer.Wait (letter 0 2 14 (msg.ReadReq 2 2) ∷ [])
     ∷ line (Next 2 0) 15 answer.Nil []
-    ∷ line (Serve 0 2) 16 answer.Nil (letter 2 2 16 (msg.ReadGrant the_object (told.Int (pos 42) ∷ [])) ∷ [])
+    ∷ line (Serve 0 2) 16 answer.Nil (letter 2 2 16 (msg.ReadGrant the_object (msg_field.Int (pos 42) ∷ [])) ∷ [])
     ∷ line (Next 0 2) 17 answer.Nil []
     ∷ line (Do 2 (command.Read r0)) 18 answer.Nil []
     ∷ line (Do 2 (command.Show r0 0)) 19 (answer.Value (val.Int (pos 42))) []
     ∷ line (Do 2 (command.Done r0)) 20 answer.Nil []
     ∷ line (Do 3 (command.Read anchor)) 1 answer.Wait (letter 0 1 1 (msg.ReadReq 1 3) ∷ [])
     ∷ line (Next 3 0) 17 answer.Nil []
-    ∷ line (Serve 0 1) 18 answer.Nil (letter 3 1 18 (msg.ReadGrant the_anchor (told.Ref the_object ∷ replicate 31 told.Null)) ∷ [])
+    ∷ line (Serve 0 1) 18 answer.Nil (letter 3 1 18 (msg.ReadGrant the_anchor (msg_field.Ref the_object ∷ replicate 31 msg_field.Null)) ∷ [])
     ∷ line (Next 0 3) 19 answer.Nil []
     ∷ line (Do 3 (command.Read anchor)) 20 answer.Nil []
     ∷ line (Do 3 (command.Get 0 anchor 0)) 21 (answer.Value (val.Ref 2)) []
     ∷ line (Do 3 (command.Done anchor)) 22 answer.Nil []
     ∷ line (Do 3 (command.Read r0)) 23 answer.Wait (letter 0 2 23 (msg.ReadReq 2 3) ∷ [])
     ∷ line (Next 3 0) 24 answer.Nil []
-    ∷ line (Serve 0 2) 25 answer.Nil (letter 3 2 25 (msg.ReadGrant the_object (told.Int (pos 42) ∷ [])) ∷ [])
+    ∷ line (Serve 0 2) 25 answer.Nil (letter 3 2 25 (msg.ReadGrant the_object (msg_field.Int (pos 42) ∷ [])) ∷ [])
     ∷ line (Next 0 3) 26 answer.Nil []
     ∷ line (Do 3 (command.Read r0)) 27 answer.Nil []
     ∷ line (Do 3 (command.Show r0 0)) 28 (answer.Value (val.Int (pos 42))) []
     ∷ line (Do 3 (command.Done r0)) 29 answer.Nil []
     ∷ line (Do 1 (command.Read anchor)) 1 answer.Wait (letter 0 1 1 (msg.ReadReq 1 1) ∷ [])
     ∷ line (Next 1 0) 26 answer.Nil []
-    ∷ line (Serve 0 1) 27 answer.Nil (letter 1 1 27 (msg.ReadGrant the_anchor (told.Ref the_object ∷ replicate 31 told.Null)) ∷ [])
+    ∷ line (Serve 0 1) 27 answer.Nil (letter 1 1 27 (msg.ReadGrant the_anchor (msg_field.Ref the_object ∷ replicate 31 msg_field.Null)) ∷ [])
     ∷ line (Next 0 1) 28 answer.Nil []
     ∷ line (Do 1 (command.Read anchor)) 29 answer.Nil []
     ∷ line (Do 1 (command.Get 0 anchor 0)) 30 (answer.Value (val.Ref 2)) []
@@ -216,28 +216,28 @@ two_readers_and_a_writer : Says (one_bunch 4) (
     ∷ line (Next 2 0) 36 answer.Nil []
     ∷ line (Next 0 3) 35 answer.Nil (letter 0 3 35 (msg.InvAck 2) ∷ [])
     ∷ line (Next 3 0) 37 answer.Nil []
-    ∷ line (Serve 0 2) 38 answer.Nil (letter 1 2 38 (msg.WriteGrant the_object (told.Int (pos 42) ∷ [])) ∷ [])
+    ∷ line (Serve 0 2) 38 answer.Nil (letter 1 2 38 (msg.WriteGrant the_object (msg_field.Int (pos 42) ∷ [])) ∷ [])
     ∷ line (Next 0 1) 39 answer.Nil []
     ∷ line (Do 1 (command.Write r0)) 40 answer.Nil []
     ∷ line (Do 1 (command.Set r0 0 (operand.Int (pos 43)))) 41 answer.Nil []
     ∷ line (Do 1 (command.Done r0)) 42 answer.Nil []
     ∷ line (Do 0 (command.Write r0)) 39 answer.Wait (letter 1 3 39 (msg.WriteReq 2 0) ∷ [])
     ∷ line (Next 0 1) 43 answer.Nil []
-    ∷ line (Serve 1 2) 44 answer.Nil (letter 0 3 44 (msg.WriteGrant the_object (told.Int (pos 43) ∷ [])) ∷ [])
+    ∷ line (Serve 1 2) 44 answer.Nil (letter 0 3 44 (msg.WriteGrant the_object (msg_field.Int (pos 43) ∷ [])) ∷ [])
     ∷ line (Next 1 0) 45 answer.Nil []
     ∷ line (Do 0 (command.Write r0)) 46 answer.Nil []
     ∷ line (Do 0 (command.Add r0 0 (pos 1))) 47 answer.Nil []
     ∷ line (Do 0 (command.Done r0)) 48 answer.Nil []
     ∷ line (Do 2 (command.Read r0)) 36 answer.Wait (letter 0 4 36 (msg.ReadReq 2 2) ∷ [])
     ∷ line (Next 2 0) 49 answer.Nil []
-    ∷ line (Serve 0 2) 50 answer.Nil (letter 2 4 50 (msg.ReadGrant the_object (told.Int (pos 44) ∷ [])) ∷ [])
+    ∷ line (Serve 0 2) 50 answer.Nil (letter 2 4 50 (msg.ReadGrant the_object (msg_field.Int (pos 44) ∷ [])) ∷ [])
     ∷ line (Next 0 2) 51 answer.Nil []
     ∷ line (Do 2 (command.Read r0)) 52 answer.Nil []
     ∷ line (Do 2 (command.Show r0 0)) 53 (answer.Value (val.Int (pos 44))) []
     ∷ line (Do 2 (command.Done r0)) 54 answer.Nil []
     ∷ line (Do 3 (command.Read r0)) 36 answer.Wait (letter 0 4 36 (msg.ReadReq 2 3) ∷ [])
     ∷ line (Next 3 0) 51 answer.Nil []
-    ∷ line (Serve 0 2) 52 answer.Nil (letter 3 4 52 (msg.ReadGrant the_object (told.Int (pos 44) ∷ [])) ∷ [])
+    ∷ line (Serve 0 2) 52 answer.Nil (letter 3 4 52 (msg.ReadGrant the_object (msg_field.Int (pos 44) ∷ [])) ∷ [])
     ∷ line (Next 0 3) 53 answer.Nil []
     ∷ line (Do 3 (command.Read r0)) 54 answer.Nil []
     ∷ line (Do 3 (command.Show r0 0)) 55 (answer.Value (val.Int (pos 44))) []
@@ -250,14 +250,14 @@ two_readers_and_a_writer = refl
 a_request_goes_along_two_parents : Says (one_bunch 4) (
     line (Do 1 (command.Write anchor)) 1 answer.Wait (letter 0 1 1 (msg.WriteReq 1 1) ∷ [])
     ∷ line (Next 1 0) 2 answer.Nil []
-    ∷ line (Serve 0 1) 3 answer.Nil (letter 1 1 3 (msg.WriteGrant the_anchor (replicate 32 told.Null)) ∷ [])
+    ∷ line (Serve 0 1) 3 answer.Nil (letter 1 1 3 (msg.WriteGrant the_anchor (replicate 32 msg_field.Null)) ∷ [])
     ∷ line (Next 0 1) 4 answer.Nil []
     ∷ line (Do 1 (command.Write anchor)) 5 answer.Nil []
     ∷ line (Do 1 (command.Done anchor)) 6 answer.Nil []
     ∷ line (Do 2 (command.Write anchor)) 1 answer.Wait (letter 0 1 1 (msg.WriteReq 1 2) ∷ [])
     ∷ line (Next 2 0) 4 answer.Nil (letter 1 2 4 (msg.WriteReq 1 2) ∷ [])
     ∷ line (Next 0 1) 7 answer.Nil []
-    ∷ line (Serve 1 1) 8 answer.Nil (letter 2 1 8 (msg.WriteGrant the_anchor (replicate 32 told.Null)) ∷ [])
+    ∷ line (Serve 1 1) 8 answer.Nil (letter 2 1 8 (msg.WriteGrant the_anchor (replicate 32 msg_field.Null)) ∷ [])
     ∷ line (Next 1 2) 9 answer.Nil []
     ∷ line (Do 2 (command.Write anchor)) 10 answer.Nil []
     ∷ line (Do 2 (command.Done anchor)) 11 answer.Nil []
@@ -265,7 +265,7 @@ a_request_goes_along_two_parents : Says (one_bunch 4) (
     ∷ line (Next 3 0) 5 answer.Nil (letter 1 3 5 (msg.ReadReq 1 3) ∷ [])
     ∷ line (Next 0 1) 9 answer.Nil (letter 2 2 9 (msg.ReadReq 1 3) ∷ [])
     ∷ line (Next 1 2) 12 answer.Nil []
-    ∷ line (Serve 2 1) 13 answer.Nil (letter 3 1 13 (msg.ReadGrant the_anchor (replicate 32 told.Null)) ∷ [])
+    ∷ line (Serve 2 1) 13 answer.Nil (letter 3 1 13 (msg.ReadGrant the_anchor (replicate 32 msg_field.Null)) ∷ [])
     ∷ line (Next 2 3) 14 answer.Nil []
     ∷ line (Do 3 (command.Read anchor)) 15 answer.Nil []
     ∷ [])
@@ -338,7 +338,7 @@ answer_to_first m = answer_to 0 1 3 m
 
 -- a grant of 0.1 whose first field refers to an object
 abbrev grant_with : Info → Msg
-grant_with info = msg.ReadGrant the_anchor (told.Ref info ∷ replicate 31 told.Null)
+grant_with info = msg.ReadGrant the_anchor (msg_field.Ref info ∷ replicate 31 msg_field.Null)
 
 -- an object of one field, of bunch 0
 abbrev object : ℕ → ℕ → ℕ → Info
@@ -377,10 +377,10 @@ an_own_name_not_made = refl
 too_many_fields : answer_to_first (grant_with (record (the_object) { size = 33 })) ≡ answer.Stray
 too_many_fields = refl
 
-a_field_too_few : answer_to_first (msg.ReadGrant the_anchor (replicate 31 told.Null)) ≡ answer.Stray
+a_field_too_few : answer_to_first (msg.ReadGrant the_anchor (replicate 31 msg_field.Null)) ≡ answer.Stray
 a_field_too_few = refl
 
-another_size : answer_to_first (msg.ReadGrant (record (the_anchor) { size = 31 }) (replicate 31 told.Null)) ≡ answer.Stray
+another_size : answer_to_first (msg.ReadGrant (record (the_anchor) { size = 31 }) (replicate 31 msg_field.Null)) ≡ answer.Stray
 another_size = refl
 
 -- the words of 0.1 are taken, and words of node 1's own weren't handed out
@@ -392,18 +392,18 @@ in_own_words_not_handed_out = refl
 
 -- it has moved, to where it lay
 moved_to_its_own_place :
-    answer_to_first (msg.ReadGrant (record (the_anchor) { place = record { address = 0x100000000; moves = 1 } }) (replicate 32 told.Null))
+    answer_to_first (msg.ReadGrant (record (the_anchor) { place = record { address = 0x100000000; moves = 1 } }) (replicate 32 msg_field.Null))
     ≡ answer.Stray
 moved_to_its_own_place = refl
 
 -- two fields tell of one new object that it has one field, and two
 two_sizes_in_one_letter :
-    answer_to_first (msg.ReadGrant the_anchor (told.Ref the_object ∷ told.Ref (record (the_object) { size = 2 }) ∷ replicate 30 told.Null))
+    answer_to_first (msg.ReadGrant the_anchor (msg_field.Ref the_object ∷ msg_field.Ref (record (the_object) { size = 2 }) ∷ replicate 30 msg_field.Null))
     ≡ answer.Stray
 two_sizes_in_one_letter = refl
 
 -- a grant that nobody wants, and an acknowledgement to a node that doesn't own
-a_write_that_is_not_wanted : answer_to_first (msg.WriteGrant the_anchor (replicate 32 told.Null)) ≡ answer.Stray
+a_write_that_is_not_wanted : answer_to_first (msg.WriteGrant the_anchor (replicate 32 msg_field.Null)) ≡ answer.Stray
 a_write_that_is_not_wanted = refl
 
 an_acknowledgement_to_no_owner : answer_to_first (msg.InvAck 1) ≡ answer.Stray

@@ -6,7 +6,7 @@ use Rattle.std.specs.List.{fold}
 use Rattle.bmx_types.specs.declared.values.Val.{Val}
 use Rattle.bmx_types.specs.declared.addresses.Info.{Info}
 use Rattle.bmx_token.specs.Tokens.{child_part}
-use Rattle.bmx_graph.specs.State.{put, put_at}
+use Rattle.bmx_types.specs.Updates.{put, put_at}
 use Rattle.bmx_owner.specs.declared.entering.Record.{Record}
 use Rattle.bmx_owner.specs.Records.{blank, sent_by, got_by}
 use Rattle.bmx_protocol.specs.Nodes.{NodeState, Known}

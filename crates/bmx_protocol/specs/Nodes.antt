@@ -9,7 +9,7 @@ use Rattle.bmx_types.specs.declared.values.Val.TheVariants as val
 use Rattle.bmx_types.specs.declared.openings.Birth.{Birth}
 use Rattle.bmx_token.specs.declared.parts.Part.{Part}
 use Rattle.bmx_token.specs.Tokens.{owner_part, child_part}
-use Rattle.bmx_token.specs.Turns.{Share}
+use Rattle.bmx_token.specs.Transitions.{Share}
 use Rattle.bmx_owner.specs.declared.entering.Record.{Record}
 use Rattle.bmx_owner.specs.Records.{IsInOrder, find_record, blank}
 use Rattle.bmx_graph.specs.State.{State}

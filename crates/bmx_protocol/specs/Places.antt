@@ -7,7 +7,7 @@ use Rattle.bmx_types.specs.Openings.{bunches_of}
 use Rattle.bmx_types.specs.declared.addresses.Place.{Place}
 use Rattle.bmx_types.specs.declared.addresses.Info.{Info}
 use Rattle.bmx_types.specs.declared.openings.Birth.{Birth}
-use Rattle.bmx_graph.specs.State.{put, put_at}
+use Rattle.bmx_types.specs.Updates.{put, put_at}
 use Rattle.bmx_protocol.specs.Nodes.{Setting, Known, is_anchor}
 
 -- what a header says of the words behind it: the object lies here, it went to another address, or it
@@ -71,9 +71,9 @@ with_object a name size place = record a {
 }
 
 -- the next words of a segment are handed out to an object, which hasn't moved
-abbrev pub put_behind : ℕ → Places → ℕ → ℕ → Option ℕ → Places
-put_behind me a name size None = a
-put_behind me a name size (Some segment) =
+abbrev pub with_placed : ℕ → Places → ℕ → ℕ → Option ℕ → Places
+with_placed me a name size None = a
+with_placed me a name size (Some segment) =
     with_object (record a { handed = put a.handed segment (a.handed segment + (4 + size)) }) name size
     (record { address = address_word me segment (a.handed segment); moves = 0 })
 
@@ -81,7 +81,7 @@ put_behind me a name size (Some segment) =
 abbrev pub with_made : ℕ → Places → ℕ → ℕ → ℕ → Places
 with_made me a name bunch size =
     let b : Places = with_room me a bunch size in
-    put_behind me b name size (b.opened bunch)
+    with_placed me b name size (b.opened bunch)
 
 -- ## learning
 

@@ -1,5 +1,5 @@
 -- The rules of a node's step: what a command, a serve and a letter change in its state, which messages they
--- issue and what they answer. What is about a token goes by the token's turns (bmx_token), the other
+-- issue and what they answer. What is about a token goes by the token's transitions (bmx_token), the other
 -- commands as the graph does them. Here a message has no number yet, and the step isn't counted.
 use Rattle.std.specs.Prelude.{ℕ, ◌+◌, Bool, false, if◌then◌else◌, List, [], ◌∷◌, ◌++◌, map, filter_map, replicate, Option, Some, None, is_some, unwrap_or}
 use Rattle.std.specs.Option.{option_map, option_map_or}
@@ -19,7 +19,7 @@ use Rattle.bmx_graph.specs.Step as graph_effect
 use Rattle.bmx_graph.specs.declared.answers.Answer.{Answer}
 use Rattle.bmx_graph.specs.declared.answers.Answer.TheVariants as graph
 use Rattle.bmx_msg.specs.declared.letters.Field.{Field}
-use Rattle.bmx_msg.specs.declared.letters.Field.TheVariants as told
+use Rattle.bmx_msg.specs.declared.letters.Field.TheVariants as msg_field
 use Rattle.bmx_msg.specs.declared.letters.Msg.{Msg}
 use Rattle.bmx_msg.specs.declared.letters.Msg.TheVariants as msg
 use Rattle.bmx_token.specs.declared.answers.Acquire.{Acquire}
@@ -27,7 +27,7 @@ use Rattle.bmx_token.specs.declared.answers.Acquire.TheVariants as acquire_is
 use Rattle.bmx_token.specs.declared.answers.Release.{Release}
 use Rattle.bmx_token.specs.declared.answers.Release.TheVariants as release_is
 use Rattle.bmx_token.specs.Tokens.{owner_part, acquire, release}
-use Rattle.bmx_token.specs.Turns.{Share, Note, Asks, Grants, Recalls, Returns, Send, Turn, Act, Acquires, Releases, Serves, turn_of, can_serve, note_turn}
+use Rattle.bmx_token.specs.Transitions.{Share, Note, Asks, Grants, Recalls, Returns, Send, Transition, Operation, Acquires, Releases, Serves, transition_of, can_serve, note_transition}
 use Rattle.bmx_protocol.specs.declared.inputs.NodeAnswer.{NodeAnswer}
 use Rattle.bmx_protocol.specs.declared.inputs.NodeAnswer.TheVariants as answer
 use Rattle.bmx_protocol.specs.declared.views.ViewField.{ViewField}
@@ -41,16 +41,16 @@ pub record Draft : Type 0 where
   pub msg : Msg
 
 -- what a rule makes of a node: changes and messages, each in order, and the answer
-pub record Outcome : Type 0 where
+pub record Reaction : Type 0 where
   pub changes : List Change
   pub drafts : List Draft
   pub answer : NodeAnswer
 
 -- nothing changes, and nothing is issued
-abbrev pub only : NodeAnswer → Outcome
+abbrev pub only : NodeAnswer → Reaction
 only a = record { changes = []; drafts = []; answer = a }
 
-abbrev pub refused : Refusal → Outcome
+abbrev pub refused : Refusal → Reaction
 refused why = only (answer.Refused why)
 
 -- ## what messages say
@@ -66,14 +66,14 @@ info_of s lies name = record {
 
 -- a field as a letter tells it, and back
 abbrev pub told_field : NodeState → (ℕ → Place) → ViewField → Field
-told_field s lies field.Null = told.Null
-told_field s lies (field.Int k) = told.Int k
-told_field s lies (field.Ref name) = told.Ref (info_of s lies name)
+told_field s lies field.Null = msg_field.Null
+told_field s lies (field.Int k) = msg_field.Int k
+told_field s lies (field.Ref name) = msg_field.Ref (info_of s lies name)
 
 abbrev pub heard_field : Field → ViewField
-heard_field told.Null = field.Null
-heard_field (told.Int k) = field.Int k
-heard_field (told.Ref info) = field.Ref info.name
+heard_field msg_field.Null = field.Null
+heard_field (msg_field.Int k) = field.Int k
+heard_field (msg_field.Ref info) = field.Ref info.name
 
 -- the fields of the node's copy of an object, as a letter tells them
 abbrev pub told_fields : NodeState → (ℕ → Place) → ℕ → List Field
@@ -121,9 +121,9 @@ grant_in (msg.InvAck name) = None
 
 -- the Info in a field
 abbrev pub info_in : Field → Option Info
-info_in told.Null = None
-info_in (told.Int k) = None
-info_in (told.Ref info) = Some info
+info_in msg_field.Null = None
+info_in (msg_field.Int k) = None
+info_in (msg_field.Ref info) = Some info
 
 -- the Infos of a message in order: the granted object's, then those of its fields
 abbrev pub infos : Msg → List Info
@@ -131,18 +131,18 @@ infos m = option_map_or (λ (g : Info × List Field). g.0 ∷ filter_map info_in
 
 -- ## tokens
 
--- what is known of an object after a turn: the fields stay, or those come that a grant brings, where there is a
+-- what is known of an object after a transition: the fields stay, or those come that a grant brings, where there is a
 -- copy then
 abbrev pub with_share : Known → Option (List ViewField) → Share → Known
 with_share k fields h = record k { copy = if h.copy then fields else None; part = h.part }
 
--- the change of what is known; no turn takes an entry away
+-- the change of what is known; no transition takes an entry away
 abbrev pub known_change : ℕ → Option Known → Option (List ViewField) → Option Share → List Change
 known_change name None fields h = []
 known_change name (Some k) fields None = []
 known_change name (Some k) fields (Some h) = Knows name (with_share k fields h) ∷ []
 
--- what an act is answered
+-- what an operation is answered
 abbrev pub acquire_answer : Acquire → NodeAnswer
 acquire_answer acquire_is.Held = answer.Nil
 acquire_answer (acquire_is.Asks parent) = answer.Wait
@@ -154,27 +154,27 @@ release_answer release_is.Free = answer.Nil
 release_answer (release_is.Answers owner) = answer.Nil
 release_answer release_is.Refused = answer.Refused refusal.NoToken
 
-abbrev pub act_answer : ℕ → Act → Share → NodeAnswer
-act_answer me (Acquires m) h = acquire_answer (acquire me h.part m h.copy).1
-act_answer me Releases h = release_answer (release h.part).1
-act_answer me Serves h = if can_serve me h.part then answer.Nil else answer.Idle
+abbrev pub operation_answer : ℕ → Operation → Share → NodeAnswer
+operation_answer me (Acquires m) h = acquire_answer (acquire me h.part m h.copy).1
+operation_answer me Releases h = release_answer (release h.part).1
+operation_answer me Serves h = if can_serve me h.part then answer.Nil else answer.Idle
 
--- by the turn of the token
-abbrev pub acted : NodeState → (ℕ → Place) → ℕ → Known → NodeAnswer → Option Turn → Outcome
-acted s lies name k a None = only a
-acted s lies name k a (Some t) =
+-- by the transition of the token
+abbrev pub after_operation : NodeState → (ℕ → Place) → ℕ → Known → NodeAnswer → Option Transition → Reaction
+after_operation s lies name k a None = only a
+after_operation s lies name k a (Some t) =
     record { changes = known_change name (Some k) k.copy t.after; drafts = drafts_of s lies name t.sends; answer = a }
 
--- an act on the token of a name, by what is known of it; of a name that isn't known the answer is this
-abbrev pub act_rule : ℕ → NodeState → (ℕ → Place) → Act → NodeAnswer → ℕ → Option Known → Outcome
-act_rule me s lies a unknown name None = only unknown
-act_rule me s lies a unknown name (Some k) = acted s lies name k (act_answer me a (share_of k)) (turn_of me a (share_of k))
+-- an operation on the token of a name, by what is known of it; of a name that isn't known the answer is this
+abbrev pub operation_rule : ℕ → NodeState → (ℕ → Place) → Operation → NodeAnswer → ℕ → Option Known → Reaction
+operation_rule me s lies a unknown name None = only unknown
+operation_rule me s lies a unknown name (Some k) = after_operation s lies name k (operation_answer me a (share_of k)) (transition_of me a (share_of k))
 
 -- ## commands
 
 -- what a command is about: the token of an object, the fields of one, a new object, or none of them
 pub data About : Type 0 where
-  Token : (a : Act) (on : Operand) → About
+  Token : (a : Operation) (on : Operand) → About
   Fields : (on : Operand) → About
   Making : About
   Nothing : About
@@ -206,7 +206,7 @@ stored name None index v = []
 stored name (Some k) index v = Knows name (with_field index v k) ∷ []
 
 -- what an effect of the graph changes at the node: its own copies and registers. What it holds changes by the
--- token's turns alone
+-- token's transitions alone
 abbrev pub graph_changes : ℕ → NodeState → Effect → List Change
 graph_changes me s graph_effect.Nothing = []
 graph_changes me s (graph_effect.Makes register bunch size) =
@@ -216,7 +216,7 @@ graph_changes me s (graph_effect.Stores name index v) = stored name (s.known nam
 graph_changes me s (graph_effect.Holds name hold) = []
 
 -- by the graph's answer: what is refused changes nothing, and these commands never wait
-abbrev pub answered : List Change → Answer → Outcome
+abbrev pub answered : List Change → Answer → Reaction
 answered changes graph.Nil = record { changes = changes; drafts = []; answer = answer.Nil }
 answered changes (graph.Value v) = record { changes = changes; drafts = []; answer = answer.Value v }
 answered changes graph.Yes = record { changes = changes; drafts = []; answer = answer.Yes }
@@ -225,13 +225,13 @@ answered changes graph.Wait = only answer.Wait
 answered changes (graph.Refused why) = refused why
 
 -- a command as the graph does it, on the node's own copies
-abbrev pub graph_rule : ℕ → NodeState → Command → Outcome
+abbrev pub graph_rule : ℕ → NodeState → Command → Reaction
 graph_rule me s c = answered (graph_changes me s (effect (seen_graph me s) me c)) (answer_of (seen_graph me s) me c)
 
 -- on the token of what an operand means
-abbrev pub token_rule : ℕ → NodeState → (ℕ → Place) → Act → Option ℕ → Outcome
+abbrev pub token_rule : ℕ → NodeState → (ℕ → Place) → Operation → Option ℕ → Reaction
 token_rule me s lies a None = refused refusal.Empty
-token_rule me s lies a (Some name) = act_rule me s lies a (answer.Refused refusal.Empty) name (s.known name)
+token_rule me s lies a (Some name) = operation_rule me s lies a (answer.Refused refusal.Empty) name (s.known name)
 
 -- the node knows what an operand means
 abbrev pub knows : NodeState → Option ℕ → Bool
@@ -240,20 +240,20 @@ knows s (Some name) = is_some (s.known name)
 
 -- by what a command is about, at a node whose segments are full for a new object or not: an operand that is
 -- no reference, or one to what the node doesn't know, is Empty
-abbrev pub command_rule : ℕ → NodeState → Bool → (ℕ → Place) → Command → About → Outcome
+abbrev pub command_rule : ℕ → NodeState → Bool → (ℕ → Place) → Command → About → Reaction
 command_rule me s full lies c (Token a on) = token_rule me s lies a (target_of (seen_graph me s) me on)
 command_rule me s full lies c (Fields on) =
     if knows s (target_of (seen_graph me s) me on) then graph_rule me s c else refused refusal.Empty
 command_rule me s full lies c Making = if full then refused refusal.Full else graph_rule me s c
 command_rule me s full lies c Nothing = graph_rule me s c
 
-abbrev pub do_rule : ℕ → NodeState → Bool → (ℕ → Place) → Command → Outcome
+abbrev pub do_rule : ℕ → NodeState → Bool → (ℕ → Place) → Command → Reaction
 do_rule me s full lies c = command_rule me s full lies c (about c)
 
 -- ## serving
 
-abbrev pub serve_rule : ℕ → NodeState → (ℕ → Place) → ℕ → Outcome
-serve_rule me s lies name = act_rule me s lies Serves answer.Idle name (s.known name)
+abbrev pub serve_rule : ℕ → NodeState → (ℕ → Place) → ℕ → Reaction
+serve_rule me s lies name = operation_rule me s lies Serves answer.Idle name (s.known name)
 
 -- ## taking a letter
 
@@ -269,8 +269,8 @@ got_change from seq name (Grants mode.Write) = Gets name from seq ∷ []
 got_change from seq name Recalls = []
 got_change from seq name Returns = []
 
--- by the turn of the token: a stray letter changes nothing; of another the Infos are heard, and it is taken
-abbrev pub took : NodeState → (ℕ → Place) → ℕ → ℕ → Msg → Option Known → Option Turn → Outcome
+-- by the transition of the token: a stray letter changes nothing; of another the Infos are heard, and it is taken
+abbrev pub took : NodeState → (ℕ → Place) → ℕ → ℕ → Msg → Option Known → Option Transition → Reaction
 took s lies from seq m k None = only answer.Stray
 took s lies from seq m k (Some t) = record {
   changes =
@@ -281,6 +281,6 @@ took s lies from seq m k (Some t) = record {
 }
 
 -- letter number seq from a node
-abbrev pub take_rule : ℕ → NodeState → (ℕ → Place) → ℕ → ℕ → Msg → Outcome
+abbrev pub take_rule : ℕ → NodeState → (ℕ → Place) → ℕ → ℕ → Msg → Reaction
 take_rule me s lies from seq m =
-    took s lies from seq m (s.known (name_in m)) (note_turn me from (note_in m) (option_map share_of (s.known (name_in m))))
+    took s lies from seq m (s.known (name_in m)) (note_transition me from (note_in m) (option_map share_of (s.known (name_in m))))

@@ -6,7 +6,7 @@ use Rattle.std.specs.List.{flat_map}
 use Rattle.bmx_types.specs.declared.commands.Command.{Command}
 use Rattle.bmx_types.specs.declared.commands.Command.TheVariants as command
 use Rattle.bmx_types.specs.declared.addresses.Place.{Place}
-use Rattle.bmx_graph.specs.State.{put}
+use Rattle.bmx_types.specs.Updates.{put}
 use Rattle.bmx_msg.specs.declared.letters.Letter.{Letter}
 use Rattle.bmx_msg.specs.Letters.{given}
 use Rattle.bmx_protocol.specs.declared.inputs.Input.{Input}
@@ -18,7 +18,7 @@ use Rattle.bmx_protocol.specs.declared.inputs.Done.{Done}
 use Rattle.bmx_protocol.specs.Nodes.{Setting, NodeState, first_state}
 use Rattle.bmx_protocol.specs.Places.{Places, is_full, with_made, with_all_learnt, first_places}
 use Rattle.bmx_protocol.specs.Changes.{Change, Gives, Issues, after_changes, with_step}
-use Rattle.bmx_protocol.specs.Rules.{Draft, Outcome, only, do_rule, serve_rule, take_rule, next_name, infos}
+use Rattle.bmx_protocol.specs.Rules.{Draft, Reaction, only, do_rule, serve_rule, take_rule, next_name, infos}
 use Rattle.bmx_protocol.specs.Strays.{too_large, is_bad_letter, some_clash}
 
 -- a node: its state by names, and beside it where objects lie
@@ -71,12 +71,12 @@ pub record IsTold (st : Setting) (me : ℕ) (n : Node) (i : Input) (t : Told) : 
 -- ## the rule of an input
 
 -- a letter that is bad, or whose Infos clash, is stray
-abbrev pub letter_rule : Setting → ℕ → NodeState → Told → ℕ → Letter → Outcome
+abbrev pub letter_rule : Setting → ℕ → NodeState → Told → ℕ → Letter → Reaction
 letter_rule st me s t from letter =
     if is_bad_letter st me s from letter || t.clash then only answer.Stray
     else take_rule me s t.lies from letter.seq letter.msg
 
-abbrev pub rule : Setting → ℕ → NodeState → Told → Input → Outcome
+abbrev pub rule : Setting → ℕ → NodeState → Told → Input → Reaction
 rule st me s t (input.Do c) = do_rule me s t.full t.lies c
 rule st me s t (input.Serve name) = serve_rule me s t.lies name
 rule st me s t (input.Take from letter) = letter_rule st me s t from letter
@@ -91,7 +91,7 @@ numbered issued stamp (d ∷ drafts) =
     ∷ numbered (put issued d.to (issued d.to + 1)) stamp drafts
 
 -- the letters of an outcome at a stamp
-abbrev pub letters_of : ℕ → NodeState → Outcome → List Sending
+abbrev pub letters_of : ℕ → NodeState → Reaction → List Sending
 letters_of stamp s o = numbered s.issued stamp o.drafts
 
 -- what a letter that is issued changes: the records of the names that it gives, and the count
@@ -99,15 +99,15 @@ abbrev pub sent_changes : Sending → List Change
 sent_changes l = map (λ name. Gives name l.to l.letter.seq) (given l.letter.msg) ++ Issues l.to ∷ []
 
 -- all changes of an outcome at a stamp
-abbrev pub changes_of : ℕ → NodeState → Outcome → List Change
+abbrev pub changes_of : ℕ → NodeState → Reaction → List Change
 changes_of stamp s o = o.changes ++ flat_map sent_changes (letters_of stamp s o)
 
 -- the state after an outcome at a stamp: its changes are made, and the step is counted
-abbrev pub closed : ℕ → NodeState → Outcome → NodeState
+abbrev pub closed : ℕ → NodeState → Reaction → NodeState
 closed stamp s o = with_step (after_changes s (changes_of stamp s o))
 
 -- what a step answers and issues
-abbrev pub done_of : ℕ → NodeState → Outcome → Done
+abbrev pub done_of : ℕ → NodeState → Reaction → Done
 done_of stamp s o = record { answer = o.answer; letters = letters_of stamp s o }
 
 -- ## the places

@@ -77,18 +77,18 @@ pub record IsHandedOver (w : World) (x from to : ℕ) : Type 0 where
   pub moves : IsMoving w x from to letter info fields
 
 -- where parents end: at the owner, or at a node that gave ownership to its parent in a letter in flight
-pub data Ends (w : World) (x n : ℕ) : Type 0 where
-  Owned : (k : Known) → HasOwned w x n k → Ends w x n
-  Gave : (to : ℕ) (k : Known) → HasParent w x n to k → IsHandedOver w x n to → Ends w x n
+pub data ParentChainEnd (w : World) (x n : ℕ) : Type 0 where
+  Owned : (k : Known) → HasOwned w x n k → ParentChainEnd w x n
+  Gave : (to : ℕ) (k : Known) → HasParent w x n to k → IsHandedOver w x n to → ParentChainEnd w x n
 
 -- from node n, through parents, to where they end, in so many steps
-pub data Leads (w : World) (x : ℕ) : ℕ → ℕ → Type 0 where
-  Here : {n : ℕ} → Ends w x n → Leads w x n 0
-  On : {n parent steps : ℕ} (k : Known) → HasParent w x n parent k → Leads w x parent steps → Leads w x n (suc steps)
+pub data ParentChain (w : World) (x : ℕ) : ℕ → ℕ → Type 0 where
+  Here : {n : ℕ} → ParentChainEnd w x n → ParentChain w x n 0
+  On : {n parent steps : ℕ} (k : Known) → HasParent w x n parent k → ParentChain w x parent steps → ParentChain w x n (suc steps)
 
 -- the parents of x lead from a node to the owner, or to who gave ownership, in fewer steps than there are nodes
 abbrev pub HasChain : Setting → World → ℕ → ℕ → Type 0
-HasChain st w x n = (steps : ℕ) × (steps < st.nodes) × Leads w x n steps
+HasChain st w x n = (steps : ℕ) × (steps < st.nodes) × ParentChain w x n steps
 
 -- ## what holds of every name in every legal history, by the laws of stores
 
@@ -145,7 +145,7 @@ EachParentAnswers st w =
 -- ## rest
 
 -- nothing of a name is held, wanted or ready at a node
-pub record IsIdle (k : Known) : Type 0 where
+pub record IsUnclaimed (k : Known) : Type 0 where
   pub held : k.part.held ≡ None
   pub want : k.part.want ≡ None
   pub ready : k.part.ready ≡ false
@@ -153,7 +153,7 @@ pub record IsIdle (k : Known) : Type 0 where
 -- no letter is in flight, and no node holds or wants a token
 pub record IsAtRest (st : Setting) (w : World) : Type 0 where
   pub no_letter : (n m : ℕ) → n < st.nodes → m < st.nodes → w.channel n m ≡ []
-  pub no_token : (n x : ℕ) (k : Known) → n < st.nodes → (w.state n).known x ≡ Some k → IsIdle k
+  pub no_token : (n x : ℕ) (k : Known) → n < st.nodes → (w.state n).known x ≡ Some k → IsUnclaimed k
 
 -- ## reached objects
 

@@ -21,7 +21,7 @@ use Rattle.bmx_replica.proofs.Chained.{map_some}
 use Rattle.bmx_replica.proofs.Standing.{found_at}
 use Rattle.bmx_replica.proofs.Fielded.{field_of-there, field_of-found}
 use Rattle.std.proofs.lemmas.Nat.{pow_pos}
-use Rattle.bmx_segment.specs.Updates.{Puts}
+use Rattle.bmx_types.specs.Updates.{Puts}
 use Rattle.bmx_replica.specs.Inside.Replicas.{IsFound, OthersStay}
 use Rattle.bmx_replica.specs.declared.words.Word.{Word}
 use Rattle.bmx_replica.specs.declared.directory.Slot.{Slot}

@@ -9,7 +9,7 @@ use Rattle.bmx_types.specs.declared.values.Val.{Val}
 use Rattle.bmx_types.specs.declared.values.Val.TheVariants as val
 use Rattle.bmx_types.specs.declared.addresses.Place.{Place}
 use Rattle.bmx_types.specs.declared.addresses.Info.{Info}
-use Rattle.bmx_segment.specs.Updates.{Puts}
+use Rattle.bmx_types.specs.Updates.{Puts}
 use Rattle.bmx_segment.specs.Headers.{header_words, kind_of, kind_number}
 use Rattle.bmx_segment.specs.Blocks.{Block}
 use Rattle.bmx_segment.specs.Stores.{block_at, header_at, word_at, Sets, Writes, Lays}

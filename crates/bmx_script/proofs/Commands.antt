@@ -9,7 +9,7 @@ use Rattle.bmx_numerals.specs.declared.words.Misfit.{Misfit}
 use Rattle.bmx_numerals.specs.Numerals.{numeral, signed_numeral}
 use Rattle.bmx_types.specs.Integers.{is_i64}
 use Rattle.bmx_numerals.specs.Words.{read_below, read_integer, read_both}
-use Rattle.bmx_script.specs.declared.knowledge.Known.{Known}
+use Rattle.bmx_script.specs.declared.knowledge.Knowledge.{Knowledge}
 use Rattle.bmx_script.specs.Spelling.{word_of, register_word, operand_word, verb_word, operand_words, command_words}
 use Rattle.bmx_script.specs.Grammar.{is_source, is_built_command, same_word, named_by, named_in, fits_operand, fits_command}
 use Rattle.bmx_script.specs.Inside.Distinct.{AreDistinct}
@@ -21,7 +21,7 @@ use Rattle.bmx_script.proofs.Operands.{both, words_both, one_word, choose_form, 
 
 -- ## a command that is spelled so
 
-pub form_command : (k : Known) (ws : List (List ℕ)) (c : Command) → is_built_command c ≡ true → are_words ws (named_in c) ≡ true → is_form (read_command k (verb_word c) (operand_words ws c)) ≡ false
+pub form_command : (k : Knowledge) (ws : List (List ℕ)) (c : Command) → is_built_command c ≡ true → are_words ws (named_in c) ≡ true → is_form (read_command k (verb_word c) (operand_words ws c)) ≡ false
 form_command k ws (command.New r b s) built named = form_map _ _ (form_and _ _ (form_and _ _ (form_register r) (form_bunch k (word_of ws b) (the_word ws b named))) (form_below 33 s))
 form_command k ws (command.Copy r v) built named = form_map _ _ (form_and _ _ (form_register r) (form_value k ws v named))
 form_command k ws (command.Drop r) built named = form_map _ _ (form_register r)
@@ -38,7 +38,7 @@ form_command k ws (command.Same l r) built named =
     let words : (are_words ws (named_by l) ≡ true) × (are_words ws (named_by r) ≡ true) = both_words ws (named_by l) (named_by r) named in
     form_map _ _ (form_and _ _ (form_value k ws l words.0) (form_value k ws r words.1))
 
-pub good_command : (k : Known) (c : Command) → AreDistinct k.bunches → is_built_command c ≡ true → are_words k.bunches (named_in c) ≡ true → fits_command (length k.bunches) c ≡ true
+pub good_command : (k : Knowledge) (c : Command) → AreDistinct k.bunches → is_built_command c ≡ true → are_words k.bunches (named_in c) ≡ true → fits_command (length k.bunches) c ≡ true
     → read_command k (verb_word c) (operand_words k.bunches c) ≡ Ok c
 good_command k (command.New r b s) distinct built named fits =
     let first : (nat_lt r 16 ≡ true) × ((nat_lt b (length k.bunches) && nat_le s 32) ≡ true) = and_parts (nat_lt r 16) (nat_lt b (length k.bunches) && nat_le s 32) fits in
@@ -84,7 +84,7 @@ pub record HasCommand (verb : List ℕ) (operands : List (List ℕ)) : Type 0 wh
   pub words_are : command_words bunches command ≡ verb ∷ operands
 
 -- a command on a source alone
-on_form : (k : Known) (verb a : List ℕ) (make : Operand → Command) → ((o : Operand) → is_built_command (make o) ≡ is_source o) → ((o : Operand) → named_in (make o) ≡ named_by o)
+on_form : (k : Knowledge) (verb a : List ℕ) (make : Operand → Command) → ((o : Operand) → is_built_command (make o) ≡ is_source o) → ((o : Operand) → named_in (make o) ≡ named_by o)
     → ((ws : List (List ℕ)) (o : Operand) → command_words ws (make o) ≡ verb ∷ operand_word ws o ∷ []) → is_form (read_source k a) ≡ false → HasCommand verb (a ∷ [])
 on_form k verb a make built named spelled f =
     let s : (o : Operand) × IsSource (behind a ∷ []) a o = source_form k (behind a ∷ []) 0 a refl f in
@@ -96,7 +96,7 @@ on_form k verb a make built named spelled f =
       words_are = spelled (behind a ∷ []) s.0 ∙ ap (λ (w : List ℕ). verb ∷ w ∷ []) s.1.is.word;
     }
 
-one_form : (k : Known) (verb a : List ℕ) → is_form (of_one k verb a) ≡ false → HasCommand verb (a ∷ [])
+one_form : (k : Knowledge) (verb a : List ℕ) → is_form (of_one k verb a) ≡ false → HasCommand verb (a ∷ [])
 one_form k verb a e = choose_form (same_word verb (codes "drop")) _ _ e
     (λ v f.
     let r : (r : ℕ) × (a ≡ register_word r) = register_form a (map_form _ _ f) in
@@ -109,7 +109,7 @@ one_form k verb a e = choose_form (same_word verb (codes "drop")) _ _ e
     (λ v f. on_form k verb a (λ o. command.Done o) (λ o. refl) (λ o. refl) (λ ws o. cc (same_word-true verb (codes "done") v)) (map_form _ _ f))
     (λ _ f. cc))))
 
-two_form : (k : Known) (verb a b : List ℕ) → is_form (of_two k verb a b) ≡ false → HasCommand verb (a ∷ b ∷ [])
+two_form : (k : Knowledge) (verb a b : List ℕ) → is_form (of_two k verb a b) ≡ false → HasCommand verb (a ∷ b ∷ [])
 two_form k verb a b e = choose_form (same_word verb (codes "copy")) _ _ e
     (λ v f.
     let parts : (is_form (read_register a) ≡ false) × (is_form (read_value k b) ≡ false) = and_form _ _ (map_form _ _ f) in
@@ -134,7 +134,7 @@ two_form k verb a b e = choose_form (same_word verb (codes "copy")) _ _ e
     record { bunches = ws; command = command.Same l.0 r.0; built = refl; named = words_both ws (named_by l.0) (named_by r.0) l.1.named r.1.named; words_are = cc (same_word-true verb (codes "same") v, left, right) })
     (λ _ f. cc)))
 
-three_form : (k : Known) (verb a b c : List ℕ) → is_form (of_three k verb a b c) ≡ false → HasCommand verb (a ∷ b ∷ c ∷ [])
+three_form : (k : Knowledge) (verb a b c : List ℕ) → is_form (of_three k verb a b c) ≡ false → HasCommand verb (a ∷ b ∷ c ∷ [])
 three_form k verb a b c e = choose_form (same_word verb (codes "new")) _ _ e
     (λ v f.
     let parts : (is_form (read_both (read_register a) (read_bunch k b)) ≡ false) × (is_form (read_below 33 c) ≡ false) = and_form _ _ (map_form _ _ f) in
@@ -172,7 +172,7 @@ three_form k verb a b c e = choose_form (same_word verb (codes "new")) _ _ e
     record { bunches = ws; command = command.Get r.0 p.0 p.1; built = p.2.source.source; named = p.2.source.is.named; words_are = cc (same_word-true verb (codes "get") v, r.1, on, index) })
     (λ _ f. cc))))
 
-pub command_form : (k : Known) (verb : List ℕ) (operands : List (List ℕ)) → is_form (read_command k verb operands) ≡ false → HasCommand verb operands
+pub command_form : (k : Knowledge) (verb : List ℕ) (operands : List (List ℕ)) → is_form (read_command k verb operands) ≡ false → HasCommand verb operands
 command_form k verb [] e = cc
 command_form k verb (a ∷ []) e = one_form k verb a e
 command_form k verb (a ∷ b ∷ []) e = two_form k verb a b e
@@ -181,20 +181,20 @@ command_form k verb (a ∷ b ∷ c ∷ d ∷ more) e = cc
 
 -- ## what is known of a command that is read
 
-pub record IsCommand (k : Known) (verb : List ℕ) (operands : List (List ℕ)) (c : Command) : Type 0 where
+pub record IsCommand (k : Knowledge) (verb : List ℕ) (operands : List (List ℕ)) (c : Command) : Type 0 where
   pub built : is_built_command c ≡ true
   pub named : are_words k.bunches (named_in c) ≡ true
   pub words_are : command_words k.bunches c ≡ verb ∷ operands
   pub fits : fits_command (length k.bunches) c ≡ true
 
 -- a command that was made of a field
-made_good : {A : Type 0} (k : Known) (verb : List ℕ) (operands : List (List ℕ)) (make : A → Command) (f : Result A Misfit) (c : Command) → map_read make f ≡ Ok c
+made_good : {A : Type 0} (k : Knowledge) (verb : List ℕ) (operands : List (List ℕ)) (make : A → Command) (f : Result A Misfit) (c : Command) → map_read make f ≡ Ok c
     → ((x : A) → f ≡ Ok x → IsCommand k verb operands (make x)) → IsCommand k verb operands c
 made_good {A} k verb operands make f c e then =
     let found : (x : A) × (f ≡ Ok x) × (make x ≡ c) = map_good make f c e in
     subst (λ (d : Command). IsCommand k verb operands d) found.2 (then found.0 found.1)
 
-on_good : (k : Known) (verb a : List ℕ) (make : Operand → Command) (c : Command) → ((o : Operand) → is_built_command (make o) ≡ is_source o) → ((o : Operand) → named_in (make o) ≡ named_by o)
+on_good : (k : Knowledge) (verb a : List ℕ) (make : Operand → Command) (c : Command) → ((o : Operand) → is_built_command (make o) ≡ is_source o) → ((o : Operand) → named_in (make o) ≡ named_by o)
     → ((o : Operand) → command_words k.bunches (make o) ≡ verb ∷ operand_word k.bunches o ∷ []) → ((o : Operand) → fits_command (length k.bunches) (make o) ≡ fits_operand (length k.bunches) o)
     → map_read make (read_source k a) ≡ Ok c → IsCommand k verb (a ∷ []) c
 on_good k verb a make c built named spelled fits f = made_good k verb (a ∷ []) make (read_source k a) c f
@@ -207,7 +207,7 @@ on_good k verb a make c built named spelled fits f = made_good k verb (a ∷ [])
       fits = fits o ∙ s.1;
     })
 
-one_good : (k : Known) (verb a : List ℕ) (c : Command) → of_one k verb a ≡ Ok c → IsCommand k verb (a ∷ []) c
+one_good : (k : Knowledge) (verb a : List ℕ) (c : Command) → of_one k verb a ≡ Ok c → IsCommand k verb (a ∷ []) c
 one_good k verb a c e = split_if (same_word verb (codes "drop")) _ _ (Ok c) e
     (λ v f. made_good k verb (a ∷ []) _ _ c f (λ r g.
     let is : (a ≡ register_word r) × (nat_lt r 16 ≡ true) = register_good a r g in
@@ -220,7 +220,7 @@ one_good k verb a c e = split_if (same_word verb (codes "drop")) _ _ (Ok c) e
     (λ v f. on_good k verb a (λ o. command.Done o) c (λ o. refl) (λ o. refl) (λ o. cc (same_word-true verb (codes "done") v)) (λ o. refl) f)
     (λ _ f. cc))))
 
-two_good : (k : Known) (verb a b : List ℕ) (c : Command) → of_two k verb a b ≡ Ok c → IsCommand k verb (a ∷ b ∷ []) c
+two_good : (k : Knowledge) (verb a b : List ℕ) (c : Command) → of_two k verb a b ≡ Ok c → IsCommand k verb (a ∷ b ∷ []) c
 two_good k verb a b c e = split_if (same_word verb (codes "copy")) _ _ (Ok c) e
     (λ v f. made_good k verb (a ∷ b ∷ []) _ _ c f (λ p g.
     let parts : (read_register a ≡ Ok p.0) × (read_value k b ≡ Ok p.1) = and_good _ _ p g in
@@ -244,7 +244,7 @@ two_good k verb a b c e = split_if (same_word verb (codes "copy")) _ _ (Ok c) e
     record { built = refl; named = words_both k.bunches (named_by p.0) (named_by p.1) l.0.named r.0.named; words_are = cc (same_word-true verb (codes "same") v, left, right); fits = both l.1 r.1 }))
     (λ _ f. cc)))
 
-three_good : (k : Known) (verb a b c : List ℕ) (d : Command) → of_three k verb a b c ≡ Ok d → IsCommand k verb (a ∷ b ∷ c ∷ []) d
+three_good : (k : Knowledge) (verb a b c : List ℕ) (d : Command) → of_three k verb a b c ≡ Ok d → IsCommand k verb (a ∷ b ∷ c ∷ []) d
 three_good k verb a b c d e = split_if (same_word verb (codes "new")) _ _ (Ok d) e
     (λ v f. made_good k verb (a ∷ b ∷ c ∷ []) _ _ d f (λ p g.
     let parts : (read_both (read_register a) (read_bunch k b) ≡ Ok p.0) × (read_below 33 c ≡ Ok p.1) = and_good _ _ p g in
@@ -281,7 +281,7 @@ three_good k verb a b c d e = split_if (same_word verb (codes "new")) _ _ (Ok d)
     record { built = is.place.source.source; named = is.place.source.is.named; words_are = cc (same_word-true verb (codes "get") v, r.0, on, index); fits = both r.1 (both is.fits is.below) }))
     (λ _ f. cc))))
 
-pub command_good : (k : Known) (verb : List ℕ) (operands : List (List ℕ)) (c : Command) → read_command k verb operands ≡ Ok c → IsCommand k verb operands c
+pub command_good : (k : Knowledge) (verb : List ℕ) (operands : List (List ℕ)) (c : Command) → read_command k verb operands ≡ Ok c → IsCommand k verb operands c
 command_good k verb [] d e = cc
 command_good k verb (a ∷ []) d e = one_good k verb a d e
 command_good k verb (a ∷ b ∷ []) d e = two_good k verb a b d e

@@ -10,7 +10,7 @@ use Rattle.bmx_numerals.specs.declared.words.Misfit.{Misfit}
 use Rattle.bmx_numerals.specs.declared.words.Misfit.TheVariants.{Form, Range}
 use Rattle.bmx_numerals.specs.Numerals.{numeral}
 use Rattle.bmx_numerals.specs.Words.{read_below, read_within}
-use Rattle.bmx_script.specs.declared.knowledge.Known.{Known}
+use Rattle.bmx_script.specs.declared.knowledge.Knowledge.{Knowledge}
 use Rattle.bmx_script.specs.declared.lines.LineKind.{LineKind}
 use Rattle.bmx_script.specs.declared.lines.LineKind.TheVariants as line
 use Rattle.bmx_script.specs.Spelling.{verb_word, operand_words, command_words, line_words, spelling}
@@ -38,16 +38,16 @@ some_operands ws (command.Get r on i) = omega arith
 some_operands ws (command.Show on i) = omega arith
 some_operands ws (command.Same l r) = omega arith
 
-node_words : (k : Known) (node verb : List ℕ) (operands : List (List ℕ)) → 0 < length operands → may_follow k.section 5 ≡ true → line_of k (node ∷ verb ∷ operands) ≡ node_line k node verb operands
+node_words : (k : Knowledge) (node verb : List ℕ) (operands : List (List ℕ)) → 0 < length operands → may_follow k.section 5 ≡ true → line_of k (node ∷ verb ∷ operands) ≡ node_line k node verb operands
 node_words k node verb [] some stands = absurd (omega arith)
 node_words k node verb (a ∷ operands) some stands = if_true (may_follow k.section 5) (node_line k node verb (a ∷ operands)) (Err Form) (node_line k node verb (a ∷ operands)) stands refl
 
-form_do : (k : Known) (ws : List (List ℕ)) (node : ℕ) (c : Command) → may_follow k.section 5 ≡ true → is_built_command c ≡ true → are_words ws (named_in c) ≡ true → is_form (line_of k (numeral node ∷ command_words ws c)) ≡ false
+form_do : (k : Knowledge) (ws : List (List ℕ)) (node : ℕ) (c : Command) → may_follow k.section 5 ≡ true → is_built_command c ≡ true → are_words ws (named_in c) ≡ true → is_form (line_of k (numeral node ∷ command_words ws c)) ≡ false
 form_do k ws node c stands built named =
     ap is_form (node_words k (numeral node) (verb_word c) (operand_words ws c) (some_operands ws c) stands)
     ∙ form_map _ _ (form_and _ _ (form_below k.nodes node) (form_command k ws c built named))
 
-good_do : (k : Known) (node : ℕ) (c : Command) → AreDistinct k.bunches → may_follow k.section 5 ≡ true → is_built_command c ≡ true → are_words k.bunches (named_in c) ≡ true
+good_do : (k : Knowledge) (node : ℕ) (c : Command) → AreDistinct k.bunches → may_follow k.section 5 ≡ true → is_built_command c ≡ true → are_words k.bunches (named_in c) ≡ true
     → (nat_lt node k.nodes && fits_command (length k.bunches) c) ≡ true → line_of k (numeral node ∷ command_words k.bunches c) ≡ Ok (line.Do node c)
 good_do k node c distinct stands built named fits =
     let parts : (nat_lt node k.nodes ≡ true) × (fits_command (length k.bunches) c ≡ true) = and_parts (nat_lt node k.nodes) (fits_command (length k.bunches) c) fits in
@@ -58,7 +58,7 @@ no_form_limit : (o : Option ℕ) → is_form (first_limit o) ≡ false
 no_form_limit None = refl
 no_form_limit (Some n) = refl
 
-form_declared : (k : Known) (w : List ℕ) → is_form (declared_bunch k w) ≡ false
+form_declared : (k : Knowledge) (w : List ℕ) → is_form (declared_bunch k w) ≡ false
 form_declared k w = either (list_any (same_word w) k.bunches || not (nat_lt (length k.bunches) 16))
   where
     either : (b : Bool) → is_form (cond b (Err Range) (Ok (line.Bunch w None))) ≡ false
@@ -72,7 +72,7 @@ is_form_if b f g h e = ap is_form (if_true b f g f h refl) ∙ e
 is_good_if : (b : Bool) (f g : Result LineKind Misfit) (x : LineKind) → b ≡ true → f ≡ Ok x → cond b f g ≡ Ok x
 is_good_if b f g x h e = if_true b f g (Ok x) h e
 
-form_line : (k : Known) (ws : List (List ℕ)) (what : LineKind) → may_follow k.section (section_of what) ≡ true → is_built what ≡ true → are_words ws (named_on what) ≡ true → is_form (line_of k (line_words ws what)) ≡ false
+form_line : (k : Knowledge) (ws : List (List ℕ)) (what : LineKind) → may_follow k.section (section_of what) ≡ true → is_built what ≡ true → are_words ws (named_on what) ≡ true → is_form (line_of k (line_words ws what)) ≡ false
 form_line k ws line.Version stands built named = is_form_if (may_follow k.section 1) _ _ stands refl
 form_line k ws (line.Nodes count) stands built named = is_form_if (may_follow k.section 2) _ _ stands (form_map _ _ (form_within 1 1 count))
 form_line k ws (line.Bunch w None) stands built named = is_form_if (may_follow k.section 3 && is_bunch_word w) _ _ (both stands built) (form_declared k w)
@@ -99,7 +99,7 @@ not_true : (b : Bool) → b ≡ true → not b ≡ false
 not_true true h = refl
 not_true false h = cc
 
-good_line : (k : Known) (what : LineKind) → AreDistinct k.bunches → may_follow k.section (section_of what) ≡ true → is_built what ≡ true → are_words k.bunches (named_on what) ≡ true
+good_line : (k : Knowledge) (what : LineKind) → AreDistinct k.bunches → may_follow k.section (section_of what) ≡ true → is_built what ≡ true → are_words k.bunches (named_on what) ≡ true
     → in_range k what ≡ true → line_of k (line_words k.bunches what) ≡ Ok what
 good_line k line.Version distinct stands built named range = is_good_if (may_follow k.section 1) _ _ _ stands refl
 good_line k (line.Nodes count) distinct stands built named range = is_good_if (may_follow k.section 2) _ _ _ stands (good_map _ _ count (good_within 1 1 count (one_within count range)))
@@ -126,7 +126,7 @@ good_line k line.Settle distinct stands built named range = cc
 -- ## words with the form of a line
 
 -- words that some line has that may stand here, and which bunch words it goes by
-record HasWords (k : Known) (words : List (List ℕ)) : Type 0 where
+record HasWords (k : Knowledge) (words : List (List ℕ)) : Type 0 where
   bunches : List (List ℕ)
   what : LineKind
   stands : may_follow k.section (section_of what) ≡ true
@@ -134,7 +134,7 @@ record HasWords (k : Known) (words : List (List ℕ)) : Type 0 where
   named : are_words bunches (named_on what) ≡ true
   words_are : line_words bunches what ≡ words
 
-node_form : (k : Known) (node verb : List ℕ) (operands : List (List ℕ)) → may_follow k.section 5 ≡ true → is_form (node_line k node verb operands) ≡ false → HasWords k (node ∷ verb ∷ operands)
+node_form : (k : Knowledge) (node verb : List ℕ) (operands : List (List ℕ)) → may_follow k.section 5 ≡ true → is_form (node_line k node verb operands) ≡ false → HasWords k (node ∷ verb ∷ operands)
 node_form k node verb operands stands e =
     let parts : (is_form (read_below k.nodes node) ≡ false) × (is_form (read_command k verb operands) ≡ false) = and_form _ _ (map_form _ _ e) in
     let n : (n : ℕ) × (node ≡ numeral n) = below_form k.nodes node parts.0 in
@@ -142,7 +142,7 @@ node_form k node verb operands stands e =
     let words : command_words c.bunches c.command ≡ verb ∷ operands = c.words_are in
     record { bunches = c.bunches; what = line.Do n.0 c.command; stands = stands; built = c.built; named = c.named; words_are = cc (n.1, words) }
 
-setting_form : (k : Known) (key word : List ℕ) → is_form (setting_line k key word) ≡ false → HasWords k (key ∷ word ∷ [])
+setting_form : (k : Knowledge) (key word : List ℕ) → is_form (setting_line k key word) ≡ false → HasWords k (key ∷ word ∷ [])
 setting_form k key word e = choose_form (same_word key (codes "bmx") && may_follow k.section 1) _ _ e
     (λ h f.
     let parts : (same_word key (codes "bmx") ≡ true) × (may_follow k.section 1 ≡ true) = and_parts (same_word key (codes "bmx")) (may_follow k.section 1) h in
@@ -162,20 +162,20 @@ setting_form k key word e = choose_form (same_word key (codes "bmx") && may_foll
     (λ _ f. cc)))
 
 -- a key and a word in the form of a bunch line
-bunch_parts : (k : Known) (key word : List ℕ) → (same_word key (codes "bunch") && may_follow k.section 3 && is_bunch_word word) ≡ true → (key ≡ codes "bunch") × (may_follow k.section 3 ≡ true) × (is_bunch_word word ≡ true)
+bunch_parts : (k : Knowledge) (key word : List ℕ) → (same_word key (codes "bunch") && may_follow k.section 3 && is_bunch_word word) ≡ true → (key ≡ codes "bunch") × (may_follow k.section 3 ≡ true) × (is_bunch_word word ≡ true)
 bunch_parts k key word h =
     let parts : ((same_word key (codes "bunch") && may_follow k.section 3) ≡ true) × (is_bunch_word word ≡ true) = and_parts (same_word key (codes "bunch") && may_follow k.section 3) (is_bunch_word word) h in
     let first : (same_word key (codes "bunch") ≡ true) × (may_follow k.section 3 ≡ true) = and_parts (same_word key (codes "bunch")) (may_follow k.section 3) parts.0 in
     (same_word-true key (codes "bunch") first.0, first.1, parts.1)
 
-head_form : (k : Known) (key word : List ℕ) → is_form (head_line k key word) ≡ false → HasWords k (key ∷ word ∷ [])
+head_form : (k : Knowledge) (key word : List ℕ) → is_form (head_line k key word) ≡ false → HasWords k (key ∷ word ∷ [])
 head_form k key word e = choose_form (same_word key (codes "bunch") && may_follow k.section 3 && is_bunch_word word) _ _ e
     (λ h f.
     let parts : (key ≡ codes "bunch") × (may_follow k.section 3 ≡ true) × (is_bunch_word word ≡ true) = bunch_parts k key word h in
     record { bunches = []; what = line.Bunch word None; stands = parts.1; built = parts.2; named = refl; words_are = cc (parts.0) })
     (λ _ g. setting_form k key word g)
 
-words_form : (k : Known) (words : List (List ℕ)) → is_form (line_of k words) ≡ false → HasWords k words
+words_form : (k : Knowledge) (words : List (List ℕ)) → is_form (line_of k words) ≡ false → HasWords k words
 words_form k [] e = cc
 words_form k (a ∷ []) e = cc
 words_form k (a ∷ b ∷ []) e = head_form k a b e
@@ -185,7 +185,7 @@ words_form k (a ∷ b ∷ c ∷ words) e =
 
 -- ## what is known of a line that is read
 
-record IsLine (k : Known) (words : List (List ℕ)) (what : LineKind) : Type 0 where
+record IsLine (k : Knowledge) (words : List (List ℕ)) (what : LineKind) : Type 0 where
   stands : may_follow k.section (section_of what) ≡ true
   built : is_built what ≡ true
   named : are_words k.bunches (named_on what) ≡ true
@@ -193,13 +193,13 @@ record IsLine (k : Known) (words : List (List ℕ)) (what : LineKind) : Type 0 w
   range : in_range k what ≡ true
 
 -- a line that was made of a field
-made_line : {A : Type 0} (k : Known) (words : List (List ℕ)) (make : A → LineKind) (f : Result A Misfit) (what : LineKind) → map_read make f ≡ Ok what
+made_line : {A : Type 0} (k : Knowledge) (words : List (List ℕ)) (make : A → LineKind) (f : Result A Misfit) (what : LineKind) → map_read make f ≡ Ok what
     → ((x : A) → f ≡ Ok x → IsLine k words (make x)) → IsLine k words what
 made_line {A} k words make f what e then =
     let found : (x : A) × (f ≡ Ok x) × (make x ≡ what) = map_good make f what e in
     subst (λ (l : LineKind). IsLine k words l) found.2 (then found.0 found.1)
 
-node_good : (k : Known) (node verb : List ℕ) (operands : List (List ℕ)) (what : LineKind) → may_follow k.section 5 ≡ true → node_line k node verb operands ≡ Ok what → IsLine k (node ∷ verb ∷ operands) what
+node_good : (k : Knowledge) (node verb : List ℕ) (operands : List (List ℕ)) (what : LineKind) → may_follow k.section 5 ≡ true → node_line k node verb operands ≡ Ok what → IsLine k (node ∷ verb ∷ operands) what
 node_good k node verb operands what stands e = made_line k (node ∷ verb ∷ operands) _ _ what e (λ p f.
     let parts : (read_below k.nodes node ≡ Ok p.0) × (read_command k verb operands ≡ Ok p.1) = and_good _ _ p f in
     let n : (node ≡ numeral p.0) × (nat_lt p.0 k.nodes ≡ true) = below_good k.nodes node p.0 parts.0 in
@@ -216,7 +216,7 @@ limit_good : (o : Option ℕ) (u : Unit {0}) → first_limit o ≡ Ok u → is_n
 limit_good None u e = refl
 limit_good (Some n) u e = cc
 
-setting_good : (k : Known) (key word : List ℕ) (what : LineKind) → setting_line k key word ≡ Ok what → IsLine k (key ∷ word ∷ []) what
+setting_good : (k : Knowledge) (key word : List ℕ) (what : LineKind) → setting_line k key word ≡ Ok what → IsLine k (key ∷ word ∷ []) what
 setting_good k key word what e = split_if (same_word key (codes "bmx") && may_follow k.section 1) _ _ (Ok what) e
     (λ h f.
     let parts : (same_word key (codes "bmx") ≡ true) × (may_follow k.section 1 ≡ true) = and_parts (same_word key (codes "bmx")) (may_follow k.section 1) h in
@@ -243,7 +243,7 @@ true_from_not_false : (b : Bool) → not b ≡ false → b ≡ true
 true_from_not_false true h = refl
 true_from_not_false false h = cc
 
-head_good : (k : Known) (key word : List ℕ) (what : LineKind) → head_line k key word ≡ Ok what → IsLine k (key ∷ word ∷ []) what
+head_good : (k : Knowledge) (key word : List ℕ) (what : LineKind) → head_line k key word ≡ Ok what → IsLine k (key ∷ word ∷ []) what
 head_good k key word what e = split_if (same_word key (codes "bunch") && may_follow k.section 3 && is_bunch_word word) _ _ (Ok what) e
     (λ h f.
     let parts : (key ≡ codes "bunch") × (may_follow k.section 3 ≡ true) × (is_bunch_word word ≡ true) = bunch_parts k key word h in
@@ -262,7 +262,7 @@ head_good k key word what e = split_if (same_word key (codes "bunch") && may_fol
     })))
     (λ _ g. setting_good k key word what g)
 
-words_good : (k : Known) (words : List (List ℕ)) (what : LineKind) → line_of k words ≡ Ok what → IsLine k words what
+words_good : (k : Knowledge) (words : List (List ℕ)) (what : LineKind) → line_of k words ≡ Ok what → IsLine k words what
 words_good k [] what e = cc
 words_good k (a ∷ []) what e = cc
 words_good k (a ∷ b ∷ []) what e = head_good k a b what e
@@ -273,30 +273,30 @@ words_good k (a ∷ b ∷ c ∷ words) what e =
 -- ## the answer for a line
 
 -- what the grammar says of a text, by the field that was read from it
-abbrev pub Tells : Known → List ℕ → Result LineKind Misfit → Type 0
+abbrev pub Tells : Knowledge → List ℕ → Result LineKind Misfit → Type 0
 Tells k text (Err Form) = ¬ HasForm k text
 Tells k text (Err Range) = HasForm k text × ((what : LineKind) → ¬ IsGood k what text)
 Tells k text (Ok what) = IsGood k what text
 
-its_words : (k : Known) (ws : List (List ℕ)) (what : LineKind) (text : List ℕ) → IsSpelled k ws what text → slice_split is_space text ≡ line_words ws what
+its_words : (k : Knowledge) (ws : List (List ℕ)) (what : LineKind) (text : List ℕ) → IsSpelled k ws what text → slice_split is_space text ≡ line_words ws what
 its_words k ws what text s = ap (slice_split is_space) (sym s.spelled) ∙ plain_line ws what s.built s.words
 
-spelled_is_read : (k : Known) (ws : List (List ℕ)) (what : LineKind) (text : List ℕ) → IsSpelled k ws what text → is_form (read_line k text) ≡ false
+spelled_is_read : (k : Knowledge) (ws : List (List ℕ)) (what : LineKind) (text : List ℕ) → IsSpelled k ws what text → is_form (read_line k text) ≡ false
 spelled_is_read k ws what text s = ap (λ x. is_form (line_of k x)) (its_words k ws what text s) ∙ form_line k ws what s.stands s.built s.words
 
-pub good_is_read : (k : Known) (what : LineKind) (text : List ℕ) → AreDistinct k.bunches → IsGood k what text → read_line k text ≡ Ok what
+pub good_is_read : (k : Knowledge) (what : LineKind) (text : List ℕ) → AreDistinct k.bunches → IsGood k what text → read_line k text ≡ Ok what
 good_is_read k what text distinct g =
     ap (λ x. line_of k x) (its_words k k.bunches what text g.form) ∙ good_line k what distinct g.form.stands g.form.built g.form.words g.range
 
-joined : (k : Known) (ws : List (List ℕ)) (what : LineKind) (text : List ℕ) → line_words ws what ≡ slice_split is_space text → spelling ws what ≡ text
+joined : (k : Knowledge) (ws : List (List ℕ)) (what : LineKind) (text : List ℕ) → line_words ws what ≡ slice_split is_space text → spelling ws what ≡ text
 joined k ws what text e = ap (join_with_byte 32) e ∙ join_with_byte-slice_split 32 text
 
-read_has_form : (k : Known) (text : List ℕ) → is_form (read_line k text) ≡ false → HasForm k text
+read_has_form : (k : Knowledge) (text : List ℕ) → is_form (read_line k text) ≡ false → HasForm k text
 read_has_form k text e =
     let found : HasWords k (slice_split is_space text) = words_form k (slice_split is_space text) e in
     (found.bunches, found.what, record { stands = found.stands; built = found.built; words = found.named; spelled = joined k found.bunches found.what text found.words_are })
 
-read_is_good : (k : Known) (text : List ℕ) (what : LineKind) → read_line k text ≡ Ok what → IsGood k what text
+read_is_good : (k : Knowledge) (text : List ℕ) (what : LineKind) → read_line k text ≡ Ok what → IsGood k what text
 read_is_good k text what e =
     let found : IsLine k (slice_split is_space text) what = words_good k (slice_split is_space text) what e in
     record {
@@ -304,11 +304,11 @@ read_is_good k text what e =
       range = found.range;
     }
 
-tells_by : (k : Known) (text : List ℕ) (f : Result LineKind Misfit) → AreDistinct k.bunches → read_line k text ≡ f → Tells k text f
+tells_by : (k : Knowledge) (text : List ℕ) (f : Result LineKind Misfit) → AreDistinct k.bunches → read_line k text ≡ f → Tells k text f
 tells_by k text (Err Form) distinct e = λ h. let bad : is_form (read_line k text) ≡ false = spelled_is_read k h.0 h.1 text h.2 in let form : true ≡ false = sym (ap is_form e) ∙ bad in cc
 tells_by k text (Err Range) distinct e = (read_has_form k text (ap is_form e), λ what g. let good : (Err Range) ≡ Ok what = sym e ∙ good_is_read k what text distinct g in cc)
 tells_by k text (Ok what) distinct e = read_is_good k text what e
 
 -- what is read of a line is what the grammar says of it
-pub exact : (k : Known) (text : List ℕ) → AreDistinct k.bunches → Tells k text (read_line k text)
+pub exact : (k : Knowledge) (text : List ℕ) → AreDistinct k.bunches → Tells k text (read_line k text)
 exact k text distinct = tells_by k text (read_line k text) distinct refl

@@ -3,7 +3,7 @@ use Rattle.std.proofs.Common.{◌≡◌, ℕ, ◌+◌, ◌<◌, ◌≤◌, ◌==
 use Rattle.std.specs.Prelude.{◌⊎◌}
 use Rattle.std.proofs.lemmas.Bool.{and_parts, or_cases, eqb-true, ltb-true, ltb-false, leb-true, cases_lt, cond_both}
 use Rattle.std.proofs.Math.ListN.{length-append}
-use Rattle.bmx_script.specs.declared.knowledge.Known.{Known}
+use Rattle.bmx_script.specs.declared.knowledge.Knowledge.{Knowledge}
 use Rattle.bmx_script.specs.declared.lines.Line.{Line}
 use Rattle.bmx_script.specs.declared.lines.LineKind.{LineKind}
 use Rattle.bmx_script.specs.declared.lines.LineKind.TheVariants as line
@@ -17,7 +17,7 @@ record HasLimit (o : Option ℕ) : Type 0 where
   few : limit_in o ≤ 65535
 
 -- behind the nodes their number is known, behind the bunches they are
-record HasHead (k : Known) : Type 0 where
+record HasHead (k : Knowledge) : Type 0 where
   nodes : 2 ≤ k.section → k.nodes ≡ 1
   bunches : 3 ≤ k.section → 0 < length k.bunches
   room : HasRoom k
@@ -49,7 +49,7 @@ behind_nodes b h = ⊎_elim
     (λ p. omega (arith, p.0))
     (follow_parts b 3 h)
 
-keeps : (k : Known) (s : ℕ) → 4 ≤ s → HasHead k → may_follow k.section s ≡ true → HasHead (record { section = s; nodes = k.nodes; bunches = k.bunches; limit = k.limit })
+keeps : (k : Knowledge) (s : ℕ) → 4 ≤ s → HasHead k → may_follow k.section s ≡ true → HasHead (record { section = s; nodes = k.nodes; bunches = k.bunches; limit = k.limit })
 keeps k s above head stands =
     let before : 3 ≤ k.section = late k.section s above stands in
     record {
@@ -64,7 +64,7 @@ said_limit l o range =
     let within : (nat_le 1 l ≡ true) × (nat_le l 65535 ≡ true) = and_parts (nat_le 1 l) (nat_le l 65535) (and_parts (is_within 1 65535 l) (is_none o) range).0 in
     record { some = omega (arith, leb-true 1 l within.0); few = leb-true l 65535 within.1 }
 
-head_after : (k : Known) (what : LineKind) → HasHead k → may_follow k.section (section_of what) ≡ true → in_range k what ≡ true → HasHead (known_after k what)
+head_after : (k : Knowledge) (what : LineKind) → HasHead k → may_follow k.section (section_of what) ≡ true → in_range k what ≡ true → HasHead (known_after k what)
 head_after k line.Version head stands range = record { nodes = λ h. absurd (omega arith); bunches = λ h. absurd (omega arith); room = room_after k line.Version head.room range; limit = head.limit }
 head_after k (line.Nodes count) head stands range = record { nodes = λ _. eqb-true count 1 range; bunches = λ h. absurd (omega arith); room = room_after k (line.Nodes count) head.room range; limit = head.limit }
 head_after k (line.Bunch w file) head stands range = record {
@@ -86,14 +86,14 @@ head_after k (line.Collect n b) head stands range = keeps k 5 (omega arith) head
 head_after k (line.Sweep n) head stands range = keeps k 5 (omega arith) head stands
 head_after k line.Settle head stands range = keeps k 6 (omega arith) head stands
 
-head_of : (k : Known) (ls : List Line) → HasHead k → AreInOrder k ls → HasHead (known_after_all k ls)
+head_of : (k : Knowledge) (ls : List Line) → HasHead k → AreInOrder k ls → HasHead (known_after_all k ls)
 head_of k [] head order = head
 head_of k (l ∷ ls) head order = head_of (known_after k l.what) ls (head_after k l.what head order.0 order.2) order.3
 
 no_head : HasHead nothing_known
 no_head = record { nodes = λ h. absurd (omega arith); bunches = λ h. absurd (omega arith); room = record { few_nodes = omega arith; few_bunches = omega arith }; limit = record { some = omega arith; few = omega arith } }
 
-pub record HasCounts (k : Known) : Type 0 where
+pub record HasCounts (k : Knowledge) : Type 0 where
   pub a_node : 0 < k.nodes
   pub few_nodes : k.nodes ≤ 8
   pub a_bunch : 0 < length k.bunches

@@ -10,7 +10,7 @@ use Rattle.bmx_types.specs.declared.commands.Operand.TheVariants as operand
 use Rattle.bmx_types.specs.declared.commands.Command.{Command}
 use Rattle.bmx_types.specs.declared.commands.Command.TheVariants as command
 use Rattle.bmx_types.specs.Integers.{is_i64}
-use Rattle.bmx_script.specs.declared.knowledge.Known.{Known}
+use Rattle.bmx_script.specs.declared.knowledge.Knowledge.{Knowledge}
 use Rattle.bmx_script.specs.declared.lines.Line.{Line}
 use Rattle.bmx_script.specs.declared.lines.LineKind.{LineKind}
 use Rattle.bmx_script.specs.declared.lines.LineKind.TheVariants as line
@@ -56,7 +56,7 @@ command_below n (command.Same l r) h =
     let parts : (fits_operand n l ≡ true) × (fits_operand n r ≡ true) = and_parts (fits_operand n l) (fits_operand n r) h in
     both_below n (named_by l) (named_by r) (operand_below n l parts.0) (operand_below n r parts.1)
 
-pub named_below : (k : Known) (what : LineKind) → in_range k what ≡ true → are_below (length k.bunches) (named_on what) ≡ true
+pub named_below : (k : Knowledge) (what : LineKind) → in_range k what ≡ true → are_below (length k.bunches) (named_on what) ≡ true
 named_below k line.Version h = refl
 named_below k (line.Nodes count) h = refl
 named_below k (line.Bunch w file) h = refl
@@ -122,7 +122,7 @@ line_agrees n ws vs what same h = ap (λ x. join_with_byte 32 x) (words_agree n 
 
 -- ## what is known stays known
 
-kept_by : (k : Known) (what : LineKind) (b : ℕ) → b < length k.bunches → word_of (known_after k what).bunches b ≡ word_of k.bunches b
+kept_by : (k : Knowledge) (what : LineKind) (b : ℕ) → b < length k.bunches → word_of (known_after k what).bunches b ≡ word_of k.bunches b
 kept_by k line.Version b h = refl
 kept_by k (line.Nodes count) b h = refl
 kept_by k (line.Bunch w file) b h = get_or-append k.bunches (w ∷ []) [] b h
@@ -137,7 +137,7 @@ kept_by k (line.Collect node c) b h = refl
 kept_by k (line.Sweep node) b h = refl
 kept_by k line.Settle b h = refl
 
-more_by : (k : Known) (what : LineKind) → length k.bunches ≤ length (known_after k what).bunches
+more_by : (k : Knowledge) (what : LineKind) → length k.bunches ≤ length (known_after k what).bunches
 more_by k line.Version = omega arith
 more_by k (line.Nodes count) = omega arith
 more_by k (line.Bunch w file) = omega (arith, length-append k.bunches (w ∷ []))
@@ -152,13 +152,13 @@ more_by k (line.Collect node c) = omega arith
 more_by k (line.Sweep node) = omega arith
 more_by k line.Settle = omega arith
 
-pub kept : (k : Known) (ls : List Line) → Agree (length k.bunches) (known_after_all k ls).bunches k.bunches
+pub kept : (k : Knowledge) (ls : List Line) → Agree (length k.bunches) (known_after_all k ls).bunches k.bunches
 kept k [] b h = refl
 kept k (l ∷ ls) b h = kept (known_after k l.what) ls b (omega (arith, more_by k l.what)) ∙ kept_by k l.what b h
 
 -- ## bunches are called by bunch words
 
-pub record IsProper (k : Known) : Type 0 where
+pub record IsProper (k : Knowledge) : Type 0 where
   pub proper : (b : ℕ) → b < length k.bunches → is_bunch_word (word_of k.bunches b) ≡ true
 
 with_word : (ws : List (List ℕ)) (w : List ℕ) → ((b : ℕ) → b < length ws → is_bunch_word (word_of ws b) ≡ true) → is_bunch_word w ≡ true
@@ -170,7 +170,7 @@ with_word ws w proper new b h =
     (λ (above : length ws ≤ b). let last : b ≡ length ws = omega arith in rw (last, get_or-append_seam ws w [] []) new)
     (cases_lt b (length ws))
 
-pub proper_after : (k : Known) (what : LineKind) → IsProper k → is_built what ≡ true → IsProper (known_after k what)
+pub proper_after : (k : Knowledge) (what : LineKind) → IsProper k → is_built what ≡ true → IsProper (known_after k what)
 proper_after k line.Version p built = record { proper = p.proper }
 proper_after k (line.Nodes count) p built = record { proper = p.proper }
 proper_after k (line.Bunch w file) p built = record { proper = with_word k.bunches w p.proper (and_parts (is_no_file file) (is_bunch_word w) built).1 }
@@ -186,6 +186,6 @@ proper_after k (line.Sweep node) p built = record { proper = p.proper }
 proper_after k line.Settle p built = record { proper = p.proper }
 
 -- so what a line names are bunch words
-pub named_words : (k : Known) (what : LineKind) → IsProper k → in_range k what ≡ true → are_words k.bunches (named_on what) ≡ true
+pub named_words : (k : Knowledge) (what : LineKind) → IsProper k → in_range k what ≡ true → are_words k.bunches (named_on what) ≡ true
 named_words k what p range =
     list_all_then (λ b. nat_lt b (length k.bunches)) (λ b. is_bunch_word (word_of k.bunches b)) (λ b h. p.proper b (ltb-true b (length k.bunches) h)) (named_on what) (named_below k what range)

@@ -2,7 +2,7 @@
 use Rattle.std.proofs.Common.{◌≡◌, ℕ, ◌+◌, cond, List, [], ◌∷◌, ◌++◌, length, Result, Err, refl, ap, sym, ◌∙◌, subst, arith, Ok}
 use Rattle.bmx_numerals.specs.declared.words.Misfit.{Misfit}
 use Rattle.bmx_numerals.specs.declared.words.Misfit.TheVariants.{Form, Range}
-use Rattle.bmx_script.specs.declared.knowledge.Known.{Known}
+use Rattle.bmx_script.specs.declared.knowledge.Knowledge.{Knowledge}
 use Rattle.bmx_script.specs.declared.lines.Line.{Line}
 use Rattle.bmx_script.specs.declared.lines.LineKind.{LineKind}
 use Rattle.bmx_script.specs.declared.lines.Bad.{Bad}
@@ -20,49 +20,49 @@ use Rattle.bmx_script.proofs.Exact.{Tells, exact, good_is_read}
 use Rattle.bmx_script.proofs.Sound.{distinct_after}
 
 -- the verdict that the reader comes to
-abbrev judged : Known → ℕ → ℕ → List ℕ → Verdict
+abbrev judged : Knowledge → ℕ → ℕ → List ℕ → Verdict
 judged k number end text = cond (is_long number end) (verdict.Wrong cause.Long) (cond (is_skipped number text) verdict.Skipped (verdict_of (read_line k text)))
 
-has_form : (k : Known) (what : LineKind) (text : List ℕ) → IsGood k what text → HasForm k text
+has_form : (k : Knowledge) (what : LineKind) (text : List ℕ) → IsGood k what text → HasForm k text
 has_form k what text g = (k.bunches, what, g.form)
 
-no_form : (k : Known) (text : List ℕ) (f : Result LineKind Misfit) → Tells k text f → ¬ HasForm k text → f ≡ Err Form
+no_form : (k : Knowledge) (text : List ℕ) (f : Result LineKind Misfit) → Tells k text f → ¬ HasForm k text → f ≡ Err Form
 no_form k text (Err Form) tells none = refl
 no_form k text (Err Range) tells none = absurd (none tells.0)
 no_form k text (Ok what) tells none = absurd (none (has_form k what text tells))
 
-out_of_range : (k : Known) (text : List ℕ) (f : Result LineKind Misfit) → Tells k text f → HasForm k text → ((what : LineKind) → ¬ IsGood k what text) → f ≡ Err Range
+out_of_range : (k : Knowledge) (text : List ℕ) (f : Result LineKind Misfit) → Tells k text f → HasForm k text → ((what : LineKind) → ¬ IsGood k what text) → f ≡ Err Range
 out_of_range k text (Err Form) tells form none = absurd (tells form)
 out_of_range k text (Err Range) tells form none = refl
 out_of_range k text (Ok what) tells form none = absurd (none what tells)
 
-bad_is_judged : (k : Known) (number end : ℕ) (text : List ℕ) (why : BadCause) → AreDistinct k.bunches → IsBad k number end text why → verdict.Wrong why ≡ judged k number end text
+bad_is_judged : (k : Knowledge) (number end : ℕ) (text : List ℕ) (why : BadCause) → AreDistinct k.bunches → IsBad k number end text why → verdict.Wrong why ≡ judged k number end text
 bad_is_judged k number end text cause.Long distinct (is_far far) = rw far refl
 bad_is_judged k number end text cause.Form distinct (has_no_form near here none) = rw (near, here) (sym (ap verdict_of (no_form k text (read_line k text) (exact k text distinct) none)))
 bad_is_judged k number end text cause.Range distinct (is_out_of_range near here form none) = rw (near, here) (sym (ap verdict_of (out_of_range k text (read_line k text) (exact k text distinct) form none)))
 bad_is_judged k number end text cause.End distinct x = elim x [ ]
 
-is_judged : (k : Known) (number end : ℕ) (text : List ℕ) (v : Verdict) → AreDistinct k.bunches → IsVerdict k number end text v → v ≡ judged k number end text
+is_judged : (k : Knowledge) (number end : ℕ) (text : List ℕ) (v : Verdict) → AreDistinct k.bunches → IsVerdict k number end text v → v ≡ judged k number end text
 is_judged k number end text verdict.Skipped distinct h = rw (h.0, h.1) refl
 is_judged k number end text (verdict.Is what) distinct h = rw (h.0, h.1) (sym (ap verdict_of (good_is_read k what text distinct h.2)))
 is_judged k number end text (verdict.Wrong why) distinct h = bad_is_judged k number end text why distinct h
 
 -- the same answer behind the same verdict
-goes_on : (k : Known) (lines : List Line) (number end : ℕ) (text : List ℕ) (texts : List (List ℕ)) (a b : Result (List Line) Bad)
-    → ((j : Known) (ls : List Line) (n s : ℕ) → AreDistinct j.bunches → Reads j ls n s texts a → Reads j ls n s texts b → a ≡ b)
+goes_on : (k : Knowledge) (lines : List Line) (number end : ℕ) (text : List ℕ) (texts : List (List ℕ)) (a b : Result (List Line) Bad)
+    → ((j : Knowledge) (ls : List Line) (n s : ℕ) → AreDistinct j.bunches → Reads j ls n s texts a → Reads j ls n s texts b → a ≡ b)
     → AreDistinct k.bunches → (v : Verdict) → IsVerdict k number end text v → GoesOn k lines number end texts a v → GoesOn k lines number end texts b v → a ≡ b
 goes_on k lines number end text texts a b then distinct verdict.Skipped h p q = then k lines (number + 1) end distinct p q
 goes_on k lines number end text texts a b then distinct (verdict.Is what) h p q =
     then (known_after k what) (lines ++ record { number = number; what = what } ∷ []) (number + 1) end (distinct_after k what distinct h.2.range) p q
 goes_on k lines number end text texts a b then distinct (verdict.Wrong why) h p q = p ∙ sym q
 
-one_end : (k : Known) (lines : List Line) (number : ℕ) (a b : Result (List Line) Bad) → IsEnded k lines number a → IsEnded k lines number b → a ≡ b
+one_end : (k : Knowledge) (lines : List Line) (number : ℕ) (a b : Result (List Line) Bad) → IsEnded k lines number a → IsEnded k lines number b → a ≡ b
 one_end k lines number a b (Whole h p) (Whole g q) = p ∙ sym q
 one_end k lines number a b (Whole h p) (Early g q) = absurd (omega arith)
 one_end k lines number a b (Early h p) (Whole g q) = absurd (omega arith)
 one_end k lines number a b (Early h p) (Early g q) = p ∙ sym q
 
-one_answer : (texts : List (List ℕ)) (a b : Result (List Line) Bad) (k : Known) (lines : List Line) (number start : ℕ) → AreDistinct k.bunches
+one_answer : (texts : List (List ℕ)) (a b : Result (List Line) Bad) (k : Knowledge) (lines : List Line) (number start : ℕ) → AreDistinct k.bunches
     → Reads k lines number start texts a → Reads k lines number start texts b → a ≡ b
 one_answer [] a b k lines number start distinct p q = one_end k lines number a b (ended k lines number start a p) (ended k lines number start b q)
 one_answer (text ∷ texts) a b k lines number start distinct p q =

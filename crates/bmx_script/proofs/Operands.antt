@@ -12,7 +12,7 @@ use Rattle.bmx_numerals.specs.Numerals.{numeral, signed_numeral, is_digit}
 use Rattle.bmx_types.specs.Integers.{is_i64}
 use Rattle.bmx_numerals.specs.Words.{read_below, read_integer}
 use Rattle.bmx_numerals.proofs.NumeralLemmas.{is_digit_range, signed_numeral_first}
-use Rattle.bmx_script.specs.declared.knowledge.Known.{Known}
+use Rattle.bmx_script.specs.declared.knowledge.Knowledge.{Knowledge}
 use Rattle.bmx_script.specs.Spelling.{word_of, register_word, operand_word}
 use Rattle.bmx_script.specs.Grammar.{is_bunch_word, same_word, is_source, named_by, fits_operand}
 use Rattle.bmx_script.specs.Inside.Distinct.{AreDistinct}
@@ -53,22 +53,22 @@ pub good_if : {A : Type 0} (b : Bool) (f : Result A Misfit) (x : A) → b ≡ tr
 good_if true f x h e = e
 good_if false f x h e = cc
 
-pub form_bunch : (k : Known) (w : List ℕ) → is_bunch_word w ≡ true → is_form (read_bunch k w) ≡ false
+pub form_bunch : (k : Knowledge) (w : List ℕ) → is_bunch_word w ≡ true → is_form (read_bunch k w) ≡ false
 form_bunch k w h = form_if (is_bunch_word w) (found_bunch (position_from (same_word w) 0 k.bunches)) h (found_is_no_form (position_from (same_word w) 0 k.bunches))
 
-pub bunch_form : (k : Known) (w : List ℕ) → is_form (read_bunch k w) ≡ false → is_bunch_word w ≡ true
+pub bunch_form : (k : Knowledge) (w : List ℕ) → is_form (read_bunch k w) ≡ false → is_bunch_word w ≡ true
 bunch_form k w e = (if_form (is_bunch_word w) (found_bunch (position_from (same_word w) 0 k.bunches)) e).0
 
 found_good : (o : Option ℕ) (b : ℕ) → found_bunch o ≡ Ok b → o ≡ Some b
 found_good None b e = cc
 found_good (Some c) b e = cc
 
-pub record IsBunch (k : Known) (w : List ℕ) (b : ℕ) : Type 0 where
+pub record IsBunch (k : Knowledge) (w : List ℕ) (b : ℕ) : Type 0 where
   pub proper : is_bunch_word w ≡ true
   pub called : word_of k.bunches b ≡ w
   pub known : nat_lt b (length k.bunches) ≡ true
 
-pub bunch_good : (k : Known) (w : List ℕ) (b : ℕ) → read_bunch k w ≡ Ok b → IsBunch k w b
+pub bunch_good : (k : Knowledge) (w : List ℕ) (b : ℕ) → read_bunch k w ≡ Ok b → IsBunch k w b
 bunch_good k w b e =
     let parts : (is_bunch_word w ≡ true) × (found_bunch (position_from (same_word w) 0 k.bunches) ≡ Ok b) = if_good (is_bunch_word w) (found_bunch (position_from (same_word w) 0 k.bunches)) b e in
     let found : (m : ℕ) × (b ≡ 0 + m) × (m < length k.bunches) × (same_word w (word_of k.bunches m) ≡ true) = position_found (same_word w) 0 k.bunches b [] (found_good (position_from (same_word w) 0 k.bunches) b parts.1) in
@@ -79,7 +79,7 @@ bunch_good k w b e =
       known = lt-ltb b (length k.bunches) (omega (arith, found.2, here));
     }
 
-pub good_bunch : (k : Known) (b : ℕ) → AreDistinct k.bunches → nat_lt b (length k.bunches) ≡ true → is_bunch_word (word_of k.bunches b) ≡ true → read_bunch k (word_of k.bunches b) ≡ Ok b
+pub good_bunch : (k : Knowledge) (b : ℕ) → AreDistinct k.bunches → nat_lt b (length k.bunches) ≡ true → is_bunch_word (word_of k.bunches b) ≡ true → read_bunch k (word_of k.bunches b) ≡ Ok b
 good_bunch k b distinct known proper =
     let below : b < length k.bunches = ltb-true b (length k.bunches) known in
     let place : position_from (same_word (word_of k.bunches b)) 0 k.bunches ≡ Some (0 + b) =
@@ -109,20 +109,20 @@ pub record IsSource (ws : List (List ℕ)) (w : List ℕ) (o : Operand) : Type 0
 
 -- ## sources
 
-pub form_source : (k : Known) (ws : List (List ℕ)) (o : Operand) → is_source o ≡ true → are_words ws (named_by o) ≡ true → is_form (read_source k (operand_word ws o)) ≡ false
+pub form_source : (k : Knowledge) (ws : List (List ℕ)) (o : Operand) → is_source o ≡ true → are_words ws (named_by o) ≡ true → is_form (read_source k (operand_word ws o)) ≡ false
 form_source k ws (operand.Register r) s named = form_map _ _ (form_register r)
 form_source k ws (operand.Anchor b) s named = form_map _ _ (form_bunch k (word_of ws b) (the_word ws b named))
 form_source k ws (operand.Int z) s named = cc
 form_source k ws operand.Null s named = cc
 
-pub good_source : (k : Known) (o : Operand) → AreDistinct k.bunches → is_source o ≡ true → are_words k.bunches (named_by o) ≡ true → fits_operand (length k.bunches) o ≡ true → read_source k (operand_word k.bunches o) ≡ Ok o
+pub good_source : (k : Knowledge) (o : Operand) → AreDistinct k.bunches → is_source o ≡ true → are_words k.bunches (named_by o) ≡ true → fits_operand (length k.bunches) o ≡ true → read_source k (operand_word k.bunches o) ≡ Ok o
 good_source k (operand.Register r) distinct s named fits = good_map _ _ r (good_register r fits)
 good_source k (operand.Anchor b) distinct s named fits = good_map _ _ b (good_bunch k b distinct fits (the_word k.bunches b named))
 good_source k (operand.Int z) distinct s named fits = cc
 good_source k operand.Null distinct s named fits = cc
 
 -- a word with the form of a source is one, where some bunch is called what is behind its first byte
-pub source_form : (k : Known) (ws : List (List ℕ)) (i : ℕ) (w : List ℕ) → word_of ws i ≡ behind w → is_form (read_source k w) ≡ false → (o : Operand) × IsSource ws w o
+pub source_form : (k : Knowledge) (ws : List (List ℕ)) (i : ℕ) (w : List ℕ) → word_of ws i ≡ behind w → is_form (read_source k w) ≡ false → (o : Operand) × IsSource ws w o
 source_form k ws i [] called e = cc
 source_form k ws i (c ∷ w) called e = choose_form (c == 64) _ _ e
     (λ t f. (operand.Anchor i, record { source = refl; is = record { word = cc (eqb-true c 64 t, called); named = one_word ws i w called (bunch_form k w (map_form _ _ f)) } }))
@@ -130,7 +130,7 @@ source_form k ws i (c ∷ w) called e = choose_form (c == 64) _ _ e
     let r : (r : ℕ) × ((c ∷ w) ≡ register_word r) = register_form (c ∷ w) (map_form _ _ f) in
     (operand.Register r.0, record { source = refl; is = record { word = sym r.1; named = refl } }))
 
-pub source_good : (k : Known) (w : List ℕ) (o : Operand) → read_source k w ≡ Ok o → IsSource k.bunches w o × (fits_operand (length k.bunches) o ≡ true)
+pub source_good : (k : Knowledge) (w : List ℕ) (o : Operand) → read_source k w ≡ Ok o → IsSource k.bunches w o × (fits_operand (length k.bunches) o ≡ true)
 source_good k [] o e = cc
 source_good k (c ∷ w) o e = split_if (c == 64) _ _ (Ok o) e
     (λ t f.
@@ -148,39 +148,39 @@ source_good k (c ∷ w) o e = split_if (c == 64) _ _ (Ok o) e
 -- ## values
 
 -- a word whose first byte is a digit or `-` is an integer, if it is a value
-low_value : (k : Known) (w : List ℕ) (c : ℕ) (cs : List ℕ) → w ≡ c ∷ cs → c < 58 → read_value k w ≡ map_read (λ z. operand.Int z) (read_integer w)
+low_value : (k : Knowledge) (w : List ℕ) (c : ℕ) (cs : List ℕ) → w ≡ c ∷ cs → c < 58 → read_value k w ≡ map_read (λ z. operand.Int z) (read_integer w)
 low_value k w c cs e low =
     let no_null : (c == 110) ≡ false = ne_eqb c 110 (λ h. absurd (omega arith)) in
     let no_anchor : (c == 64) ≡ false = ne_eqb c 64 (λ h. absurd (omega arith)) in
     let no_register : (c == 114) ≡ false = ne_eqb c 114 (λ h. absurd (omega arith)) in
     rw (e, no_null, no_anchor, no_register) refl
 
-integer_value : (k : Known) (z : ℤ) → read_value k (signed_numeral z) ≡ map_read (λ y. operand.Int y) (read_integer (signed_numeral z))
+integer_value : (k : Knowledge) (z : ℤ) → read_value k (signed_numeral z) ≡ map_read (λ y. operand.Int y) (read_integer (signed_numeral z))
 integer_value k z =
     let first : (c : ℕ) × (cs : List ℕ) × (signed_numeral z ≡ c ∷ cs) × ((is_digit c || (c == 45)) ≡ true) = signed_numeral_first z in
     low_value k (signed_numeral z) first.0 first.1 first.2
     (⊎_elim (λ d. let range : (48 ≤ first.0) × (first.0 ≤ 57) = is_digit_range first.0 d in omega arith) (λ m. omega (arith, eqb-true first.0 45 m)) (or_cases (is_digit first.0) (first.0 == 45) first.3))
 
-pub form_value : (k : Known) (ws : List (List ℕ)) (o : Operand) → are_words ws (named_by o) ≡ true → is_form (read_value k (operand_word ws o)) ≡ false
+pub form_value : (k : Knowledge) (ws : List (List ℕ)) (o : Operand) → are_words ws (named_by o) ≡ true → is_form (read_value k (operand_word ws o)) ≡ false
 form_value k ws (operand.Register r) named = form_source k ws (operand.Register r) refl named
 form_value k ws (operand.Anchor b) named = form_source k ws (operand.Anchor b) refl named
 form_value k ws (operand.Int z) named = ap is_form (integer_value k z) ∙ form_map _ _ (form_integer z)
 form_value k ws operand.Null named = refl
 
-pub good_value : (k : Known) (o : Operand) → AreDistinct k.bunches → are_words k.bunches (named_by o) ≡ true → fits_operand (length k.bunches) o ≡ true → read_value k (operand_word k.bunches o) ≡ Ok o
+pub good_value : (k : Knowledge) (o : Operand) → AreDistinct k.bunches → are_words k.bunches (named_by o) ≡ true → fits_operand (length k.bunches) o ≡ true → read_value k (operand_word k.bunches o) ≡ Ok o
 good_value k (operand.Register r) distinct named fits = good_source k (operand.Register r) distinct refl named fits
 good_value k (operand.Anchor b) distinct named fits = good_source k (operand.Anchor b) distinct refl named fits
 good_value k (operand.Int z) distinct named fits = integer_value k z ∙ good_map _ _ z (good_integer z fits)
 good_value k operand.Null distinct named fits = refl
 
-pub value_form : (k : Known) (ws : List (List ℕ)) (i : ℕ) (w : List ℕ) → word_of ws i ≡ behind w → is_form (read_value k w) ≡ false → (o : Operand) × IsOperand ws w o
+pub value_form : (k : Knowledge) (ws : List (List ℕ)) (i : ℕ) (w : List ℕ) → word_of ws i ≡ behind w → is_form (read_value k w) ≡ false → (o : Operand) × IsOperand ws w o
 value_form k ws i w called e = choose_form (same_word w (codes "null")) _ _ e
     (λ t f. (operand.Null, record { word = sym (same_word-true w (codes "null") t); named = refl }))
     (λ _ g. choose_form (begins_as_source w) _ _ g
     (λ _ f. let s : (o : Operand) × IsSource ws w o = source_form k ws i w called f in (s.0, s.1.is))
     (λ _ f. let z : (z : ℤ) × (w ≡ signed_numeral z) = integer_form w (map_form _ _ f) in (operand.Int z.0, record { word = sym z.1; named = refl })))
 
-pub value_good : (k : Known) (w : List ℕ) (o : Operand) → read_value k w ≡ Ok o → IsOperand k.bunches w o × (fits_operand (length k.bunches) o ≡ true)
+pub value_good : (k : Knowledge) (w : List ℕ) (o : Operand) → read_value k w ≡ Ok o → IsOperand k.bunches w o × (fits_operand (length k.bunches) o ≡ true)
 value_good k w o e = split_if (same_word w (codes "null")) _ _ (Ok o) e
     (λ t f. let null : operand.Null ≡ o = cc (f) in
     let P : Operand → Type 0 = λ x. IsOperand k.bunches w x × (fits_operand (length k.bunches) x ≡ true) in
@@ -195,10 +195,10 @@ value_good k w o e = split_if (same_word w (codes "null")) _ _ (Ok o) e
 
 -- ## fields of objects
 
-pub form_place : (k : Known) (ws : List (List ℕ)) (o : Operand) (i : ℕ) → is_source o ≡ true → are_words ws (named_by o) ≡ true → is_form (read_place k (operand_word ws o) (numeral i)) ≡ false
+pub form_place : (k : Knowledge) (ws : List (List ℕ)) (o : Operand) (i : ℕ) → is_source o ≡ true → are_words ws (named_by o) ≡ true → is_form (read_place k (operand_word ws o) (numeral i)) ≡ false
 form_place k ws o i s named = form_and _ _ (form_source k ws o s named) (form_below 256 i)
 
-pub good_place : (k : Known) (o : Operand) (i : ℕ) → AreDistinct k.bunches → is_source o ≡ true → are_words k.bunches (named_by o) ≡ true → fits_operand (length k.bunches) o ≡ true → nat_lt i 256 ≡ true
+pub good_place : (k : Knowledge) (o : Operand) (i : ℕ) → AreDistinct k.bunches → is_source o ≡ true → are_words k.bunches (named_by o) ≡ true → fits_operand (length k.bunches) o ≡ true → nat_lt i 256 ≡ true
     → read_place k (operand_word k.bunches o) (numeral i) ≡ Ok (o, i)
 good_place k o i distinct s named fits below = good_and _ _ o i (good_source k o distinct s named fits) (good_below 256 i below)
 
@@ -207,19 +207,19 @@ pub record IsPlace (ws : List (List ℕ)) (on index : List ℕ) (o : Operand) (i
   pub source : IsSource ws on o
   pub at : index ≡ numeral i
 
-pub place_form : (k : Known) (ws : List (List ℕ)) (b : ℕ) (on index : List ℕ) → word_of ws b ≡ behind on → is_form (read_place k on index) ≡ false → (o : Operand) × (i : ℕ) × IsPlace ws on index o i
+pub place_form : (k : Knowledge) (ws : List (List ℕ)) (b : ℕ) (on index : List ℕ) → word_of ws b ≡ behind on → is_form (read_place k on index) ≡ false → (o : Operand) × (i : ℕ) × IsPlace ws on index o i
 place_form k ws b on index called e =
     let parts : (is_form (read_source k on) ≡ false) × (is_form (read_below 256 index) ≡ false) = and_form _ _ e in
     let s : (o : Operand) × IsSource ws on o = source_form k ws b on called parts.0 in
     let i : (i : ℕ) × (index ≡ numeral i) = below_form 256 index parts.1 in
     (s.0, i.0, record { source = s.1; at = i.1 })
 
-pub record FitsPlace (k : Known) (on index : List ℕ) (o : Operand) (i : ℕ) : Type 0 where
+pub record FitsPlace (k : Knowledge) (on index : List ℕ) (o : Operand) (i : ℕ) : Type 0 where
   pub place : IsPlace k.bunches on index o i
   pub fits : fits_operand (length k.bunches) o ≡ true
   pub below : nat_lt i 256 ≡ true
 
-pub place_good : (k : Known) (on index : List ℕ) (p : Operand × ℕ) → read_place k on index ≡ Ok p → FitsPlace k on index p.0 p.1
+pub place_good : (k : Knowledge) (on index : List ℕ) (p : Operand × ℕ) → read_place k on index ≡ Ok p → FitsPlace k on index p.0 p.1
 place_good k on index p e =
     let parts : (read_source k on ≡ Ok p.0) × (read_below 256 index ≡ Ok p.1) = and_good _ _ p e in
     let s : IsSource k.bunches on p.0 × (fits_operand (length k.bunches) p.0 ≡ true) = source_good k on p.0 parts.0 in

@@ -6,7 +6,7 @@ use Rattle.bmx_numerals.specs.Words.{read_below, read_both}
 use Rattle.bmx_script.specs.declared.lines.LineKind.{LineKind}
 use Rattle.bmx_script.specs.declared.lines.LineKind.TheVariants as line
 use Rattle.bmx_script.specs.Grammar.{may_follow}
-use Rattle.bmx_script.specs.declared.knowledge.Known.{Known}
+use Rattle.bmx_script.specs.declared.knowledge.Knowledge.{Knowledge}
 use Rattle.bmx_script.specs.Inside.Parsing.{map_read, line_of}
 
 -- a field beside a command that isn't there
@@ -19,12 +19,12 @@ two_ways : (b : Bool) (x y : Result LineKind Misfit) → x ≡ y → cond b x y 
 two_ways true x y e = e
 two_ways false x y e = refl
 
-pub too_few : {X : Type 0} (k : Known) (f : X → List ℕ) (xs : List X) → length xs < 2 → line_of k (map f xs) ≡ Err Form
+pub too_few : {X : Type 0} (k : Knowledge) (f : X → List ℕ) (xs : List X) → length xs < 2 → line_of k (map f xs) ≡ Err Form
 too_few k f [] h = refl
 too_few k f (a ∷ []) h = refl
 too_few k f (a ∷ b ∷ xs) h = absurd (omega arith)
 
-pub too_many : {X : Type 0} (k : Known) (f : X → List ℕ) (xs : List X) → 6 ≤ length xs → line_of k (map f xs) ≡ Err Form
+pub too_many : {X : Type 0} (k : Knowledge) (f : X → List ℕ) (xs : List X) → 6 ≤ length xs → line_of k (map f xs) ≡ Err Form
 too_many k f [] h = absurd (omega arith)
 too_many k f (a ∷ []) h = absurd (omega arith)
 too_many k f (a ∷ b ∷ []) h = absurd (omega arith)
@@ -34,7 +34,7 @@ too_many k f (a ∷ b ∷ c ∷ d ∷ e ∷ []) h = absurd (omega arith)
 too_many k f (a ∷ b ∷ c ∷ d ∷ e ∷ g ∷ xs) h =
     two_ways (may_follow k.section 5) _ _ (ap (map_read (λ p. line.Do p.0 p.1)) (and_nothing (read_below k.nodes (f a)) _ refl))
 
-pub too_long : (k : Known) (ws : List (List ℕ)) → 5 < length ws → line_of k ws ≡ Err Form
+pub too_long : (k : Knowledge) (ws : List (List ℕ)) → 5 < length ws → line_of k ws ≡ Err Form
 too_long k [] h = absurd (omega arith)
 too_long k (a ∷ []) h = absurd (omega arith)
 too_long k (a ∷ b ∷ []) h = absurd (omega arith)

@@ -3,7 +3,7 @@ use Rattle.std.proofs.Common.{◌≡◌, ℕ, ◌+◌, ◌^◌, ◌<◌, ◌≤�
 use Rattle.std.proofs.lemmas.Bool.{and_from, or_right, lt-ltb, eqb-true, not_from_false, not-true, and_parts, cases_lt, cases_Bool}
 use Rattle.std.proofs.lemmas.List.{take_all, length-take-le, take-append-drop, length-append}
 use Rattle.std.specs.List.{onto_first}
-use Rattle.bmx_script.specs.declared.knowledge.Known.{Known}
+use Rattle.bmx_script.specs.declared.knowledge.Knowledge.{Knowledge}
 use Rattle.bmx_script.specs.declared.lines.Line.{Line}
 use Rattle.bmx_script.specs.declared.lines.Bad.{Bad}
 use Rattle.bmx_script.specs.declared.lines.BadCause.{BadCause}
@@ -21,35 +21,35 @@ not_both : {C : Type 0} (b : Bool) → b ≡ true → b ≡ false → C
 not_both true h q = cc
 not_both false h q = cc
 
-why_far : (k : Known) (number end : ℕ) (text : List ℕ) (why : BadCause) → IsBad k number end text why → is_long number end ≡ true → why ≡ cause.Long
+why_far : (k : Knowledge) (number end : ℕ) (text : List ℕ) (why : BadCause) → IsBad k number end text why → is_long number end ≡ true → why ≡ cause.Long
 why_far k number end text cause.Long (is_far far) long = refl
 why_far k number end text cause.Form (has_no_form near here none) long = not_both (is_long number end) long near
 why_far k number end text cause.Range (is_out_of_range near here form none) long = not_both (is_long number end) long near
 why_far k number end text cause.End bad long = elim bad [ ]
 
 -- reading stops at a line that ends too far behind
-stops_there : (k : Known) (lines : List Line) (number start : ℕ) (text : List ℕ) (texts : List (List ℕ)) (answer : Result (List Line) Bad) → is_long number (start + (length text + 1)) ≡ true
+stops_there : (k : Knowledge) (lines : List Line) (number start : ℕ) (text : List ℕ) (texts : List (List ℕ)) (answer : Result (List Line) Bad) → is_long number (start + (length text + 1)) ≡ true
     → Reads k lines number start (text ∷ texts) answer → answer ≡ Err (record { line = number; cause = cause.Long })
 stops_there k lines number start text texts answer long (skips near skipped on) = not_both (is_long number (start + (length text + 1))) long near
 stops_there k lines number start text texts answer long (takes what near here good on) = not_both (is_long number (start + (length text + 1))) long near
 stops_there k lines number start text texts answer long (stops why bad) =
     ap (λ (c : BadCause). Err (record { line = number; cause = c })) (why_far k number (start + (length text + 1)) text why bad long)
 
-there_stops : (k : Known) (lines : List Line) (number start : ℕ) (text : List ℕ) (texts : List (List ℕ)) (answer : Result (List Line) Bad) → is_long number (start + (length text + 1)) ≡ true
+there_stops : (k : Knowledge) (lines : List Line) (number start : ℕ) (text : List ℕ) (texts : List (List ℕ)) (answer : Result (List Line) Bad) → is_long number (start + (length text + 1)) ≡ true
     → answer ≡ Err (record { line = number; cause = cause.Long }) → Reads k lines number start (text ∷ texts) answer
 there_stops k lines number start text texts answer long is =
     subst (λ (a : Result (List Line) Bad). Reads k lines number start (text ∷ texts) a) (sym is) (stops cause.Long (is_far long))
 
 -- whatever texts stand behind it
-far_lines : (k : Known) (lines : List Line) (number start : ℕ) (text other : List ℕ) (texts others : List (List ℕ)) (answer : Result (List Line) Bad)
+far_lines : (k : Knowledge) (lines : List Line) (number start : ℕ) (text other : List ℕ) (texts others : List (List ℕ)) (answer : Result (List Line) Bad)
     → is_long number (start + (length text + 1)) ≡ true → is_long number (start + (length other + 1)) ≡ true
     → Reads k lines number start (text ∷ texts) answer → Reads k lines number start (other ∷ others) answer
 far_lines k lines number start text other texts others answer long too read =
     there_stops k lines number start other others answer too (stops_there k lines number start text texts answer long read)
 
 -- and else reading goes on
-near_line : (k : Known) (lines : List Line) (number start : ℕ) (text : List ℕ) (texts others : List (List ℕ)) (answer : Result (List Line) Bad)
-    → ((j : Known) (done : List Line) → Reads j done (number + 1) (start + (length text + 1)) texts answer → Reads j done (number + 1) (start + (length text + 1)) others answer)
+near_line : (k : Knowledge) (lines : List Line) (number start : ℕ) (text : List ℕ) (texts others : List (List ℕ)) (answer : Result (List Line) Bad)
+    → ((j : Knowledge) (done : List Line) → Reads j done (number + 1) (start + (length text + 1)) texts answer → Reads j done (number + 1) (start + (length text + 1)) others answer)
     → Reads k lines number start (text ∷ texts) answer → Reads k lines number start (text ∷ others) answer
 near_line k lines number start text texts others answer then (skips near skipped on) = skips near skipped (then _ _ on)
 near_line k lines number start text texts others answer then (takes what near here good on) = takes what near here good (then _ _ on)
@@ -101,13 +101,13 @@ far number start p more long = or_right _ _ (lt-ltb (2 ^ 20) (start + (length (p
 -- ## a text, and the same with more behind it
 
 -- two lists of lines are read alike
-abbrev Alike : Known → List Line → ℕ → ℕ → List (List ℕ) → List (List ℕ) → Result (List Line) Bad → Type 0
+abbrev Alike : Knowledge → List Line → ℕ → ℕ → List (List ℕ) → List (List ℕ) → Result (List Line) Bad → Type 0
 Alike k lines number start texts others answer = Reads k lines number start texts answer ↔ Reads k lines number start others answer
 
-alike_of : (k : Known) (lines : List Line) (number start : ℕ) (a b c d : List (List ℕ)) (answer : Result (List Line) Bad) → a ≡ c → b ≡ d → Alike k lines number start c d answer → Alike k lines number start a b answer
+alike_of : (k : Knowledge) (lines : List Line) (number start : ℕ) (a b c d : List (List ℕ)) (answer : Result (List Line) Bad) → a ≡ c → b ≡ d → Alike k lines number start c d answer → Alike k lines number start a b answer
 alike_of k lines number start a b c d answer p q alike = rw (p, q) alike
 
-alike_far : (k : Known) (lines : List Line) (number start : ℕ) (p s t : List ℕ) (answer : Result (List Line) Bad) → 0 < length p → has_no_feed p ≡ true → 2 ^ 20 < start + length p
+alike_far : (k : Knowledge) (lines : List Line) (number start : ℕ) (p s t : List ℕ) (answer : Result (List Line) Bad) → 0 < length p → has_no_feed p ≡ true → 2 ^ 20 < start + length p
     → Alike k lines number start (lines_of (p ++ s)) (lines_of (p ++ t)) answer
 alike_far k lines number start p s t answer some plain long =
     let a : Begins p (p ++ s) = begins p s some plain in
@@ -118,8 +118,8 @@ alike_far k lines number start p s t answer some plain long =
     )
 
 -- a line, where what is behind it is read alike
-alike_fed : (p s w behind : List ℕ) (k : Known) (lines : List Line) (number start : ℕ) (answer : Result (List Line) Bad) → 2 ^ 20 < start + length p → has_no_feed w ≡ true → p ≡ w ++ 10 ∷ behind
-    → ((j : Known) (done : List Line) (m e : ℕ) → length behind < length p → e ≤ 2 ^ 20 → 2 ^ 20 < e + length behind → Alike j done m e (lines_of behind) (lines_of (behind ++ s)) answer)
+alike_fed : (p s w behind : List ℕ) (k : Knowledge) (lines : List Line) (number start : ℕ) (answer : Result (List Line) Bad) → 2 ^ 20 < start + length p → has_no_feed w ≡ true → p ≡ w ++ 10 ∷ behind
+    → ((j : Knowledge) (done : List Line) (m e : ℕ) → length behind < length p → e ≤ 2 ^ 20 → 2 ^ 20 < e + length behind → Alike j done m e (lines_of behind) (lines_of (behind ++ s)) answer)
     → Alike k lines number start (w ∷ lines_of behind) (w ∷ lines_of (behind ++ s)) answer
 alike_fed p s w behind k lines number start answer long plain is then = ⊎_elim
     (λ (gone : is_long number (start + (length w + 1)) ≡ true).
@@ -127,13 +127,13 @@ alike_fed p s w behind k lines number start answer long plain is then = ⊎_elim
     (λ (near : is_long number (start + (length w + 1)) ≡ false).
     let room : length p ≡ length w + (1 + length behind) = ap length is ∙ length-append w (10 ∷ behind) ∙ omega arith in
     let bound : (number ≤ 20000) × (start + (length w + 1) ≤ 2 ^ 20) = near_bounds number (start + (length w + 1)) near in
-    let on : (j : Known) (done : List Line) → Alike j done (number + 1) (start + (length w + 1)) (lines_of behind) (lines_of (behind ++ s)) answer =
+    let on : (j : Knowledge) (done : List Line) → Alike j done (number + 1) (start + (length w + 1)) (lines_of behind) (lines_of (behind ++ s)) answer =
     λ j done. then j done (number + 1) (start + (length w + 1)) (omega (arith, room)) bound.1 (omega (arith, room)) in
     (near_line k lines number start w (lines_of behind) (lines_of (behind ++ s)) answer (λ j done. (on j done).0), near_line k lines number start w (lines_of (behind ++ s)) (lines_of behind) answer (λ j done. (on j done).1)))
     (cases_Bool (is_long number (start + (length w + 1))))
 
-alike_by : (p s : List ℕ) (k : Known) (lines : List Line) (number start : ℕ) (answer : Result (List Line) Bad) → start ≤ 2 ^ 20 → 2 ^ 20 < start + length p
-    → ((behind : List ℕ) (j : Known) (done : List Line) (m e : ℕ) → length behind < length p → e ≤ 2 ^ 20 → 2 ^ 20 < e + length behind → Alike j done m e (lines_of behind) (lines_of (behind ++ s)) answer)
+alike_by : (p s : List ℕ) (k : Knowledge) (lines : List Line) (number start : ℕ) (answer : Result (List Line) Bad) → start ≤ 2 ^ 20 → 2 ^ 20 < start + length p
+    → ((behind : List ℕ) (j : Knowledge) (done : List Line) (m e : ℕ) → length behind < length p → e ≤ 2 ^ 20 → 2 ^ 20 < e + length behind → Alike j done m e (lines_of behind) (lines_of (behind ++ s)) answer)
     → Feeds p → Alike k lines number start (lines_of p) (lines_of (p ++ s)) answer
 alike_by p s k lines number start answer low long then (Fed w behind plain is) =
     alike_of k lines number start _ _ (w ∷ lines_of behind) (w ∷ lines_of (behind ++ s)) answer
@@ -144,7 +144,7 @@ alike_by p s k lines number start answer low long then (Unfed plain) =
     subst (λ (x : List ℕ). Alike k lines number start (lines_of x) (lines_of (p ++ s)) answer) (append-nil p)
     (alike_far k lines number start p [] s answer (omega arith) plain long)
 
-alike : (fuel : ℕ) (p s : List ℕ) (k : Known) (lines : List Line) (number start : ℕ) (answer : Result (List Line) Bad) → length p ≤ fuel → start ≤ 2 ^ 20 → 2 ^ 20 < start + length p
+alike : (fuel : ℕ) (p s : List ℕ) (k : Knowledge) (lines : List Line) (number start : ℕ) (answer : Result (List Line) Bad) → length p ≤ fuel → start ≤ 2 ^ 20 → 2 ^ 20 < start + length p
     → Alike k lines number start (lines_of p) (lines_of (p ++ s)) answer
 alike zero p s k lines number start answer small low long = absurd (omega arith)
 alike (suc n) p s k lines number start answer small low long =

@@ -2,7 +2,7 @@
 use Rattle.std.proofs.Common.{◌≡◌, ℕ, ◌+◌, ◌-◌, ◌^◌, ◌<◌, ◌≤◌, ◌==◌, Bool, true, false, not, ◌&&◌, nat_lt, suc, zero, List, [], ◌∷◌, ◌++◌, length, replicate, Result, Ok, refl, ap, sym, ◌∙◌, subst, append_assoc, append-nil, arith}
 use Rattle.std.proofs.lemmas.Bool.{and_parts, and_from, or_from, not-true, le-ltb, lt-ltb, leb-true}
 use Rattle.std.proofs.lemmas.List.{length-append, length-replicate}
-use Rattle.bmx_script.specs.declared.knowledge.Known.{Known}
+use Rattle.bmx_script.specs.declared.knowledge.Knowledge.{Knowledge}
 use Rattle.bmx_script.specs.declared.lines.Line.{Line}
 use Rattle.bmx_script.specs.declared.lines.Bad.{Bad}
 use Rattle.bmx_script.specs.Spelling.{word_of, spelling, printed}
@@ -30,7 +30,7 @@ near : (number end : ℕ) → number ≤ 20000 → end ≤ 2 ^ 20 → is_long nu
 near number end few short = or_from (nat_lt 20000 number) (nat_lt (2 ^ 20) end) (le-ltb 20000 number few) (le-ltb (2 ^ 20) end short)
 
 -- empty lines are skipped
-skipped_on : (n : ℕ) (k : Known) (done : List Line) (number start : ℕ) (texts : List (List ℕ)) (answer : Result (List Line) Bad) (next end : ℕ)
+skipped_on : (n : ℕ) (k : Knowledge) (done : List Line) (number start : ℕ) (texts : List (List ℕ)) (answer : Result (List Line) Bad) (next end : ℕ)
     → next ≡ number + n → end ≡ start + n → (0 < n → 1 < number) → next ≤ 20001 → end ≤ 2 ^ 20
     → Reads k done next end texts answer → Reads k done number start (replicate n [] ++ texts) answer
 skipped_on zero k done number start texts answer next end p q behind few short on =
@@ -54,7 +54,7 @@ pub numbered_below : (m : ℕ) (xs : List Line) → AreNumbered m 20001 xs → m
 numbered_below m [] h = omega arith
 numbered_below m (x ∷ xs) h = let rest : x.number ≤ 20000 = numbered_below x.number xs h.1 in omega (arith, h.0, rest)
 
-reads_on : (ws : List (List ℕ)) (k : Known) (done ls : List Line) (above start : ℕ)
+reads_on : (ws : List (List ℕ)) (k : Knowledge) (done ls : List Line) (above start : ℕ)
     → ws ≡ (known_after_all k ls).bunches → IsProper k → AreInOrder k ls → 3 ≤ (known_after_all k ls).section
     → AreNumbered above 20001 ls → (above ≡ 0 → first_number 1 ls ≡ 1) → start + length (printed ws (above + 1) ls) ≤ 2 ^ 20
     → Reads k done (above + 1) start (lines_of (printed ws (above + 1) ls)) (Ok (done ++ ls))
@@ -96,7 +96,7 @@ round_trip lines script =
 
 -- ## how long the printed script is
 
-length_by : (ws : List (List ℕ)) (k : Known) (number : ℕ) (ls : List Line) (next : ℕ) → ws ≡ (known_after_all k ls).bunches → AreInOrder k ls
+length_by : (ws : List (List ℕ)) (k : Knowledge) (number : ℕ) (ls : List Line) (next : ℕ) → ws ≡ (known_after_all k ls).bunches → AreInOrder k ls
     → length (printed ws number ls) ≤ print_length k number ls next
 length_by ws k number [] next words order = omega arith
 length_by ws k number (l ∷ ls) next words order =

@@ -6,7 +6,7 @@ use Rattle.std.proofs.Math.ListN.{get_or-append, length-append}
 use Rattle.std.proofs.Math.Seq.{get_or-append_seam}
 use Rattle.bmx_numerals.specs.declared.words.Misfit.{Misfit}
 use Rattle.bmx_numerals.specs.declared.words.Misfit.TheVariants.{Form, Range}
-use Rattle.bmx_script.specs.declared.knowledge.Known.{Known}
+use Rattle.bmx_script.specs.declared.knowledge.Knowledge.{Knowledge}
 use Rattle.bmx_script.specs.declared.lines.Line.{Line}
 use Rattle.bmx_script.specs.declared.lines.LineKind.{LineKind}
 use Rattle.bmx_script.specs.declared.lines.LineKind.TheVariants as line
@@ -20,7 +20,7 @@ use Rattle.bmx_script.proofs.Exact.{Tells}
 use Rattle.bmx_script.proofs.RoundTrip.{script_length}
 
 -- the verdict on a line that was read
-pub verdict_from : (k : Known) (number end : ℕ) (text : List ℕ) (f : Result LineKind Misfit) → is_long number end ≡ false → is_skipped number text ≡ false → Tells k text f → IsVerdict k number end text (verdict_of f)
+pub verdict_from : (k : Knowledge) (number end : ℕ) (text : List ℕ) (f : Result LineKind Misfit) → is_long number end ≡ false → is_skipped number text ≡ false → Tells k text f → IsVerdict k number end text (verdict_of f)
 verdict_from k number end text (Err Form) near here tells = has_no_form near here tells
 verdict_from k number end text (Err Range) near here tells = is_out_of_range near here tells.0 tells.1
 verdict_from k number end text (Ok what) near here tells = (near, here, tells)
@@ -43,16 +43,16 @@ distinct_push ws w distinct new q b before within =
     (cases_lt b (length ws))
 
 -- lines in order, and one that may stand behind them
-order_push : (k : Known) (ls : List Line) (l : Line) → AreInOrder k ls → may_follow (known_after_all k ls).section (section_of l.what) ≡ true → is_built l.what ≡ true
+order_push : (k : Knowledge) (ls : List Line) (l : Line) → AreInOrder k ls → may_follow (known_after_all k ls).section (section_of l.what) ≡ true → is_built l.what ≡ true
     → in_range (known_after_all k ls) l.what ≡ true → AreInOrder k (ls ++ l ∷ [])
 order_push k [] l order stands built range = (stands, built, range, tt)
 order_push k (m ∷ ms) l order stands built range = (order.0, order.1, order.2, order_push (known_after k m.what) ms l order.3 stands built range)
 
-known_push : (k : Known) (ls : List Line) (l : Line) → known_after_all k (ls ++ l ∷ []) ≡ known_after (known_after_all k ls) l.what
+known_push : (k : Knowledge) (ls : List Line) (l : Line) → known_after_all k (ls ++ l ∷ []) ≡ known_after (known_after_all k ls) l.what
 known_push k [] l = refl
 known_push k (m ∷ ms) l = known_push (known_after k m.what) ms l
 
-pub distinct_after : (k : Known) (what : LineKind) → AreDistinct k.bunches → in_range k what ≡ true → AreDistinct (known_after k what).bunches
+pub distinct_after : (k : Knowledge) (what : LineKind) → AreDistinct k.bunches → in_range k what ≡ true → AreDistinct (known_after k what).bunches
 distinct_after k line.Version d range = d
 distinct_after k (line.Nodes count) d range = d
 distinct_after k (line.Bunch w file) d range = distinct_push k.bunches w d (not-true (list_any (same_word w) k.bunches) (and_parts (not (list_any (same_word w) k.bunches)) (nat_lt (length k.bunches) 16) range).0)
@@ -67,10 +67,10 @@ distinct_after k (line.Collect n b) d range = d
 distinct_after k (line.Sweep n) d range = d
 distinct_after k line.Settle d range = d
 
-same_room : {k l : Known} → HasRoom k → k.nodes ≡ l.nodes → length k.bunches ≡ length l.bunches → HasRoom l
+same_room : {k l : Knowledge} → HasRoom k → k.nodes ≡ l.nodes → length k.bunches ≡ length l.bunches → HasRoom l
 same_room {k} {l} r n b = record { few_nodes = rw (← n) r.few_nodes; few_bunches = rw (← b) r.few_bunches }
 
-pub room_after : (k : Known) (what : LineKind) → HasRoom k → in_range k what ≡ true → HasRoom (known_after k what)
+pub room_after : (k : Knowledge) (what : LineKind) → HasRoom k → in_range k what ≡ true → HasRoom (known_after k what)
 room_after k line.Version r range = record { few_nodes = r.few_nodes; few_bunches = r.few_bunches }
 room_after k (line.Nodes count) r range = record { few_nodes = rw (eqb-true count 1 range) (omega arith); few_bunches = r.few_bunches }
 room_after k (line.Bunch w file) r range =
@@ -117,11 +117,11 @@ first_push number next what (l ∷ ls) first = first
 
 -- ## what the lines print
 
-length_skipped : (k : Known) (number : ℕ) (ls : List Line) (next : ℕ) → print_length k number ls (next + 1) ≤ print_length k number ls next + 1
+length_skipped : (k : Knowledge) (number : ℕ) (ls : List Line) (next : ℕ) → print_length k number ls (next + 1) ≤ print_length k number ls next + 1
 length_skipped k number [] next = omega arith
 length_skipped k number (l ∷ ls) next = let more : print_length (known_after k l.what) (l.number + 1) ls (next + 1) ≤ print_length (known_after k l.what) (l.number + 1) ls next + 1 = length_skipped (known_after k l.what) (l.number + 1) ls next in omega arith
 
-length_push : (k : Known) (number : ℕ) (ls : List Line) (next : ℕ) (what : LineKind)
+length_push : (k : Knowledge) (number : ℕ) (ls : List Line) (next : ℕ) (what : LineKind)
     → print_length k number (ls ++ record { number = next; what = what } ∷ []) (next + 1) ≡ print_length k number ls next + (length (spelling (known_after_all k ls).bunches what) + 1)
 length_push k number [] next what = omega arith
 length_push k number (l ∷ ls) next what =
@@ -151,13 +151,13 @@ pub sound_noted : (r : Reader) (text : List ℕ) (what : LineKind) → IsSound r
 sound_noted r text what s near good =
     let bounds : (r.number ≤ 20000) × (end_of r text ≤ 2 ^ 20) = near_bounds r.number (end_of r text) near in
     let l : Line = record { number = r.number; what = what } in
-    let stands : may_follow (known_after_all nothing_known r.lines).section (section_of what) ≡ true = ap (λ (k : Known). may_follow k.section (section_of what)) (sym s.known) ∙ good.form.stands in
-    let range : in_range (known_after_all nothing_known r.lines) what ≡ true = ap (λ (k : Known). in_range k what) (sym s.known) ∙ good.range in
-    let spelled : length (spelling (known_after_all nothing_known r.lines).bunches what) ≡ length text = ap (λ (k : Known). length (spelling k.bunches what)) (sym s.known) ∙ ap (λ (x : List ℕ). length x) good.form.spelled in
+    let stands : may_follow (known_after_all nothing_known r.lines).section (section_of what) ≡ true = ap (λ (k : Knowledge). may_follow k.section (section_of what)) (sym s.known) ∙ good.form.stands in
+    let range : in_range (known_after_all nothing_known r.lines) what ≡ true = ap (λ (k : Knowledge). in_range k what) (sym s.known) ∙ good.range in
+    let spelled : length (spelling (known_after_all nothing_known r.lines).bunches what) ≡ length text = ap (λ (k : Knowledge). length (spelling k.bunches what)) (sym s.known) ∙ ap (λ (x : List ℕ). length x) good.form.spelled in
     let longer : print_length nothing_known 1 (r.lines ++ l ∷ []) (r.number + 1) ≡ print_length nothing_known 1 r.lines r.number + (length (spelling (known_after_all nothing_known r.lines).bunches what) + 1) = length_push nothing_known 1 r.lines r.number what in
     record {
       order = order_push nothing_known r.lines l s.order stands good.form.built range;
-      known = ap (λ (k : Known). known_after k what) s.known ∙ sym (known_push nothing_known r.lines l);
+      known = ap (λ (k : Knowledge). known_after k what) s.known ∙ sym (known_push nothing_known r.lines l);
       distinct = distinct_after r.known what s.distinct good.range;
       room = room_after r.known what s.room good.range;
       some = omega (arith, s.some, length-append r.lines (l ∷ []));
@@ -175,9 +175,9 @@ sound_script r s head =
     let length_is : length (script_text r.lines) ≤ print_length nothing_known 1 r.lines r.number = script_length r.lines r.number s.order in
     record {
       order = s.order;
-      head = le-leb 3 (known_after_all nothing_known r.lines).section (omega (arith, ap (λ (k : Known). k.section) s.known));
+      head = le-leb 3 (known_after_all nothing_known r.lines).section (omega (arith, ap (λ (k : Knowledge). k.section) s.known));
       few = omega (arith, s.some, s.few);
-      first = first_of r.number r.lines s.first (some_lines r.lines (omega (arith, ap (λ (k : Known). k.section) s.known)));
+      first = first_of r.number r.lines s.first (some_lines r.lines (omega (arith, ap (λ (k : Knowledge). k.section) s.known)));
       numbers = weaker 0 r.number 20001 r.lines s.few s.numbers;
       short = omega (arith, length_is, s.printed, s.short);
     }

@@ -13,7 +13,7 @@ use Rattle.bmx_script.specs.declared.lines.LineKind.TheVariants as line
 use Rattle.bmx_script.specs.declared.lines.Bad.{Bad}
 use Rattle.bmx_script.specs.declared.lines.BadCause.{BadCause}
 use Rattle.bmx_script.specs.declared.lines.BadCause.TheVariants as cause
-use Rattle.bmx_script.specs.declared.knowledge.Known.{Known}
+use Rattle.bmx_script.specs.declared.knowledge.Knowledge.{Knowledge}
 use Rattle.bmx_numerals.specs.Numerals.{is_digit}
 use Rattle.bmx_script.specs.Bytes.{line_feed, hash, underscore, letter_a, letter_z}
 use Rattle.bmx_script.specs.Spelling.{word_of, spelling, printed}
@@ -43,7 +43,7 @@ abbrev pub same_word : List ℕ → List ℕ → Bool
 same_word = bytes_eq
 
 -- before the first line
-abbrev pub nothing_known : Known
+abbrev pub nothing_known : Knowledge
 nothing_known = record { section = 0; nodes = 0; bunches = []; limit = None }
 
 -- in which section of a script a line stands, from 1
@@ -63,7 +63,7 @@ section_of (line.Sweep node) = 5
 section_of line.Settle = 6
 
 -- what is known behind a line
-abbrev pub known_after : Known → LineKind → Known
+abbrev pub known_after : Knowledge → LineKind → Knowledge
 known_after k (line.Nodes count) = record { section = 2; nodes = count; bunches = k.bunches; limit = k.limit }
 known_after k (line.Bunch word file) = record { section = 3; nodes = k.nodes; bunches = k.bunches ++ word ∷ []; limit = k.limit }
 known_after k (line.Segments limit) = record { section = 4; nodes = k.nodes; bunches = k.bunches; limit = Some limit }
@@ -160,7 +160,7 @@ fits_command bunches (command.Same left right) = fits_operand bunches left && fi
 
 -- a line's numbers are in their ranges, its words are known or new as they have to be, and it isn't said
 -- twice how many segments there are. A script has one node so far
-abbrev pub in_range : Known → LineKind → Bool
+abbrev pub in_range : Knowledge → LineKind → Bool
 in_range k line.Version = true
 in_range k (line.Nodes count) = count == 1
 in_range k (line.Bunch word file) = not (list_any (same_word word) k.bunches) && nat_lt (length k.bunches) 16
@@ -176,18 +176,18 @@ in_range k (line.Sweep node) = nat_lt node k.nodes
 in_range k line.Settle = true
 
 -- the text is the spelling of a line that may stand here, with these words for the bunches
-pub record IsSpelled (k : Known) (bunches : List (List ℕ)) (what : LineKind) (text : List ℕ) : Type 0 where
+pub record IsSpelled (k : Knowledge) (bunches : List (List ℕ)) (what : LineKind) (text : List ℕ) : Type 0 where
   pub stands : IsTrue (may_follow k.section (section_of what))
   pub built : IsTrue (is_built what)
   pub words : IsTrue (list_all (λ b. is_bunch_word (word_of bunches b)) (named_on what))
   pub spelled : spelling bunches what ≡ text
 
 -- some line that may stand here is spelled so, whatever the bunches are called
-abbrev pub HasForm : Known → List ℕ → Type 0
+abbrev pub HasForm : Knowledge → List ℕ → Type 0
 HasForm k text = (bunches : List (List ℕ)) × (what : LineKind) × IsSpelled k bunches what text
 
 -- the text is this line, with the bunches that are known, and all is in range
-pub record IsGood (k : Known) (what : LineKind) (text : List ℕ) : Type 0 where
+pub record IsGood (k : Knowledge) (what : LineKind) (text : List ℕ) : Type 0 where
   pub form : IsSpelled k k.bunches what text
   pub range : IsTrue (in_range k what)
 
@@ -205,7 +205,7 @@ abbrev pub is_skipped : ℕ → List ℕ → Bool
 is_skipped number text = nat_lt 1 number && is_comment text
 
 -- why a line is bad, by its number, the number of bytes to its line feed, and its text
-pub data IsBad (k : Known) (number end : ℕ) (text : List ℕ) : BadCause → Type 0 where
+pub data IsBad (k : Knowledge) (number end : ℕ) (text : List ℕ) : BadCause → Type 0 where
   is_far : is_long number end ≡ true → IsBad k number end text cause.Long
   has_no_form : is_long number end ≡ false → is_skipped number text ≡ false → ¬ HasForm k text → IsBad k number end text cause.Form
   is_out_of_range : is_long number end ≡ false → is_skipped number text ≡ false → HasForm k text → ((what : LineKind) → ¬ IsGood k what text) → IsBad k number end text cause.Range
@@ -217,22 +217,22 @@ lines_of (c ∷ cs) = if c == line_feed then [] ∷ lines_of cs else onto_first 
 
 -- what reading comes to, from what is known, the lines so far, the number of the next line and the bytes
 -- before it: all lines, or the first bad line and its cause
-pub data Reads : Known → List Line → ℕ → ℕ → List (List ℕ) → Result (List Line) Bad → Type 0 where
+pub data Reads : Knowledge → List Line → ℕ → ℕ → List (List ℕ) → Result (List Line) Bad → Type 0 where
   -- the last line was read
-  ends : {k : Known} {lines : List Line} {number start : ℕ} → 3 ≤ k.section → Reads k lines number start [] (Ok lines)
+  ends : {k : Knowledge} {lines : List Line} {number start : ℕ} → 3 ≤ k.section → Reads k lines number start [] (Ok lines)
   -- a script that ends before its first bunch ends too early
-  ends_early : {k : Known} {lines : List Line} {number start : ℕ} → k.section < 3 → Reads k lines number start [] (Err (record { line = number; cause = cause.End }))
+  ends_early : {k : Knowledge} {lines : List Line} {number start : ℕ} → k.section < 3 → Reads k lines number start [] (Err (record { line = number; cause = cause.End }))
   -- an empty line or a comment
-  skips : {k : Known} {lines : List Line} {number start : ℕ} {text : List ℕ} {texts : List (List ℕ)} {answer : Result (List Line) Bad} →
+  skips : {k : Knowledge} {lines : List Line} {number start : ℕ} {text : List ℕ} {texts : List (List ℕ)} {answer : Result (List Line) Bad} →
       is_long number (start + (length text + 1)) ≡ false → is_skipped number text ≡ true →
       Reads k lines (number + 1) (start + (length text + 1)) texts answer → Reads k lines number start (text ∷ texts) answer
   -- a good line
-  takes : {k : Known} {lines : List Line} {number start : ℕ} {text : List ℕ} {texts : List (List ℕ)} {answer : Result (List Line) Bad} (what : LineKind) →
+  takes : {k : Knowledge} {lines : List Line} {number start : ℕ} {text : List ℕ} {texts : List (List ℕ)} {answer : Result (List Line) Bad} (what : LineKind) →
       is_long number (start + (length text + 1)) ≡ false → is_skipped number text ≡ false → IsGood k what text →
       Reads (known_after k what) (lines ++ record { number = number; what = what } ∷ []) (number + 1) (start + (length text + 1)) texts answer →
       Reads k lines number start (text ∷ texts) answer
   -- a bad line
-  stops : {k : Known} {lines : List Line} {number start : ℕ} {text : List ℕ} {texts : List (List ℕ)} (why : BadCause) →
+  stops : {k : Knowledge} {lines : List Line} {number start : ℕ} {text : List ℕ} {texts : List (List ℕ)} (why : BadCause) →
       IsBad k number (start + (length text + 1)) text why → Reads k lines number start (text ∷ texts) (Err (record { line = number; cause = why }))
 
 -- the bytes are read as these lines, or have this first bad line
@@ -240,12 +240,12 @@ abbrev pub IsReading : List ℕ → Result (List Line) Bad → Type 0
 IsReading bytes answer = Reads nothing_known [] 1 0 (lines_of bytes) answer
 
 -- what is known behind lines
-abbrev pub known_after_all : Known → List Line → Known
+abbrev pub known_after_all : Knowledge → List Line → Knowledge
 known_after_all k [] = k
 known_after_all k (l ∷ ls) = known_after_all (known_after k l.what) ls
 
 -- lines that may stand behind one another, with all in range
-abbrev pub AreInOrder : Known → List Line → Type 0
+abbrev pub AreInOrder : Knowledge → List Line → Type 0
 AreInOrder k [] = Unit {0}
 AreInOrder k (l ∷ ls) =
     IsTrue (may_follow k.section (section_of l.what)) × IsTrue (is_built l.what) × IsTrue (in_range k l.what)

@@ -3,5 +3,5 @@ pub mod Grammar
 pub mod Inside
 pub mod Laws
 pub mod Printing
-pub mod Reader
+pub mod Reading
 pub mod Spelling

@@ -21,7 +21,7 @@ pub(crate) enum Section {
 
 /// What is known before a line of a script.
 #[derive(Debug, Drop)]
-pub struct Known {
+pub struct Knowledge {
     /// The number of the last line's section, 0 before the first line.
     pub section: u8,
     /// How many nodes there are, 0 while that isn't known.
@@ -32,12 +32,12 @@ pub struct Known {
     pub limit: Option<u32>,
 }
 
-impl Known {
+impl Knowledge {
     /// Before the first line.
-    pub(crate) fn new(alloc: Global) -> Known
+    pub(crate) fn new(alloc: Global) -> Knowledge
         ensures { result ≡ nothing_known }
     {
-        Known {
+        Knowledge {
             section: 0,
             nodes: 0,
             bunches: Items::new(alloc),

@@ -12,7 +12,7 @@ mod spelling;
 mod tests;
 mod verdicts;
 
-pub use knowledge::Known;
+pub use knowledge::Knowledge;
 pub use laws::{prefix_is_enough, reading_is_determined};
 pub use lines::{Bad, BadCause, BunchWords, Fate, Line, LineKind, Lines};
 pub use printing::{Shown, ShownLine, print_line, shown_line};

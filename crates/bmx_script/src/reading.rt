@@ -5,7 +5,7 @@ ghost use Rattle.bmx_script.specs.Grammar.{is_bunch_word as is_bunch_word_lem, i
 ghost use Rattle.bmx_script.specs.Inside.Reader.{HasRoom};
 ghost use Rattle.bmx_script.specs.Inside.Parsing.{read_register, read_bunch, read_source, read_value, begins_as_source as begins_as_source_lem, read_place, of_one, of_two, of_three, line_of, placed_line, head_line as head_line_lem, setting_line as setting_line_lem, read_version, read_nodes, read_segments, declared_bunch, read_line as read_line_lem};
 
-use crate::knowledge::{Known, Section, is_word};
+use crate::knowledge::{Knowledge, Section, is_word};
 use crate::lines::LineKind;
 use arrayvec::ArrayVec;
 use bmx_numerals::{Misfit, both, integer, number_below, number_within};
@@ -23,7 +23,7 @@ type Words<'a> = ArrayVec<&'a [u8], MOST_WORDS>;
 #[inline(always)]
 pub(crate) fn read_line(
     alloc: Global,
-    known: &Known,
+    known: &Knowledge,
     text: &[u8],
 ) -> Result<Result<LineKind, Misfit>, NoMemory>
     requires { HasRoom known.now }
@@ -37,7 +37,11 @@ pub(crate) fn read_line(
 
 /// What a line says by its words.
 #[inline(always)]
-fn line(alloc: Global, known: &Known, words: &[&[u8]]) -> Result<Result<LineKind, Misfit>, NoMemory>
+fn line(
+    alloc: Global,
+    known: &Knowledge,
+    words: &[&[u8]],
+) -> Result<Result<LineKind, Misfit>, NoMemory>
     requires { HasRoom known.now }
     ensures { IfOk result (λ line. line ≡ line_of known.now (map (λ w. w.now) words.now)) }
 {
@@ -80,7 +84,7 @@ fn words_of(text: &[u8]) -> Option<Words<'_>>
 /// A line of two words: a bunch, or a key and a number.
 fn head_line(
     alloc: Global,
-    known: &Known,
+    known: &Knowledge,
     key: &[u8],
     word: &[u8],
 ) -> Result<Result<LineKind, Misfit>, NoMemory>
@@ -93,7 +97,7 @@ fn head_line(
 }
 
 /// `bmx 1`, `nodes N` or `segments L`, each in its place.
-fn setting_line(known: &Known, key: &[u8], word: &[u8]) -> Result<LineKind, Misfit>
+fn setting_line(known: &Knowledge, key: &[u8], word: &[u8]) -> Result<LineKind, Misfit>
     ensures { result ≡ setting_line_lem known.now key.now word.now }
 {
     if is_word(key, "bmx") && known.may_follow(Section::Version) {
@@ -127,7 +131,7 @@ fn nodes_line(word: &[u8]) -> Result<LineKind, Misfit>
 }
 
 /// How many segments a node may make.
-fn segments_line(known: &Known, word: &[u8]) -> Result<LineKind, Misfit>
+fn segments_line(known: &Knowledge, word: &[u8]) -> Result<LineKind, Misfit>
     ensures { result ≡ read_segments known.now word.now }
 {
     let (limit, ()) = both(number_within(word, 1, 65_535), known.first_limit())?;
@@ -139,7 +143,7 @@ fn segments_line(known: &Known, word: &[u8]) -> Result<LineKind, Misfit>
 /// A bunch with a word of its own.
 fn bunch_line(
     alloc: Global,
-    known: &Known,
+    known: &Knowledge,
     word: &[u8],
 ) -> Result<Result<LineKind, Misfit>, NoMemory>
     requires { is_bunch_word_lem word.now ≡ true }
@@ -168,7 +172,7 @@ fn text_of(alloc: Global, word: &[u8]) -> Result<Text, NoMemory>
 /// A line of a node: its number, and a command.
 #[inline(always)]
 fn node_line(
-    known: &Known,
+    known: &Knowledge,
     node: &[u8],
     command: Result<Command, Misfit>,
 ) -> Result<LineKind, Misfit>
@@ -184,7 +188,7 @@ fn node_line(
 
 /// A node's number.
 #[inline(always)]
-fn node_number(known: &Known, word: &[u8]) -> Result<NodeNo, Misfit>
+fn node_number(known: &Knowledge, word: &[u8]) -> Result<NodeNo, Misfit>
     requires { HasRoom known.now }
     ensures { result ≡ read_below known.now.nodes word.now }
 {
@@ -194,7 +198,7 @@ fn node_number(known: &Known, word: &[u8]) -> Result<NodeNo, Misfit>
 
 /// `drop REG`, `read SRC`, `write SRC` and `done SRC`.
 #[inline(always)]
-fn command_of_one(known: &Known, verb: &[u8], a: &[u8]) -> Result<Command, Misfit>
+fn command_of_one(known: &Knowledge, verb: &[u8], a: &[u8]) -> Result<Command, Misfit>
     requires { HasRoom known.now }
     ensures { result ≡ of_one known.now verb.now a.now }
 {
@@ -217,7 +221,7 @@ fn command_of_one(known: &Known, verb: &[u8], a: &[u8]) -> Result<Command, Misfi
 
 /// `copy REG VAL`, `show SRC I` and `same VAL VAL`.
 #[inline(always)]
-fn command_of_two(known: &Known, verb: &[u8], a: &[u8], b: &[u8]) -> Result<Command, Misfit>
+fn command_of_two(known: &Knowledge, verb: &[u8], a: &[u8], b: &[u8]) -> Result<Command, Misfit>
     requires { HasRoom known.now }
     ensures { result ≡ of_two known.now verb.now a.now b.now }
 {
@@ -238,7 +242,7 @@ fn command_of_two(known: &Known, verb: &[u8], a: &[u8], b: &[u8]) -> Result<Comm
 /// `new REG B S`, `set SRC I VAL`, `add SRC I K` and `get REG SRC I`.
 #[inline(always)]
 fn command_of_three(
-    known: &Known,
+    known: &Knowledge,
     verb: &[u8],
     words: (&[u8], &[u8], &[u8]),
 ) -> Result<Command, Misfit>
@@ -274,7 +278,7 @@ fn command_of_three(
 
 /// A field of an object: a source and an index.
 #[inline(always)]
-fn place(known: &Known, on: &[u8], index: &[u8]) -> Result<(Operand, u8), Misfit>
+fn place(known: &Knowledge, on: &[u8], index: &[u8]) -> Result<(Operand, u8), Misfit>
     requires { HasRoom known.now }
     ensures { result ≡ read_place known.now on.now index.now }
 {
@@ -283,7 +287,7 @@ fn place(known: &Known, on: &[u8], index: &[u8]) -> Result<(Operand, u8), Misfit
 
 /// A value: `null`, a source or an integer.
 #[inline(always)]
-fn value(known: &Known, word: &[u8]) -> Result<Operand, Misfit>
+fn value(known: &Knowledge, word: &[u8]) -> Result<Operand, Misfit>
     requires { HasRoom known.now }
     ensures { result ≡ read_value known.now word.now }
 {
@@ -309,7 +313,7 @@ fn begins_as_source(word: &[u8]) -> bool
 
 /// A source: a register, or `@` and a bunch's word, for its anchor.
 #[inline(always)]
-fn source(known: &Known, word: &[u8]) -> Result<Operand, Misfit>
+fn source(known: &Knowledge, word: &[u8]) -> Result<Operand, Misfit>
     requires { HasRoom known.now }
     ensures { result ≡ read_source known.now word.now }
 {
@@ -331,7 +335,7 @@ fn register(word: &[u8]) -> Result<u8, Misfit>
 }
 
 /// A bunch, by its word.
-fn bunch(known: &Known, word: &[u8]) -> Result<BunchNo, Misfit>
+fn bunch(known: &Knowledge, word: &[u8]) -> Result<BunchNo, Misfit>
     requires { HasRoom known.now }
     ensures { result ≡ read_bunch known.now word.now }
 {

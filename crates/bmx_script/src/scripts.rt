@@ -1,10 +1,10 @@
 ghost use Rattle.std.specs.Prelude.{◌≡◌, ◌==◌, ◌≢◌, ◌+◌, ◌^◌, ◌<◌, ◌≤◌, [], ◌∷◌, length, IfOk, IfErr, IfSome, OnOk, Ok, Err};
 ghost use Rattle.std.specs.List.{position_from};
 ghost use Rattle.bmx_script.specs.Grammar.{AreScript, nodes_of, bunches_of, limit_of, lines_of, is_comment as is_comment_lem, is_long as is_long_lem, is_skipped as is_skipped_lem};
-ghost use Rattle.bmx_script.specs.Reader.{IsAnswer, ForBad};
+ghost use Rattle.bmx_script.specs.Reading.{IsAnswer, ForBad};
 ghost use Rattle.bmx_script.specs.Inside.Reader.{IsVerdict, ReadsOn, IsSound, end_of, noted, verdict_of as verdict_of_lem};
 
-use crate::knowledge::{Known, Section};
+use crate::knowledge::{Knowledge, Section};
 use crate::lines::{Bad, BadCause, BunchWords, Line, LineKind, Lines};
 use crate::reading::read_line;
 use crate::verdicts::Verdict;
@@ -36,7 +36,7 @@ impl From<NoMemory> for ScriptError {
 #[derive(Debug, Drop)]
 pub struct Script {
     lines: Lines,
-    known: Known,
+    known: Knowledge,
 }
 
 impl Model for Script {
@@ -88,7 +88,7 @@ impl Script {
 /// A reader of a script, line by line.
 #[derive(Drop)]
 struct Reader {
-    known: Known,
+    known: Knowledge,
     lines: Lines,
     /// The number of the next line.
     number: u32,
@@ -101,7 +101,7 @@ pub fn read_script(alloc: Global, bytes: &[u8]) -> Result<Script, ScriptError>
     ensures { IsAnswer bytes.now result }
 {
     let mut reader = Reader {
-        known: Known::new(alloc),
+        known: Knowledge::new(alloc),
         lines: Items::new(alloc),
         number: 1,
         start: 0,

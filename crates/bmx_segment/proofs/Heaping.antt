@@ -9,7 +9,7 @@ use Rattle.bmx_types.specs.Words.{home_of, segment_of, index_of, address_word}
 use Rattle.bmx_segment.specs.Blocks.{Block, CanStand, header_in, blank_block}
 use Rattle.bmx_segment.specs.Stores.{segment_key, key_at, block_at, header_at, IsMapped, is_between, CanStandAt, Maps, Sets, Writes, Drops}
 use Rattle.bmx_segment.specs.Inside.Stores.{Mapped, Fills}
-use Rattle.bmx_segment.specs.Updates.{Puts}
+use Rattle.bmx_types.specs.Updates.{Puts}
 use Rattle.bmx_segment.specs.Heaps.{Heap, IsHeap, IsOpenOne, IsOpen, CanSet, made_of, own_at, handed_in, handed_of, with_handed, raised, Makes, PlacesIn, PlacesInNew}
 use Rattle.bmx_segment.specs.Headers.{with_kind_at}
 use Rattle.bmx_segment.specs.declared.headers.Header.{Header}

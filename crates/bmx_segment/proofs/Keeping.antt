@@ -12,7 +12,7 @@ use Rattle.bmx_segment.proofs.Filling.{header_in-filled, word-filled, word-outsi
 use Rattle.bmx_segment.specs.Blocks.{is_start, Block, CanStand, header_in, with_header, with_field, blank_block}
 use Rattle.bmx_segment.specs.Stores.{segment_key, key_at, block_at, header_at, word_at, word_in, is_between, Maps, Sets, Lays, Writes, Drops}
 use Rattle.bmx_segment.specs.Inside.Blocks.{IsBlock}
-use Rattle.bmx_segment.specs.Updates.{Puts}
+use Rattle.bmx_types.specs.Updates.{Puts}
 use Rattle.bmx_segment.specs.declared.headers.Header.{Header}
 use Rattle.bmx_segment.proofs.Found.{chosen, passed}
 use Rattle.bmx_segment.proofs.Standing.{header_in-with_same, header_in-with_other, word-with_header}

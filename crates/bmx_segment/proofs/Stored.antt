@@ -4,7 +4,7 @@ use Rattle.std.specs.Prelude.{IsSomeAnd, IfSome, IfNone, slice_index}
 use Rattle.bmx_types.specs.Words.{home_of, segment_of, index_of}
 use Rattle.std.proofs.lemmas.Bool.{cases_eq, cases_lt}
 use Rattle.std.proofs.lemmas.List.{length-set, get_or_read, get_or_past, get_or_push, get_or_append_left, length_push}
-use Rattle.bmx_segment.specs.Updates.{Puts}
+use Rattle.bmx_types.specs.Updates.{Puts}
 use Rattle.bmx_segment.specs.Blocks.{Block, CanStand, blank_block}
 use Rattle.bmx_segment.specs.declared.headers.Header.{Header}
 use Rattle.bmx_segment.specs.Stores.{segment_key, key_of, key_at, block_at, CanStandAt}

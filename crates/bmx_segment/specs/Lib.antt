@@ -1,5 +1,4 @@
 pub mod Headers
-pub mod Updates
 pub mod Blocks
 pub mod Stores
 pub mod Heaps

@@ -2,7 +2,7 @@
 use Rattle.std.specs.Prelude.{◌≡◌, ◌≢◌, ◌⊎◌, ℕ, ◌+◌, ◌-◌, ◌*◌, ◌^◌, ◌<◌, ◌≤◌, Bool, if◌then◌else◌, ◌==◌, ◌&&◌, nat_le, nat_lt, List, [], ◌∷◌, slice_index, Option, Some, None, IsSome, IsSomeAnd, is_some, unwrap_or}
 use Rattle.std.specs.Option.{option_and_then, option_map}
 use Rattle.bmx_types.specs.Words.{home_of, segment_of, index_of}
-use Rattle.bmx_segment.specs.Updates.{Puts}
+use Rattle.bmx_types.specs.Updates.{Puts}
 use Rattle.bmx_segment.specs.Blocks.{Block, header_in, CanStand, with_header, with_field, blank_block, live_in}
 use Rattle.bmx_segment.specs.Headers.{header_words, with_kind_at, IsLive}
 use Rattle.bmx_segment.specs.declared.headers.Header.{Header}

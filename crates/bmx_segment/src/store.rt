@@ -3,7 +3,7 @@ ghost use Rattle.std.specs.Prelude.{◌≡◌, ◌≢◌, ℕ, ◌+◌, ◌-◌,
 ghost use Rattle.std.specs.Option.{option_map};
 ghost use Rattle.bmx_types.specs.Words.{index_of};
 ghost use Rattle.bmx_segment.specs.Headers.{IsHeader, kind_number};
-ghost use Rattle.bmx_segment.specs.Updates.{Puts};
+ghost use Rattle.bmx_types.specs.Updates.{Puts};
 ghost use Rattle.bmx_segment.specs.Blocks.{Block};
 ghost use Rattle.bmx_segment.specs.Stores.{segment_key, block_at, header_at, word_at, live_of, AreApart, Maps, Sets, Writes, CanStandAt, HasFieldAt};
 ghost use Rattle.bmx_segment.specs.Inside.Stores.{Mapped, rank_of, AreBlocks, IsBlank, IsAt, Fills};

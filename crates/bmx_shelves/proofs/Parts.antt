@@ -1,4 +1,4 @@
--- Filters that keep the front or the rest of a list, and what is found in a filter.
+-- Filters that keep a prefix or the rest of a list, and what is found in a filter.
 use Rattle.std.proofs.Common.{◌≡◌, ℕ, zero, suc, ◌+◌, ◌<◌, ◌≤◌, Bool, true, false, cond, not, List, [], ◌∷◌, ◌++◌, length, get_or, take, drop, Some, None, refl, sym, ap, ◌∙◌, subst, arith, filter, find, All, AllPairs, count_by}
 use Rattle.std.specs.List.{AllWithin}
 use Rattle.std.proofs.lemmas.Bool.{cond_both, cond-true, cond-false}

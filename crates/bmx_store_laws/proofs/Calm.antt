@@ -3,15 +3,15 @@
 use Rattle.std.proofs.Common.{◌≡◌, ℕ, refl, ap, sym, subst, ◌∙◌, Bool, true, false, cond, List, [], ◌∷◌, ◌++◌}
 use Rattle.std.specs.Prelude.{◌==◌, Option, Some, None}
 use Rattle.std.specs.Option.{option_map}
-use Rattle.bmx_graph.specs.State.{put, put_at}
-use Rattle.bmx_token.specs.Turns.{Share, Turn}
-use Rattle.bmx_token_model.specs.Machine.{Message, Object, issue, moved, popped, hears, said_turn, letter_turn, IsSilent, IsNowhere, Step, Makes, Does, Takes, Writes, Forgets, Clears, Run, Goes}
+use Rattle.bmx_types.specs.Updates.{put, put_at}
+use Rattle.bmx_token.specs.Transitions.{Share, Transition}
+use Rattle.bmx_token_model.specs.Machine.{Message, Object, issue, moved, popped, hears, said_transition, letter_transition, IsSilent, IsNowhere, Step, Makes, Does, Receives, Writes, Forgets, Clears, Run, Goes}
 
 -- it doesn't make the object
 abbrev pub IsCalm : {o p : Object} → Step o p → Type 0
 IsCalm (Makes me nowhere is) = ⊥
 IsCalm (Does me refers a h t has does is) = Unit {0}
-IsCalm (Takes from me l rest t apart channel takes is) = Unit {0}
+IsCalm (Receives from me l rest t apart channel takes is) = Unit {0}
 IsCalm (Writes me to tells knows is) = Unit {0}
 IsCalm (Forgets me h has none is) = Unit {0}
 IsCalm (Clears me other none is) = Unit {0}
@@ -65,13 +65,13 @@ put_silent channel n m w here all j k = by_test (n == j)
     by_test true = row (m == k)
     by_test false = all j k
 
-some_turn : (a b : Turn) → Some a ≡ Some b → a ≡ b
-some_turn a b e = cc
+some_transition : (a b : Transition) → Some a ≡ Some b → a ≡ b
+some_transition a b e = cc
 
 -- a letter that says nothing changes nothing where nothing is known
-silent_turn : (me from : ℕ) (l : Message) (t : Turn) → IsSilent l → letter_turn me from l None ≡ Some t → t ≡ record { after = None; sends = [] }
-silent_turn me from l t silent takes = some_turn t _ (sym takes
-    ∙ (λ i. option_map (λ (u : Turn). record u { after = hears (silent.tells i) from u.after }) (said_turn me from (silent.note i) None)))
+silent_transition : (me from : ℕ) (l : Message) (t : Transition) → IsSilent l → letter_transition me from l None ≡ Some t → t ≡ record { after = None; sends = [] }
+silent_transition me from l t silent takes = some_transition t _ (sym takes
+    ∙ (λ i. option_map (λ (u : Transition). record u { after = hears (silent.tells i) from u.after }) (said_transition me from (silent.note i) None)))
 
 nothing_there : (h : Share) (k : Option Share) → k ≡ None → k ≡ Some h → ⊥
 nothing_there h k none some = (let both : None ≡ Some h = sym none ∙ some in cc)
@@ -79,7 +79,7 @@ nothing_there h k none some = (let both : None ≡ Some h = sym none ∙ some in
 nowhere_step : (o p : Object) (s : Step o p) → IsCalm s → IsNowhere o → IsNowhere p
 nowhere_step o p (Makes me none is) calm nowhere = absurd calm
 nowhere_step o p (Does me refers a h t has does is) calm nowhere = absurd (nothing_there h (o.holds me) (nowhere.unknown me) has)
-nowhere_step o p (Takes from me l rest t apart channel takes is) calm nowhere = subst IsNowhere (sym (is ∙ ap (moved (popped o from me l rest) me false) quiet))
+nowhere_step o p (Receives from me l rest t apart channel takes is) calm nowhere = subst IsNowhere (sym (is ∙ ap (moved (popped o from me l rest) me false) quiet))
     (nowhere_by (moved (popped o from me l rest) me false (record { after = None; sends = [] })) unknown
     (put_silent o.channel from me rest all.1 (channels o nowhere)))
   where
@@ -87,7 +87,7 @@ nowhere_step o p (Takes from me l rest t apart channel takes is) calm nowhere = 
     all = subst AreSilent channel (channels o nowhere from me)
 
     quiet : t ≡ record { after = None; sends = [] }
-    quiet = silent_turn me from l t all.0 (ap (letter_turn me from l) (sym (nowhere.unknown me)) ∙ takes)
+    quiet = silent_transition me from l t all.0 (ap (letter_transition me from l) (sym (nowhere.unknown me)) ∙ takes)
 
     unknown : (n : ℕ) → put o.holds me None n ≡ None
     unknown n = by_test (me == n)

@@ -5,11 +5,11 @@ use Rattle.std.proofs.lemmas.Bool.Decides.{nat_tests}
 use Rattle.std.specs.Prelude.{◌⊎◌, nat_lt, is_some, Option, Some, None, Contains}
 use Rattle.bmx_msg.specs.declared.letters.Letter.{Letter}
 use Rattle.bmx_token.specs.declared.parts.Role.TheVariants as role
-use Rattle.bmx_token.specs.Turns.{Share}
+use Rattle.bmx_token.specs.Transitions.{Share}
 use Rattle.bmx_protocol.specs.Nodes.{Setting, Known, share_of}
-use Rattle.bmx_protocol.specs.Worlds.{World, HasParent, Owned, Gave, Leads, Here, On, HasChain, EachHasChain}
+use Rattle.bmx_protocol.specs.Worlds.{World, HasParent, Owned, Gave, ParentChain, Here, On, HasChain, EachHasChain}
 use Rattle.bmx_token_model.specs.Machine.{Object, Message, brings}
-use Rattle.bmx_token_model.specs.Laws.{IsBrought, Ends, IsBelow, ParentsLead}
+use Rattle.bmx_token_model.specs.Laws.{IsBrought, ChainEnd, IsBelow, ParentsLead}
 use Rattle.bmx_token_model.specs.Laws as model
 use Rattle.bmx_token_model.proofs.Readers.{one_or_more}
 use Rattle.bmx_store_laws.specs.Inside.Seen.{seen, seen_message, seen_known}
@@ -48,7 +48,7 @@ parent_in w x n parent h has asks =
     (k.0, record { known = k.1; asks = ap (λ (j : Share). j.part.role) k.2 ∙ asks })
 
 -- a chain of the model is one of the store
-chain_in : (w : World) (x n steps : ℕ) → model.Leads (seen x w) n steps → Leads w x n steps
+chain_in : (w : World) (x n steps : ℕ) → model.Chain (seen x w) n steps → ParentChain w x n steps
 chain_in w x n steps (model.Here (model.Owns h has owns)) =
     let k : (j : Known) × ((w.state n).known x ≡ Some j) × (share_of j ≡ h) = known_seen ((w.state n).known x) h has in
     Here (Owned k.0 (record { known = k.1; owns = ap (λ (j : Share). j.part.role) k.2 ∙ owns }))
@@ -77,5 +77,5 @@ chains st w leads beyond n x k real has = by_chain ((leads x).chains st.nodes be
     below : IsBelow (seen x w) st.nodes
     below m h known = nodes_of st (seen x w) (beyond x) m (ap (λ (i : Option Share). is_some i) known)
 
-    by_chain : (steps : ℕ) × (steps < st.nodes) × model.Leads (seen x w) n steps → HasChain st w x n
+    by_chain : (steps : ℕ) × (steps < st.nodes) × model.Chain (seen x w) n steps → HasChain st w x n
     by_chain c = (c.0, c.1, chain_in w x n c.0 c.2)

@@ -1,4 +1,4 @@
--- Turns of a token by a node that has an entry leave one, make no copy but by a grant, and grant only where the
+-- Transitions of a token by a node that has an entry leave one, make no copy but by a grant, and grant only where the
 -- node serves.
 use Rattle.std.proofs.Common.{◌≡◌, ◌⊎◌, inl, inr, ℕ, refl, sym, Bool, true, false, cond, List, [], ◌∷◌}
 use Rattle.std.specs.Prelude.{Option, Some, None, is_some}
@@ -15,14 +15,14 @@ use Rattle.bmx_token.specs.declared.answers.Requested.TheVariants as requested_i
 use Rattle.bmx_token.specs.declared.answers.Revoked.{Revoked}
 use Rattle.bmx_token.specs.declared.answers.Revoked.TheVariants as revoked_is
 use Rattle.bmx_token.specs.Tokens.{acquire, release, serve, request, granted, inval, ack}
-use Rattle.bmx_token.specs.Turns.{Share, Note, Asks, Grants, Recalls, Returns, Send, Turn, Act, Acquires, Releases, Serves, acquired, released, served, turn_of, requested, grant_taken, recalled, returned, note_turn}
+use Rattle.bmx_token.specs.Transitions.{Share, Note, Asks, Grants, Recalls, Returns, Send, Transition, Operation, Acquires, Releases, Serves, acquired, released, served, transition_of, requested, grant_taken, recalled, returned, note_transition}
 use Rattle.bmx_token_model.specs.Machine.{is_grant}
 use Rattle.bmx_protocol.specs.declared.views.ViewField.{ViewField}
 use Rattle.bmx_protocol.specs.Nodes.{Known, share_of}
 use Rattle.bmx_protocol.specs.Rules.{with_share}
 
--- a turn, where there is one, leaves an entry, with a copy only if there was one
-abbrev pub IsCopied : Bool → Option Turn → Type 0
+-- a transition, where there is one, leaves an entry, with a copy only if there was one
+abbrev pub IsCopied : Bool → Option Transition → Type 0
 IsCopied copy None = Unit {0}
 IsCopied copy (Some t) = (h : Share) × (t.after ≡ Some h) × ((h.copy ≡ copy) ⊎ (h.copy ≡ false))
 
@@ -44,7 +44,7 @@ served_copied h p (served_is.Read asker) = (_, refl, inl refl)
 served_copied h p (served_is.Revokes nodes) = (_, refl, inl refl)
 served_copied h p (served_is.Moves to rest) = (_, refl, inr refl)
 
-pub act_copied : (me : ℕ) (a : Act) (h : Share) → IsCopied h.copy (turn_of me a h)
+pub act_copied : (me : ℕ) (a : Operation) (h : Share) → IsCopied h.copy (transition_of me a h)
 act_copied me (Acquires m) h = acquired_copied me m h (acquire me h.part m h.copy).0 (acquire me h.part m h.copy).1
 act_copied me Releases h = released_copied h (release h.part).0 (release h.part).1
 act_copied me Serves h = served_copied h (serve me h.part).0 (serve me h.part).1
@@ -56,7 +56,7 @@ copy_by (Grants m) copy = true
 copy_by Recalls copy = copy
 copy_by Returns copy = copy
 
-pub note_copied : (me from : ℕ) (n : Note) (h : Share) → IsCopied (copy_by n h.copy) (note_turn me from n (Some h))
+pub note_copied : (me from : ℕ) (n : Note) (h : Share) → IsCopied (copy_by n h.copy) (note_transition me from n (Some h))
 note_copied me from (Asks m asker) h = by_answer (request me h.part asker m).0 (request me h.part asker m).1
   where
     by_answer : (p : Part) (r : Requested) → IsCopied h.copy (requested m asker h p r)
@@ -80,7 +80,7 @@ note_copied me from Returns h = by_answer (ack h.part from).0 (ack h.part from).
     by_answer p true = (_, refl, inl refl)
     by_answer p false = tt
 
--- what is then known is seen as what the turn leaves
+-- what is then known is seen as what the transition leaves
 pub share_again : (k : Known) (fields : Option (List ViewField)) (h : Share) → (h.copy ≡ is_some fields) ⊎ (h.copy ≡ false) → share_of (with_share k fields h) ≡ h
 share_again k fields h kept = λ i. record { copy = by_kept kept i; part = h.part }
   where
@@ -96,19 +96,19 @@ share_again k fields h kept = λ i. record { copy = by_kept kept i; part = h.par
     by_kept (inl e) = same h.copy fields e
     by_kept (inr e) = none h.copy fields e
 
--- ## what a turn says
+-- ## what a transition says
 
 -- no note is a grant
 abbrev pub NoGrants : List Send → Type 0
 NoGrants [] = Unit {0}
 NoGrants (n ∷ sends) = (is_grant n.note ≡ false) × NoGrants sends
 
-abbrev pub GrantsNothing : Option Turn → Type 0
+abbrev pub GrantsNothing : Option Transition → Type 0
 GrantsNothing None = Unit {0}
 GrantsNothing (Some t) = NoGrants t.sends
 
 -- who takes a note grants nothing
-pub note_grants : (me from : ℕ) (n : Note) (h : Option Share) → GrantsNothing (note_turn me from n h)
+pub note_grants : (me from : ℕ) (n : Note) (h : Option Share) → GrantsNothing (note_transition me from n h)
 note_grants me from (Asks m asker) None = tt
 note_grants me from (Asks m asker) (Some h) = by_answer (request me h.part asker m).0 (request me h.part asker m).1
   where

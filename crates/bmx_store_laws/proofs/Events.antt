@@ -4,15 +4,15 @@ use Rattle.std.specs.Prelude.{◌==◌, ◌≢◌, Some, None}
 use Rattle.std.specs.Option.{option_map_or}
 use Rattle.std.specs.List.{flat_map}
 use Rattle.std.proofs.lemmas.List.{map-append, append-nil}
-use Rattle.bmx_graph.specs.State.{put, put_at}
+use Rattle.bmx_types.specs.Updates.{put, put_at}
 use Rattle.bmx_msg.specs.declared.letters.Letter.{Letter}
-use Rattle.bmx_token.specs.Turns.{made_share}
-use Rattle.bmx_token_model.specs.Machine.{Message, Numbers, Object, with_holding, issue, issue_all, draft, got_in, popped, is_handover, Does, Takes, Writes}
+use Rattle.bmx_token.specs.Transitions.{made_share}
+use Rattle.bmx_token_model.specs.Machine.{Message, Numbers, Object, with_holding, issue, issue_all, draft, got_in, popped, is_handover, Does, Receives, Writes}
 use Rattle.bmx_protocol.specs.declared.inputs.Sending.{Sending}
 use Rattle.bmx_protocol.specs.declared.events.Event.{Event}
 use Rattle.bmx_protocol.specs.Nodes.{NodeState}
 use Rattle.bmx_protocol.specs.Changes.{after_changes, with_step}
-use Rattle.bmx_protocol.specs.Rules.{Draft, Outcome, next_name}
+use Rattle.bmx_protocol.specs.Rules.{Draft, Reaction, next_name}
 use Rattle.bmx_protocol.specs.Steps.{Node, numbered, letters_of, sent_changes, closed}
 use Rattle.bmx_protocol.specs.Histories.{letters_to, in_flight}
 use Rattle.bmx_protocol.specs.Worlds.{world_of}
@@ -29,14 +29,14 @@ use Rattle.bmx_store_laws.proofs.Calm.{Calm, Still, Then}
 -- ## the object after an event
 
 -- an event's node and letters are those of an outcome
-pub record IsOutcomeOf (e : Event) (s : NodeState) (after : Node) (o : Outcome) : Type 0 where
+pub record IsOutcomeOf (e : Event) (s : NodeState) (after : Node) (o : Reaction) : Type 0 where
   pub state : after.state ≡ closed e.stamp s o
   pub letters : e.done.letters ≡ letters_of e.stamp s o
   pub issued : (after_changes s o.changes).issued ≡ s.issued
 
 -- an object is as what is seen of nodes, but for what node me has, its records and what it has taken, which are
 -- those after the rule's own changes
-pub record IsReady (x : ℕ) (nodes : ℕ → Node) (e : Event) (o : Outcome) (past : List Event) (q : Object) : Type 0 where
+pub record IsReady (x : ℕ) (nodes : ℕ → Node) (e : Event) (o : Reaction) (past : List Event) (q : Object) : Type 0 where
   pub holds : (n : ℕ) → q.holds n ≡ seen_known ((nodes n).state.known x)
   pub channel : (n m : ℕ) → map (seen_message x) (in_flight n m (past ++ e ∷ [])) ≡ q.channel n m ++ map (seen_message x) (letters_by e n m)
   pub records : (m : ℕ) → q.entering e.node m ≡ records_of x (after_changes (nodes e.node).state o.changes) m
@@ -45,7 +45,7 @@ pub record IsReady (x : ℕ) (nodes : ℕ → Node) (e : Event) (o : Outcome) (p
   pub taken : (m : ℕ) → q.taken e.node m ≡ (after_changes (nodes e.node).state o.changes).taken m
   pub other_taken : (n m : ℕ) → (e.node == n) ≡ false → q.taken n m ≡ (nodes n).state.taken m
 
-module _ (x : ℕ) (nodes : ℕ → Node) (e : Event) (after : Node) (o : Outcome) (past : List Event) (q : Object)
+module _ (x : ℕ) (nodes : ℕ → Node) (e : Event) (after : Node) (o : Reaction) (past : List Event) (q : Object)
     (of : IsOutcomeOf e (nodes e.node).state after o) (ready : IsReady x nodes e o past q) where
   abbrev s : NodeState
   s = after_changes (nodes e.node).state o.changes
@@ -162,7 +162,7 @@ holding_again o me i = record o { holds = λ n. again n (me == n) (eqb_is me n) 
     again n true q = ap o.holds (q refl)
     again n false q = refl
 
-quiet_ready : (x : ℕ) (nodes : ℕ → Node) (past : List Event) (e : Event) (o : Outcome) → IsQuiet (nodes e.node).state o →
+quiet_ready : (x : ℕ) (nodes : ℕ → Node) (past : List Event) (e : Event) (o : Reaction) → IsQuiet (nodes e.node).state o →
     ((n m : ℕ) → in_flight n m (past ++ e ∷ []) ≡ in_flight n m past ++ letters_by e n m) → IsReady x nodes e o past (seen x (world_of nodes past))
 quiet_ready x nodes past e o quiet channel = record {
   holds = λ n. refl;
@@ -175,7 +175,7 @@ quiet_ready x nodes past e o quiet channel = record {
 }
 
 -- an event that takes no letter
-pub quiet_happened : (x : ℕ) (nodes : ℕ → Node) (past : List Event) (e : Event) (after : Node) (o : Outcome) → IsOutcomeOf e (nodes e.node).state after o →
+pub quiet_happened : (x : ℕ) (nodes : ℕ → Node) (past : List Event) (e : Event) (after : Node) (o : Reaction) → IsOutcomeOf e (nodes e.node).state after o →
     IsQuiet (nodes e.node).state o → ((n m : ℕ) → in_flight n m (past ++ e ∷ []) ≡ in_flight n m past ++ letters_by e n m) → Did x e.node (nodes e.node).state o →
     (seen_known ((nodes e.node).state.known x) ≡ None → FreeOf x (nodes e.node).state.known) →
     Happened x e.node (nodes e.node).state (after_changes (nodes e.node).state o.changes) (seen x (world_of nodes past)) (seen x (world_of (put nodes e.node after) (past ++ e ∷ [])))
@@ -205,7 +205,7 @@ quiet_happened x nodes past e after o of quiet channel did clean = by_did did
 
 -- ## letters taken
 
-pub taking_happened : (x : ℕ) (nodes : ℕ → Node) (past : List Event) (e : Event) (after : Node) (o : Outcome) (from : ℕ) (l : Letter) (rest : List Letter) →
+pub taking_happened : (x : ℕ) (nodes : ℕ → Node) (past : List Event) (e : Event) (after : Node) (o : Reaction) (from : ℕ) (l : Letter) (rest : List Letter) →
     IsOutcomeOf e (nodes e.node).state after o → in_flight from e.node past ≡ l ∷ rest → from ≢ e.node → Took x e.node from l.seq (nodes e.node).state l.msg o →
     ((n m : ℕ) → in_flight n m (past ++ e ∷ []) ≡ way_left past e from rest n m ++ letters_by e n m) →
     Happened x e.node (nodes e.node).state (after_changes (nodes e.node).state o.changes) (seen x (world_of nodes past)) (seen x (world_of (put nodes e.node after) (past ++ e ∷ [])))
@@ -272,13 +272,13 @@ taking_happened x nodes past e after o from l rest of first apart took channel =
       other_taken = λ n m h. put_at_else before.taken me from n m (before.taken me from + 1) h;
     }
 
-    is : seen x (world_of (put nodes me after) (past ++ e ∷ [])) ≡ issue_all (with_holding q me took.turn.after) me (map (seen_draft x) o.drafts)
+    is : seen x (world_of (put nodes me after) (past ++ e ∷ [])) ≡ issue_all (with_holding q me took.transition.after) me (map (seen_draft x) o.drafts)
     is = seen_after x nodes e after o past q of ready ∙ (λ i. issue_all (with_holding q me (took.after i)) me (map (seen_draft x) o.drafts))
 
-    by_says : Says x o.drafts took.turn.sends → Calm before (seen x (world_of (put nodes me after) (past ++ e ∷ [])))
-    by_says (Own drafts) = Then Still (Takes from me message left took.turn apart (ap (map (seen_message x)) first) (took.makes message refl refl)
-        (is ∙ ap (issue_all (with_holding q me took.turn.after) me) drafts)) tt
+    by_says : Says x o.drafts took.transition.sends → Calm before (seen x (world_of (put nodes me after) (past ++ e ∷ [])))
+    by_says (Own drafts) = Then Still (Receives from me message left took.transition apart (ap (map (seen_message x)) first) (took.makes message refl refl)
+        (is ∙ ap (issue_all (with_holding q me took.transition.after) me) drafts)) tt
     by_says (Others none silent) = subst (Calm before) (sym is)
-        (silent_calm x me o.drafts before (with_holding q me took.turn.after) silent
-        (Then Still (Takes from me message left took.turn apart (ap (map (seen_message x)) first) (took.makes message refl refl)
-        (λ i. issue_all (with_holding q me took.turn.after) me (map (draft false) (sym none i)))) tt))
+        (silent_calm x me o.drafts before (with_holding q me took.transition.after) silent
+        (Then Still (Receives from me message left took.transition apart (ap (map (seen_message x)) first) (took.makes message refl refl)
+        (λ i. issue_all (with_holding q me took.transition.after) me (map (draft false) (sym none i)))) tt))

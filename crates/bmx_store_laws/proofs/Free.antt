@@ -15,21 +15,22 @@ use Rattle.bmx_types.specs.declared.commands.Operand.{Operand}
 use Rattle.bmx_types.specs.declared.commands.Operand.TheVariants as operand
 use Rattle.bmx_types.specs.declared.numbers.Mode.TheVariants as mode
 use Rattle.bmx_msg.specs.declared.letters.Field.{Field}
-use Rattle.bmx_msg.specs.declared.letters.Field.TheVariants as told
+use Rattle.bmx_msg.specs.declared.letters.Field.TheVariants as msg_field
 use Rattle.bmx_msg.specs.declared.letters.Msg.{Msg}
 use Rattle.bmx_msg.specs.declared.letters.Msg.TheVariants as msg
-use Rattle.bmx_graph.specs.State.{State, put}
+use Rattle.bmx_graph.specs.State.{State}
+use Rattle.bmx_types.specs.Updates.{put}
 use Rattle.bmx_graph.specs.declared.answers.Answer.{Answer}
 use Rattle.bmx_graph.specs.declared.answers.Answer.TheVariants as graph
 use Rattle.bmx_graph.specs.Step.{answer_of, target_of, value_of, field_at, sum_of, raised_by, Effect, effect, storing, setting}
 use Rattle.bmx_graph.specs.Step as graph_effect
-use Rattle.bmx_token.specs.Turns.{Share, Note, Asks, Grants, Recalls, Returns, Turn, Act, turn_of}
+use Rattle.bmx_token.specs.Transitions.{Share, Note, Asks, Grants, Recalls, Returns, Transition, Operation, transition_of}
 use Rattle.bmx_protocol.specs.declared.inputs.NodeAnswer.{NodeAnswer}
 use Rattle.bmx_protocol.specs.declared.views.ViewField.{ViewField}
 use Rattle.bmx_protocol.specs.declared.views.ViewField.TheVariants as field
 use Rattle.bmx_protocol.specs.Nodes.{Setting, NodeState, Known, share_of, field_of, value_in, fields_known, seen_graph}
 use Rattle.bmx_protocol.specs.Changes.{Change, Sets, Makes, Knows, Hears, Gives, Gets, Issues, Takes, heard_of, after_change, after_changes}
-use Rattle.bmx_protocol.specs.Rules.{Outcome, known_change, act_answer, acted, act_rule, About, Token, Fields, Making, Nothing, next_name, stored, graph_changes, answered, graph_rule, token_rule, knows, command_rule, heard_field, name_in, note_in, info_in, infos, copy_after, got_change, took, take_rule}
+use Rattle.bmx_protocol.specs.Rules.{Reaction, known_change, operation_answer, after_operation, operation_rule, About, Token, Fields, Making, Nothing, next_name, stored, graph_changes, answered, graph_rule, token_rule, knows, command_rule, heard_field, name_in, note_in, info_in, infos, copy_after, got_change, took, take_rule}
 use Rattle.bmx_protocol.specs.Histories.{IsOperandOf, IsCommandOf}
 use Rattle.bmx_protocol.proofs.Changing.{Each, each_append, kept_by_each}
 use Rattle.bmx_store_laws.proofs.Basics.{eqb_of, Two, Same, Apart, two, put_apart}
@@ -100,14 +101,14 @@ known_free x name None fields h none = tt
 known_free x name (Some k) fields None none = tt
 known_free x name (Some k) fields (Some h) none = (copy_free x fields h.copy none, tt)
 
-pub act_free : (x me : ℕ) (s : NodeState) (lies : ℕ → Place) (a : Act) (unknown : NodeAnswer) (name : ℕ) (k : Option Known) → s.known name ≡ k →
-    FreeOf x s.known → Each (Frees x) (act_rule me s lies a unknown name k).changes
+pub act_free : (x me : ℕ) (s : NodeState) (lies : ℕ → Place) (a : Operation) (unknown : NodeAnswer) (name : ℕ) (k : Option Known) → s.known name ≡ k →
+    FreeOf x s.known → Each (Frees x) (operation_rule me s lies a unknown name k).changes
 act_free x me s lies a unknown name None is free = tt
-act_free x me s lies a unknown name (Some k) is free = by_turn (turn_of me a (share_of k))
+act_free x me s lies a unknown name (Some k) is free = by_transition (transition_of me a (share_of k))
   where
-    by_turn : (t : Option Turn) → Each (Frees x) (acted s lies name k (act_answer me a (share_of k)) t).changes
-    by_turn None = tt
-    by_turn (Some t) = known_free x name (Some k) k.copy t.after (free name k is)
+    by_transition : (t : Option Transition) → Each (Frees x) (after_operation s lies name k (operation_answer me a (share_of k)) t).changes
+    by_transition None = tt
+    by_transition (Some t) = known_free x name (Some k) k.copy t.after (free name k is)
 
 -- ## values
 
@@ -256,11 +257,11 @@ graph_free st x me s c unborn of free = by_answer (answer_of (seen_graph me s) m
     by_answer graph.Wait = λ _. tt
     by_answer (graph.Refused why) = λ _. tt
 
-token_free : (x me : ℕ) (s : NodeState) (lies : ℕ → Place) (a : Act) (name : Option ℕ) → FreeOf x s.known → Each (Frees x) (token_rule me s lies a name).changes
+token_free : (x me : ℕ) (s : NodeState) (lies : ℕ → Place) (a : Operation) (name : Option ℕ) → FreeOf x s.known → Each (Frees x) (token_rule me s lies a name).changes
 token_free x me s lies a None free = tt
 token_free x me s lies a (Some name) free = act_free x me s lies a _ name (s.known name) refl free
 
-either_free : (x : ℕ) (b : Bool) (o p : Outcome) → (Each (Spares x) o.changes → Each (Frees x) o.changes) → (Each (Spares x) p.changes → Each (Frees x) p.changes) →
+either_free : (x : ℕ) (b : Bool) (o p : Reaction) → (Each (Spares x) o.changes → Each (Frees x) o.changes) → (Each (Spares x) p.changes → Each (Frees x) p.changes) →
     Each (Spares x) (cond b o p).changes → Each (Frees x) (cond b o p).changes
 either_free x true o p h k = h
 either_free x false o p h k = k
@@ -277,9 +278,9 @@ command_free st x me s full lies c Nothing unborn of free = graph_free st x me s
 
 told_free : (x from : ℕ) (fields : List Field) → Each (Spares x) (map (Hears from) (filter_map info_in fields)) → HasNo x (map heard_field fields)
 told_free x from [] spares = tt
-told_free x from (told.Null ∷ fields) spares = ((λ e. cc), told_free x from fields spares)
-told_free x from (told.Int k ∷ fields) spares = ((λ e. cc), told_free x from fields spares)
-told_free x from (told.Ref info ∷ fields) spares = ((λ e. spares.0 (named e)), told_free x from fields spares.1)
+told_free x from (msg_field.Null ∷ fields) spares = ((λ e. cc), told_free x from fields spares)
+told_free x from (msg_field.Int k ∷ fields) spares = ((λ e. cc), told_free x from fields spares)
+told_free x from (msg_field.Ref info ∷ fields) spares = ((λ e. spares.0 (named e)), told_free x from fields spares.1)
   where
     named : field.Ref info.name ≡ field.Ref x → info.name ≡ x
     named e = cc
@@ -313,11 +314,11 @@ got_free x from seq name Returns = tt
 
 pub take_free : (x me : ℕ) (s : NodeState) (lies : ℕ → Place) (from seq : ℕ) (m : Msg) → FreeOf x s.known →
     Each (Spares x) (take_rule me s lies from seq m).changes → Each (Frees x) (take_rule me s lies from seq m).changes
-take_free x me s lies from seq m free = by_turn (s.known (name_in m)) refl _
+take_free x me s lies from seq m free = by_transition (s.known (name_in m)) refl _
   where
-    by_turn : (k : Option Known) → s.known (name_in m) ≡ k → (t : Option Turn) → Each (Spares x) (took s lies from seq m k t).changes → Each (Frees x) (took s lies from seq m k t).changes
-    by_turn k is None spares = tt
-    by_turn k is (Some t) spares =
+    by_transition : (k : Option Known) → s.known (name_in m) ≡ k → (t : Option Transition) → Each (Spares x) (took s lies from seq m k t).changes → Each (Frees x) (took s lies from seq m k t).changes
+    by_transition k is None spares = tt
+    by_transition k is (Some t) spares =
         each_append (Frees x) (map (Hears from) (infos m)) _ (hears_free x from (infos m))
         (each_append (Frees x) (known_change (name_in m) k (copy_after m k) t.after) _
         (known_free x (name_in m) k (copy_after m k) t.after (copy_told x from m k (λ j e. free (name_in m) j (is ∙ e)) (spares_left x (map (Hears from) (infos m)) _ spares)))

@@ -10,9 +10,9 @@ use Rattle.bmx_types.specs.Words.{name_word, maker, count_of}
 use Rattle.bmx_types.specs.Openings.{IsOpening}
 use Rattle.bmx_types.specs.declared.values.Val.{Val}
 use Rattle.bmx_types.specs.declared.values.Val.TheVariants as val
-use Rattle.bmx_graph.specs.State.{put}
+use Rattle.bmx_types.specs.Updates.{put}
 use Rattle.bmx_msg.specs.declared.letters.Letter.{Letter}
-use Rattle.bmx_token.specs.Turns.{Serves}
+use Rattle.bmx_token.specs.Transitions.{Serves}
 use Rattle.bmx_protocol.specs.declared.inputs.Input.{Input}
 use Rattle.bmx_protocol.specs.declared.inputs.Input.TheVariants as input
 use Rattle.bmx_protocol.specs.declared.inputs.NodeAnswer.{NodeAnswer}
@@ -22,7 +22,7 @@ use Rattle.bmx_protocol.specs.declared.inputs.Done.{Done}
 use Rattle.bmx_protocol.specs.declared.events.Event.{Event}
 use Rattle.bmx_protocol.specs.Nodes.{Setting, NodeState}
 use Rattle.bmx_protocol.specs.Changes.{after_changes, with_step}
-use Rattle.bmx_protocol.specs.Rules.{Outcome, only, about, next_name, take_rule}
+use Rattle.bmx_protocol.specs.Rules.{Reaction, only, about, next_name, take_rule}
 use Rattle.bmx_protocol.specs.Strays.{too_large, is_no_node, is_bad_msg, is_bad_letter}
 use Rattle.bmx_protocol.specs.Steps.{Node, first_node, letter_in, rule, letters_of, sent_changes, closed, is_taken, IsStep}
 use Rattle.bmx_protocol.specs.Histories.{issued, arrived, taken, in_flight, letter_from, IsInputOf, IsNext, Fits, EachFits, Replays, AreAfter, IsLegal}
@@ -87,7 +87,7 @@ new_nowhere st x me nodes past (inl counted) few new =
 -- ## one more event
 
 -- an event with its step, and what it makes of the node
-pub record IsEvent (st : Setting) (x : ℕ) (start : Object) (past : List Event) (nodes : ℕ → Node) (e : Event) (after : Node) (o : Outcome) : Type 0 where
+pub record IsEvent (st : Setting) (x : ℕ) (start : Object) (past : List Event) (nodes : ℕ → Node) (e : Event) (after : Node) (o : Reaction) : Type 0 where
   pub came : Came st x start past nodes
   pub step : IsStep st e.node (nodes e.node) e.stamp e.input e.done after
   pub few : steps_of e.node past + 1 < 2 ^ 55
@@ -97,7 +97,7 @@ pub record IsEvent (st : Setting) (x : ℕ) (start : Object) (past : List Event)
   pub at_most : (after_changes (nodes e.node).state o.changes).made ≤ (nodes e.node).state.made + 1
   pub frees : IsUnborn st x → IsFree x (nodes e.node).state → Each (Spares x) o.changes → Each (Frees x) o.changes
 
-module _ (st : Setting) (x : ℕ) (start : Object) (past : List Event) (nodes : ℕ → Node) (e : Event) (after : Node) (o : Outcome)
+module _ (st : Setting) (x : ℕ) (start : Object) (past : List Event) (nodes : ℕ → Node) (e : Event) (after : Node) (o : Reaction)
     (ev : IsEvent st x start past nodes e after o) where
   abbrev me : ℕ
   me = e.node
@@ -279,18 +279,18 @@ module _ (st : Setting) (x : ℕ) (start : Object) (past : List Event) (nodes : 
   here = (nodes e.node).state
 
   -- what its step makes of the node
-  outcome_of : (o : Outcome) → o ≡ rule st e.node here step.told e.input → IsOutcomeOf e here after o
+  outcome_of : (o : Reaction) → o ≡ rule st e.node here step.told e.input → IsOutcomeOf e here after o
   outcome_of o is = record {
     state = step.state ∙ ap (closed e.stamp here) (sym is);
     letters = ap (λ (d : Done). d.letters) step.outcome ∙ ap (letters_of e.stamp here) (sym is);
-    issued = ap (λ (p : Outcome). (after_changes here p.changes).issued) is ∙ rule_issues st e.node here step.told e.input;
+    issued = ap (λ (p : Reaction). (after_changes here p.changes).issued) is ∙ rule_issues st e.node here step.told e.input;
   }
 
-  answers : (o : Outcome) → o ≡ rule st e.node here step.told e.input → e.done.answer ≡ o.answer
-  answers o is = ap (λ (d : Done). d.answer) step.outcome ∙ ap (λ (p : Outcome). p.answer) (sym is)
+  answers : (o : Reaction) → o ≡ rule st e.node here step.told e.input → e.done.answer ≡ o.answer
+  answers o is = ap (λ (d : Done). d.answer) step.outcome ∙ ap (λ (p : Reaction). p.answer) (sym is)
 
   -- it takes no letter
-  quiet : (o : Outcome) → o ≡ rule st e.node here step.told e.input → IsQuiet here o → Did x e.node here o →
+  quiet : (o : Reaction) → o ≡ rule st e.node here step.told e.input → IsQuiet here o → Did x e.node here o →
       (IsUnborn st x → IsFree x here → Each (Spares x) o.changes → Each (Frees x) o.changes) → ((n m : ℕ) → taken n m (e ∷ []) ≡ []) →
       Came st x start (past ++ e ∷ []) (put nodes e.node after)
   quiet o is calm did frees none = came_more st x start past nodes e after o
@@ -300,7 +300,7 @@ module _ (st : Setting) (x : ℕ) (start : Object) (past : List Event) (nodes : 
       (Nothing none (λ m. (λ i. calm.taken i m)))
 
   -- its letter is stray
-  strayed : (o : Outcome) → o ≡ rule st e.node here step.told e.input → o ≡ only answer.Stray → Came st x start (past ++ e ∷ []) (put nodes e.node after)
+  strayed : (o : Reaction) → o ≡ rule st e.node here step.told e.input → o ≡ only answer.Stray → Came st x start (past ++ e ∷ []) (put nodes e.node after)
   strayed o is stray = quiet (only answer.Stray) (sym stray ∙ is)
       (record { entering = refl; taken = refl; at_least = omega arith; at_most = omega arith }) (Passes refl tt) (λ unborn free spares. tt)
       (λ n m. taken_stray n m e (answers (only answer.Stray) (sym stray ∙ is)))
@@ -310,7 +310,7 @@ module _ (st : Setting) (x : ℕ) (start : Object) (past : List Event) (nodes : 
       take_rule e.node here step.told.lies from l.seq l.msg ≡ rule st e.node here step.told e.input → Came st x start (past ++ e ∷ []) (put nodes e.node after)
   taking from l is apart number same = by_taken (take_taken x e.node here step.told.lies from l.seq l.msg)
     where
-      o : Outcome
+      o : Reaction
       o = take_rule e.node here step.told.lies from l.seq l.msg
 
       rest : List Letter

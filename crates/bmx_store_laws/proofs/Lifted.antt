@@ -10,7 +10,7 @@ use Rattle.bmx_token_model.specs.Laws.{HasOneSeat, ReadersListed, WriteExcludes 
 use Rattle.bmx_token_model.proofs.Requests.{IsRequested, requested_run}
 use Rattle.bmx_token_model.proofs.Parents.{IsPointed, pointed_run}
 use Rattle.bmx_token_model.proofs.Chains.{IsChained, chained_run}
-use Rattle.bmx_token_model.specs.Laws.{WantsArePlaced, ParentsLead as Leads}
+use Rattle.bmx_token_model.specs.Laws.{WantsArePlaced, ParentsLead as ModelLeads}
 use Rattle.bmx_token_model.proofs.Stated.{each_want_is_placed, parents_lead}
 use Rattle.bmx_token_model.proofs.Owners.{ownership_is_one}
 use Rattle.bmx_token_model.proofs.Readers.{readers_are_listed}
@@ -65,7 +65,7 @@ parents_answer_always st history nodes opening legal after =
 
 pub parents_lead_always : ParentsLead
 parents_lead_always st history nodes opening legal after =
-    chains st (world_of nodes history) (each_name Leads parents_lead st history nodes opening legal after)
+    chains st (world_of nodes history) (each_name ModelLeads parents_lead st history nodes opening legal after)
     (λ x n none. (came_after st history nodes opening legal after x).beyond n none)
 
 pub names_are_counted : NamesAreCounted

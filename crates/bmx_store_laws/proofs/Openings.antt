@@ -7,7 +7,7 @@ use Rattle.std.proofs.lemmas.Bool.Decides.{nat_tests}
 use Rattle.std.proofs.lemmas.Option.{slice_get_within, get_or_from_slice_get, slice_get_cases}
 use Rattle.std.proofs.lemmas.List.Elements.{Contains-get_or, Contains-append_left, Contains-append_right, Contains-push}
 use Rattle.bmx_types.specs.Words.{maker, count_of, anchor_of}
-use Rattle.bmx_types.specs.Openings.{IsBorn, IsOpening, bunches_of}
+use Rattle.bmx_types.specs.Openings.{IsOfBunch, IsOpening, bunches_of}
 use Rattle.bmx_types.specs.declared.openings.Birth.{Birth}
 use Rattle.bmx_types.specs.declared.values.Val.{Val}
 use Rattle.bmx_types.specs.declared.values.Val.TheVariants as val
@@ -15,7 +15,7 @@ use Rattle.bmx_owner.specs.Records.{blank}
 use Rattle.bmx_protocol.specs.declared.views.ViewField.TheVariants as field
 use Rattle.bmx_protocol.specs.Nodes.{Setting, Known, field_of, birth_of, is_anchor, owned_birth, heard_birth, first_known}
 use Rattle.bmx_protocol.specs.Steps.{first_node}
-use Rattle.bmx_token.specs.Turns.{Share, made_share, heard_share}
+use Rattle.bmx_token.specs.Transitions.{Share, made_share, heard_share}
 use Rattle.bmx_token_model.specs.Machine.{Message, Numbers, no_numbers, IsNowhere, IsFirstRecord, IsUntouched, IsFirst, Absent, Born, IsFirstElsewhere, Unknown, Heard}
 use Rattle.bmx_protocol.specs.declared.events.Event.{Event}
 use Rattle.bmx_protocol.specs.Nodes.{NodeState}
@@ -192,7 +192,7 @@ fields_free x (v ∷ fields) none = (
 
 birth_free : (st : Setting) → IsOpening st.nodes st.limit st.births → (x : ℕ) → birth_of st x ≡ None → (b : Birth) → Contains st.births b → HasNo x (map field_of b.fields)
 birth_free st opening x none b in_births = fields_free x b.fields (λ c.
-    let born : IsBorn st.births b.bunch x = opening.born.closed b x in_births c in
+    let born : IsOfBunch st.births b.bunch x = opening.born.closed b x in_births c in
     numbered_birth st opening x (x - 1) (omega (arith, born.named, born.there)) (omega (arith, born.named)) none)
 
 first_free : (st : Setting) → IsOpening st.nodes st.limit st.births → (x n : ℕ) → ((n == 0) ≡ true → birth_of st x ≡ None) → FreeOf x (first_known st n)

@@ -12,7 +12,7 @@ use Rattle.bmx_msg.specs.declared.letters.Msg.TheVariants as msg
 use Rattle.bmx_msg.specs.Letters.{targets}
 use Rattle.bmx_token.specs.declared.parts.Role.{Role}
 use Rattle.bmx_token.specs.declared.parts.Role.TheVariants as role
-use Rattle.bmx_token.specs.Turns.{Note}
+use Rattle.bmx_token.specs.Transitions.{Note}
 use Rattle.bmx_protocol.specs.Nodes.{Setting, Known, share_of}
 use Rattle.bmx_protocol.specs.Worlds.{World, HasOwned, IsMoving, Owns, Has, Gets, names_in, IsSomewhere, At, Between, HasOneOwner, EachHasOneOwner, WritesExclude}
 use Rattle.bmx_token_model.specs.Machine.{Message, IsSilent, IsNowhere, is_handover, brings}

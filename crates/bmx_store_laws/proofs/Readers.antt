@@ -10,7 +10,7 @@ use Rattle.bmx_token.specs.declared.parts.Role.{Role}
 use Rattle.bmx_token.specs.declared.parts.Role.TheVariants as role
 use Rattle.bmx_protocol.specs.Nodes.{Known, share_of}
 use Rattle.bmx_protocol.specs.Worlds.{World}
-use Rattle.bmx_token.specs.Turns.{Share, Grants}
+use Rattle.bmx_token.specs.Transitions.{Share, Grants}
 use Rattle.bmx_token_model.specs.Laws.{is_owner, ReadersListed}
 use Rattle.bmx_token_model.specs.Laws.{HasReader as Reads}
 use Rattle.bmx_token_model.proofs.Readers.{one_or_more}

@@ -1,4 +1,4 @@
--- What a rule is for one name: an act of the model of one object, letters that may tell of it, or its making.
+-- What a rule is for one name: an operation of the model of one object, letters that may tell of it, or its making.
 use Rattle.std.proofs.Common.{◌≡◌, ◌⊎◌, ℕ, ◌+◌, ◌≤◌, arith, refl, ap, sym, subst, ◌∙◌, Bool, true, false, cond, List, [], ◌∷◌, map}
 use Rattle.std.specs.Prelude.{◌==◌, ◌≢◌, ◌&&◌, ◌||◌, Option, Some, None, is_some, slice_set, unwrap_or}
 use Rattle.std.specs.Option.{option_map, option_map_or}
@@ -13,14 +13,14 @@ use Rattle.bmx_graph.specs.Step.{answer_of, target_of, Effect, effect}
 use Rattle.bmx_graph.specs.Step as graph_effect
 use Rattle.bmx_msg.specs.declared.letters.Field.{Field}
 use Rattle.bmx_msg.specs.Letters.{targets}
-use Rattle.bmx_token.specs.Turns.{Share, Note, Asks, Grants, Recalls, Returns, Send, Turn, Act, turn_of, made_share}
+use Rattle.bmx_token.specs.Transitions.{Share, Note, Asks, Grants, Recalls, Returns, Send, Transition, Operation, transition_of, made_share}
 use Rattle.bmx_token_model.specs.Machine.{draft, is_grant}
 use Rattle.bmx_protocol.specs.declared.inputs.NodeAnswer.{NodeAnswer}
 use Rattle.bmx_protocol.specs.declared.views.ViewField.{ViewField}
 use Rattle.bmx_protocol.specs.declared.views.ViewField.TheVariants as field
 use Rattle.bmx_protocol.specs.Nodes.{NodeState, Known, seen_graph, share_of, with_field, field_of}
 use Rattle.bmx_protocol.specs.Changes.{after_changes}
-use Rattle.bmx_protocol.specs.Rules.{Draft, Outcome, only, info_of, told_field, told_fields, message, drafts_of, with_share, known_change, act_answer, acted, act_rule, About, Token, Fields, Making, Nothing, next_name, stored, graph_changes, answered, graph_rule, token_rule, knows, command_rule}
+use Rattle.bmx_protocol.specs.Rules.{Draft, Reaction, only, info_of, told_field, told_fields, message, drafts_of, with_share, known_change, operation_answer, after_operation, operation_rule, About, Token, Fields, Making, Nothing, next_name, stored, graph_changes, answered, graph_rule, token_rule, knows, command_rule}
 use Rattle.bmx_store_laws.specs.Inside.Seen.{has_name, seen_note, tells_of, seen_draft, seen_known}
 use Rattle.bmx_store_laws.proofs.Basics.{eqb_of, eqb_same, Two, Same, Apart, two}
 use Rattle.bmx_store_laws.proofs.Shares.{shares_after}
@@ -139,9 +139,9 @@ notes_silent x name s lies (n ∷ sends) h none = (
 
 -- ## what a rule is for a name
 
--- for x it is an act of the model, or nothing but that letters may tell of it, or its making
-pub data Did (x me : ℕ) (s : NodeState) (o : Outcome) : Type 0 where
-  Acts : (refers : Bool) (a : Act) (h : Share) (t : Turn) → seen_known (s.known x) ≡ Some h → turn_of me a h ≡ Some t →
+-- for x it is an operation of the model, or nothing but that letters may tell of it, or its making
+pub data Did (x me : ℕ) (s : NodeState) (o : Reaction) : Type 0 where
+  Acts : (refers : Bool) (a : Operation) (h : Share) (t : Transition) → seen_known (s.known x) ≡ Some h → transition_of me a h ≡ Some t →
       shares_after x (seen_known (s.known x)) o.changes ≡ t.after → map (seen_draft x) o.drafts ≡ map (draft refers) t.sends → Did x me s o
   Passes : shares_after x (seen_known (s.known x)) o.changes ≡ seen_known (s.known x) → OnlyTell x s o.drafts → Did x me s o
   Makes : x ≡ next_name me s → shares_after x (seen_known (s.known x)) o.changes ≡ Some made_share → o.drafts ≡ [] → (after_changes s o.changes).made ≡ s.made + 1 → Did x me s o
@@ -155,16 +155,16 @@ pub known_same : (x : ℕ) (k : Known) (fields : Option (List ViewField)) (h : S
     shares_after x g (known_change x (Some k) fields (Some h)) ≡ Some h
 known_same x k fields h g kept = (λ i. cond (eqb_same x i) (Some (share_of (with_share k fields h))) g) ∙ ap Some (share_again k fields h kept)
 
-act_did : (x me : ℕ) (s : NodeState) (lies : ℕ → Place) (a : Act) (unknown : NodeAnswer) (name : ℕ) (k : Option Known) → s.known name ≡ k →
-    Did x me s (act_rule me s lies a unknown name k)
+act_did : (x me : ℕ) (s : NodeState) (lies : ℕ → Place) (a : Operation) (unknown : NodeAnswer) (name : ℕ) (k : Option Known) → s.known name ≡ k →
+    Did x me s (operation_rule me s lies a unknown name k)
 act_did x me s lies a unknown name None is = Passes refl tt
-act_did x me s lies a unknown name (Some k) is = by_turn (turn_of me a (share_of k)) refl (act_copied me a (share_of k)) (two name x)
+act_did x me s lies a unknown name (Some k) is = by_transition (transition_of me a (share_of k)) refl (act_copied me a (share_of k)) (two name x)
   where
-    by_turn : (t : Option Turn) → turn_of me a (share_of k) ≡ t → IsCopied (is_some k.copy) t → Two name x →
-        Did x me s (acted s lies name k (act_answer me a (share_of k)) t)
-    by_turn None does copied q = Passes refl tt
-    by_turn (Some t) does copied (Apart h d) = Passes (known_apart x name (Some k) k.copy t.after (seen_known (s.known x)) h) (drafts_apart x name s lies t.sends h)
-    by_turn (Some t) does copied (Same e) = subst (λ (y : ℕ). Did y me s (acted s lies name k (act_answer me a (share_of k)) (Some t))) e
+    by_transition : (t : Option Transition) → transition_of me a (share_of k) ≡ t → IsCopied (is_some k.copy) t → Two name x →
+        Did x me s (after_operation s lies name k (operation_answer me a (share_of k)) t)
+    by_transition None does copied q = Passes refl tt
+    by_transition (Some t) does copied (Apart h d) = Passes (known_apart x name (Some k) k.copy t.after (seen_known (s.known x)) h) (drafts_apart x name s lies t.sends h)
+    by_transition (Some t) does copied (Same e) = subst (λ (y : ℕ). Did y me s (after_operation s lies name k (operation_answer me a (share_of k)) (Some t))) e
         (Acts (has_name name (targets (told_fields s lies name))) a (share_of k) t (ap seen_known is) does
         (ap (λ (h : Option Share). shares_after name (seen_known (s.known name)) (known_change name (Some k) k.copy h)) copied.1
         ∙ known_same name k k.copy copied.0 (seen_known (s.known name)) copied.2 ∙ sym copied.1)
@@ -212,11 +212,11 @@ graph_did x me s c = by_answer (answer_of (seen_graph me s) me c)
     by_answer graph.Wait = Passes refl tt
     by_answer (graph.Refused why) = Passes refl tt
 
-either_did : (x me : ℕ) (s : NodeState) (b : Bool) (o p : Outcome) → Did x me s o → Did x me s p → Did x me s (cond b o p)
+either_did : (x me : ℕ) (s : NodeState) (b : Bool) (o p : Reaction) → Did x me s o → Did x me s p → Did x me s (cond b o p)
 either_did x me s true o p h k = h
 either_did x me s false o p h k = k
 
-token_did : (x me : ℕ) (s : NodeState) (lies : ℕ → Place) (a : Act) (name : Option ℕ) → Did x me s (token_rule me s lies a name)
+token_did : (x me : ℕ) (s : NodeState) (lies : ℕ → Place) (a : Operation) (name : Option ℕ) → Did x me s (token_rule me s lies a name)
 token_did x me s lies a None = Passes refl tt
 token_did x me s lies a (Some name) = act_did x me s lies a _ name (s.known name) refl
 
@@ -227,13 +227,13 @@ command_did x me s full lies c (Fields on) =
 command_did x me s full lies c Making = either_did x me s full _ _ (Passes refl tt) (graph_did x me s c)
 command_did x me s full lies c Nothing = graph_did x me s c
 
-pub serve_did : (x me : ℕ) (s : NodeState) (lies : ℕ → Place) (a : Act) (unknown : NodeAnswer) (name : ℕ) → Did x me s (act_rule me s lies a unknown name (s.known name))
+pub serve_did : (x me : ℕ) (s : NodeState) (lies : ℕ → Place) (a : Operation) (unknown : NodeAnswer) (name : ℕ) → Did x me s (operation_rule me s lies a unknown name (s.known name))
 serve_did x me s lies a unknown name = act_did x me s lies a unknown name (s.known name) refl
 
 -- ## what a rule without a letter leaves
 
 -- records and what was taken stay, and at most one name was made
-pub record IsQuiet (s : NodeState) (o : Outcome) : Type 0 where
+pub record IsQuiet (s : NodeState) (o : Reaction) : Type 0 where
   pub entering : (after_changes s o.changes).entering ≡ s.entering
   pub taken : (after_changes s o.changes).taken ≡ s.taken
   pub at_least : s.made ≤ (after_changes s o.changes).made
@@ -248,13 +248,13 @@ known_quiet s name None fields h drafts a = record { entering = refl; taken = re
 known_quiet s name (Some k) fields None drafts a = record { entering = refl; taken = refl; at_least = omega arith; at_most = omega arith }
 known_quiet s name (Some k) fields (Some h) drafts a = record { entering = refl; taken = refl; at_least = omega arith; at_most = omega arith }
 
-pub act_quiet : (me : ℕ) (s : NodeState) (lies : ℕ → Place) (a : Act) (unknown : NodeAnswer) (name : ℕ) (k : Option Known) → IsQuiet s (act_rule me s lies a unknown name k)
+pub act_quiet : (me : ℕ) (s : NodeState) (lies : ℕ → Place) (a : Operation) (unknown : NodeAnswer) (name : ℕ) (k : Option Known) → IsQuiet s (operation_rule me s lies a unknown name k)
 act_quiet me s lies a unknown name None = none_quiet s unknown
-act_quiet me s lies a unknown name (Some k) = by_turn (turn_of me a (share_of k))
+act_quiet me s lies a unknown name (Some k) = by_transition (transition_of me a (share_of k))
   where
-    by_turn : (t : Option Turn) → IsQuiet s (acted s lies name k (act_answer me a (share_of k)) t)
-    by_turn None = none_quiet s _
-    by_turn (Some t) = known_quiet s name (Some k) k.copy t.after (drafts_of s lies name t.sends) _
+    by_transition : (t : Option Transition) → IsQuiet s (after_operation s lies name k (operation_answer me a (share_of k)) t)
+    by_transition None = none_quiet s _
+    by_transition (Some t) = known_quiet s name (Some k) k.copy t.after (drafts_of s lies name t.sends) _
 
 effect_quiet : (me : ℕ) (s : NodeState) (e : Effect) (a : NodeAnswer) → IsQuiet s (record { changes = graph_changes me s e; drafts = []; answer = a })
 effect_quiet me s graph_effect.Nothing a = record { entering = refl; taken = refl; at_least = omega arith; at_most = omega arith }
@@ -278,11 +278,11 @@ graph_quiet me s c = by_answer (answer_of (seen_graph me s) me c)
     by_answer graph.Wait = none_quiet s _
     by_answer (graph.Refused why) = none_quiet s _
 
-either_quiet : (s : NodeState) (b : Bool) (o p : Outcome) → IsQuiet s o → IsQuiet s p → IsQuiet s (cond b o p)
+either_quiet : (s : NodeState) (b : Bool) (o p : Reaction) → IsQuiet s o → IsQuiet s p → IsQuiet s (cond b o p)
 either_quiet s true o p h k = h
 either_quiet s false o p h k = k
 
-token_quiet : (me : ℕ) (s : NodeState) (lies : ℕ → Place) (a : Act) (name : Option ℕ) → IsQuiet s (token_rule me s lies a name)
+token_quiet : (me : ℕ) (s : NodeState) (lies : ℕ → Place) (a : Operation) (name : Option ℕ) → IsQuiet s (token_rule me s lies a name)
 token_quiet me s lies a None = none_quiet s _
 token_quiet me s lies a (Some name) = act_quiet me s lies a _ name (s.known name)
 

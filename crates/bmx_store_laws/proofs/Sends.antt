@@ -6,14 +6,14 @@ use Rattle.std.specs.List.{flat_map}
 use Rattle.std.proofs.lemmas.List.{append-nil}
 use Rattle.std.proofs.lemmas.Bool.Decides.{nat_tests}
 use Rattle.bmx_types.specs.declared.numbers.Mode.TheVariants as mode
-use Rattle.bmx_graph.specs.State.{put, put_at}
+use Rattle.bmx_types.specs.Updates.{put, put_at}
 use Rattle.bmx_msg.specs.declared.letters.Letter.{Letter}
 use Rattle.bmx_msg.specs.declared.letters.Msg.{Msg}
 use Rattle.bmx_msg.specs.declared.letters.Msg.TheVariants as msg
 use Rattle.bmx_msg.specs.Letters.{given, targets}
 use Rattle.bmx_owner.specs.declared.entering.Record.{Record}
 use Rattle.bmx_owner.specs.Records.{sent_by, got_by}
-use Rattle.bmx_token.specs.Turns.{Note, Grants}
+use Rattle.bmx_token.specs.Transitions.{Note, Grants}
 use Rattle.bmx_token_model.specs.Machine.{Message, Numbers, Object, no_numbers, is_gift, gives, sent_in, got_in, issue, issue_all}
 use Rattle.bmx_protocol.specs.declared.inputs.Sending.{Sending}
 use Rattle.bmx_protocol.specs.Nodes.{NodeState}

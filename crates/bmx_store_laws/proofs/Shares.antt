@@ -3,8 +3,8 @@ use Rattle.std.proofs.Common.{◌≡◌, ℕ, refl, ap, sym, subst, ◌∙◌, B
 use Rattle.std.specs.Prelude.{◌==◌, ◌≢◌, ◌||◌, Option, Some, None, is_some}
 use Rattle.std.specs.List.{list_any}
 use Rattle.bmx_types.specs.declared.addresses.Info.{Info}
-use Rattle.bmx_graph.specs.State.{put}
-use Rattle.bmx_token.specs.Turns.{Share, heard_share}
+use Rattle.bmx_types.specs.Updates.{put}
+use Rattle.bmx_token.specs.Transitions.{Share, heard_share}
 use Rattle.bmx_token_model.specs.Machine.{hears}
 use Rattle.bmx_protocol.specs.Nodes.{NodeState, Known, share_of}
 use Rattle.bmx_protocol.specs.Changes.{Change, Sets, Makes, Knows, Hears, Gives, Gets, Issues, Takes, heard_of, heard, after_change, after_changes}

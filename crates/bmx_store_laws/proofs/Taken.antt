@@ -1,4 +1,4 @@
--- Taking a letter, seen for one name: the model's turn by what the letter says of it.
+-- Taking a letter, seen for one name: the model's transition by what the letter says of it.
 use Rattle.std.proofs.Common.{◌≡◌, ◌⊎◌, inl, inr, ℕ, ◌+◌, refl, ap, sym, subst, ◌∙◌, Bool, true, false, cond, List, [], ◌∷◌, ◌++◌, map}
 use Rattle.std.specs.Prelude.{◌==◌, ◌||◌, Option, Some, None, is_some, filter_map}
 use Rattle.std.specs.Option.{option_map, option_map_or}
@@ -6,20 +6,20 @@ use Rattle.std.specs.List.{list_any}
 use Rattle.bmx_types.specs.declared.addresses.Info.{Info}
 use Rattle.bmx_types.specs.declared.addresses.Place.{Place}
 use Rattle.bmx_types.specs.declared.numbers.Mode.TheVariants as mode
-use Rattle.bmx_graph.specs.State.{put}
+use Rattle.bmx_types.specs.Updates.{put}
 use Rattle.bmx_msg.specs.declared.letters.Field.{Field}
-use Rattle.bmx_msg.specs.declared.letters.Field.TheVariants as told
+use Rattle.bmx_msg.specs.declared.letters.Field.TheVariants as msg_field
 use Rattle.bmx_msg.specs.declared.letters.Msg.{Msg}
 use Rattle.bmx_msg.specs.declared.letters.Msg.TheVariants as msg
 use Rattle.bmx_msg.specs.Letters.{targets}
 use Rattle.bmx_owner.specs.Records.{blank, got_by}
-use Rattle.bmx_token.specs.Turns.{Share, Note, Asks, Grants, Recalls, Returns, Send, Turn, note_turn}
-use Rattle.bmx_token_model.specs.Machine.{Message, Numbers, draft, is_handover, got_in, hears, said_turn, letter_turn}
+use Rattle.bmx_token.specs.Transitions.{Share, Note, Asks, Grants, Recalls, Returns, Send, Transition, note_transition}
+use Rattle.bmx_token_model.specs.Machine.{Message, Numbers, draft, is_handover, got_in, hears, said_transition, letter_transition}
 use Rattle.bmx_protocol.specs.declared.inputs.NodeAnswer.TheVariants as answer
 use Rattle.bmx_protocol.specs.declared.views.ViewField.{ViewField}
 use Rattle.bmx_protocol.specs.Nodes.{NodeState, Known, share_of}
 use Rattle.bmx_protocol.specs.Changes.{Change, Sets, Makes, Knows, Hears, Gives, Gets, Issues, Takes, record_of, after_change, after_changes}
-use Rattle.bmx_protocol.specs.Rules.{Draft, Outcome, only, name_in, note_in, info_in, infos, told_fields, known_change, copy_after, got_change, took, take_rule}
+use Rattle.bmx_protocol.specs.Rules.{Draft, Reaction, only, name_in, note_in, info_in, infos, told_fields, known_change, copy_after, got_change, took, take_rule}
 use Rattle.bmx_protocol.proofs.Changing.{after_append, Each}
 use Rattle.bmx_store_laws.specs.Inside.Seen.{has_name, seen_note, tells_of, seen_draft, seen_known, seen_record}
 use Rattle.bmx_store_laws.proofs.Basics.{eqb_of, eqb_same, Two, Same, Apart, two}
@@ -33,9 +33,9 @@ use Rattle.bmx_store_laws.proofs.Ruled.{Silent, drafts_same, notes_silent, known
 -- the Infos of fields name what the fields refer to
 fields_named : (x : ℕ) (fields : List Field) → list_any (λ (i : Info). i.name == x) (filter_map info_in fields) ≡ has_name x (targets fields)
 fields_named x [] = refl
-fields_named x (told.Null ∷ fields) = fields_named x fields
-fields_named x (told.Int k ∷ fields) = fields_named x fields
-fields_named x (told.Ref info ∷ fields) = ap (λ (b : Bool). (info.name == x) || b) (fields_named x fields)
+fields_named x (msg_field.Null ∷ fields) = fields_named x fields
+fields_named x (msg_field.Int k ∷ fields) = fields_named x fields
+fields_named x (msg_field.Ref info ∷ fields) = ap (λ (b : Bool). (info.name == x) || b) (fields_named x fields)
 
 -- a letter about another object tells of x just if x is among its Infos
 infos_named : (x : ℕ) (m : Msg) → (name_in m == x) ≡ false → list_any (λ (i : Info). i.name == x) (infos m) ≡ tells_of x m
@@ -57,18 +57,18 @@ pub data Says (x : ℕ) (drafts : List Draft) (sends : List Send) : Type 0 where
   Own : map (seen_draft x) drafts ≡ map (draft false) sends → Says x drafts sends
   Others : sends ≡ [] → Silent x drafts → Says x drafts sends
 
--- letter number seq from a node is taken, of which the model makes a turn
-pub record Took (x me from seq : ℕ) (s : NodeState) (m : Msg) (o : Outcome) : Type 0 where
-  pub turn : Turn
-  pub makes : (l : Message) → l.note ≡ seen_note x m → l.tells ≡ tells_of x m → letter_turn me from l (seen_known (s.known x)) ≡ Some turn
-  pub after : shares_after x (seen_known (s.known x)) o.changes ≡ turn.after
-  pub says : Says x o.drafts turn.sends
+-- letter number seq from a node is taken, of which the model makes a transition
+pub record Took (x me from seq : ℕ) (s : NodeState) (m : Msg) (o : Reaction) : Type 0 where
+  pub transition : Transition
+  pub makes : (l : Message) → l.note ≡ seen_note x m → l.tells ≡ tells_of x m → letter_transition me from l (seen_known (s.known x)) ≡ Some transition
+  pub after : shares_after x (seen_known (s.known x)) o.changes ≡ transition.after
+  pub says : Says x o.drafts transition.sends
   pub entering : (n : ℕ) → records_of x (after_changes s o.changes) n ≡ got_records (option_map_or is_handover (seen_note x m) false) (records_of x s) from seq n
   pub taken : (after_changes s o.changes).taken ≡ put s.taken from (s.taken from + 1)
   pub made : (after_changes s o.changes).made ≡ s.made
 
 -- the letter is stray, or taken
-pub data Taken (x me from seq : ℕ) (s : NodeState) (m : Msg) (o : Outcome) : Type 0 where
+pub data Taken (x me from seq : ℕ) (s : NodeState) (m : Msg) (o : Reaction) : Type 0 where
   Strayed : o ≡ only answer.Stray → Taken x me from seq s m o
   Taking : o.answer ≡ answer.Nil → Took x me from seq s m o → Taken x me from seq s m o
 
@@ -145,8 +145,8 @@ got_numbers x from seq name n s k = by_note n
     by_note Returns = stays Returns refl
 
 -- the state after a letter was taken
-module _ (s : NodeState) (lies : ℕ → Place) (from seq : ℕ) (m : Msg) (k : Option Known) (t : Turn) where
-  abbrev o : Outcome
+module _ (s : NodeState) (lies : ℕ → Place) (from seq : ℕ) (m : Msg) (k : Option Known) (t : Transition) where
+  abbrev o : Reaction
   o = took s lies from seq m k (Some t)
 
   -- once its Infos were heard, and its name is known as it is then
@@ -194,7 +194,7 @@ module _ (s : NodeState) (lies : ℕ → Place) (from seq : ℕ) (m : Msg) (k : 
   pub took_made : (after_changes s o.changes).made ≡ s.made
   took_made = ap (λ (u : NodeState). u.made) splits ∙ (got_leaves (note_in m) known_state).1 ∙ known_beside.made
 
-  -- what a node has of x: what it was told, and then what the turn leaves of its name
+  -- what a node has of x: what it was told, and then what the transition leaves of its name
   got_spares : (x : ℕ) (h : Option Share) (n : Note) → shares_after x h (got_change from seq (name_in m) n ++ Takes from ∷ []) ≡ h
   got_spares x h (Asks a asker) = refl
   got_spares x h (Grants mode.Read) = refl
@@ -213,14 +213,14 @@ module _ (s : NodeState) (lies : ℕ → Place) (from seq : ℕ) (m : Msg) (k : 
 -- ## about x
 
 -- a note that is taken by a node that doesn't know the object is a recall, and tells of nothing
-none_told : (x me from : ℕ) (m : Msg) (t : Turn) → note_turn me from (note_in m) None ≡ Some t → (tells_of x m ≡ false) × ((list_any (λ (i : Info). i.name == x) (infos m) ≡ false) × (t.after ≡ None))
+none_told : (x me from : ℕ) (m : Msg) (t : Transition) → note_transition me from (note_in m) None ≡ Some t → (tells_of x m ≡ false) × ((list_any (λ (i : Info). i.name == x) (infos m) ≡ false) × (t.after ≡ None))
 none_told x me from (msg.ReadReq name asker) t does = absurd cc
 none_told x me from (msg.WriteReq name asker) t does = absurd cc
 none_told x me from (msg.ReadGrant info fields) t does = absurd cc
 none_told x me from (msg.WriteGrant info fields) t does = absurd cc
-none_told x me from (msg.Inval name) t does = (refl, (refl, sym (ap (λ (u : Option Turn). after_of u) does)))
+none_told x me from (msg.Inval name) t does = (refl, (refl, sym (ap (λ (u : Option Transition). after_of u) does)))
   where
-    after_of : Option Turn → Option Share
+    after_of : Option Transition → Option Share
     after_of None = None
     after_of (Some u) = u.after
 none_told x me from (msg.InvAck name) t does = absurd cc
@@ -244,19 +244,19 @@ heard_still : (b : Bool) (from : ℕ) (h : Share) → hears b from (Some h) ≡ 
 heard_still true from h = refl
 heard_still false from h = refl
 
--- the model's turn by a letter with a note
-letter_makes : (me from : ℕ) (l : Message) (says : Option Note) (tells : Bool) (h : Option Share) (t : Turn) → l.note ≡ says → l.tells ≡ tells →
-    said_turn me from says h ≡ Some t → letter_turn me from l h ≡ Some (record t { after = hears tells from t.after })
+-- the model's transition by a letter with a note
+letter_makes : (me from : ℕ) (l : Message) (says : Option Note) (tells : Bool) (h : Option Share) (t : Transition) → l.note ≡ says → l.tells ≡ tells →
+    said_transition me from says h ≡ Some t → letter_transition me from l h ≡ Some (record t { after = hears tells from t.after })
 letter_makes me from l says tells h t is told does =
-    (λ i. option_map (λ (u : Turn). record u { after = hears (told i) from u.after }) (said_turn me from (is i) h))
-    ∙ ap (option_map (λ (u : Turn). record u { after = hears tells from u.after })) does
+    (λ i. option_map (λ (u : Transition). record u { after = hears (told i) from u.after }) (said_transition me from (is i) h))
+    ∙ ap (option_map (λ (u : Transition). record u { after = hears tells from u.after })) does
 
-about_x : (me from seq : ℕ) (s : NodeState) (lies : ℕ → Place) (m : Msg) (k : Option Known) (t : Turn) → s.known (name_in m) ≡ k →
-    note_turn me from (note_in m) (seen_known k) ≡ Some t → NoGrants t.sends → Took (name_in m) me from seq s m (took s lies from seq m k (Some t))
+about_x : (me from seq : ℕ) (s : NodeState) (lies : ℕ → Place) (m : Msg) (k : Option Known) (t : Transition) → s.known (name_in m) ≡ k →
+    note_transition me from (note_in m) (seen_known k) ≡ Some t → NoGrants t.sends → Took (name_in m) me from seq s m (took s lies from seq m k (Some t))
 about_x me from seq s lies m k t is does none = record {
-  turn = record t { after = hears (tells_of x m) from t.after };
+  transition = record t { after = hears (tells_of x m) from t.after };
   makes = λ l note tells. letter_makes me from l (Some (note_in m)) (tells_of x m) (seen_known (s.known x)) t
-      (note ∙ (λ i. cond (eqb_same x i) (Some (note_in m)) None)) tells (ap (λ (j : Option Known). note_turn me from (note_in m) (seen_known j)) is ∙ does);
+      (note ∙ (λ i. cond (eqb_same x i) (Some (note_in m)) None)) tells (ap (λ (j : Option Known). note_transition me from (note_in m) (seen_known j)) is ∙ does);
   after = took_shares s lies from seq m k t x (seen_known (s.known x)) ∙ ap (λ (j : Option Known). by_after j) is ∙ by_known k does;
   says = Own (drafts_same x s lies t.sends ∙ drafts_alike (has_name x (targets (told_fields s lies x))) t.sends none);
   entering = λ n. took_entering s lies from seq m k t x n;
@@ -270,7 +270,7 @@ about_x me from seq s lies m k t is does none = record {
     by_after : Option Known → Option Share
     by_after j = shares_after x (hears (list_any (λ (i : Info). i.name == x) (infos m)) from (seen_known j)) (known_change x k (copy_after m k) t.after)
 
-    by_known : (k : Option Known) → note_turn me from (note_in m) (seen_known k) ≡ Some t →
+    by_known : (k : Option Known) → note_transition me from (note_in m) (seen_known k) ≡ Some t →
         shares_after x (hears (list_any (λ (i : Info). i.name == x) (infos m)) from (seen_known k)) (known_change x k (copy_after m k) t.after)
         ≡ hears (tells_of x m) from t.after
     by_known None does =
@@ -288,10 +288,10 @@ about_x me from seq s lies m k t is does none = record {
 
 -- ## about another
 
-about_other : (x me from seq : ℕ) (s : NodeState) (lies : ℕ → Place) (m : Msg) (k : Option Known) (t : Turn) → (name_in m == x) ≡ false → NoGrants t.sends →
+about_other : (x me from seq : ℕ) (s : NodeState) (lies : ℕ → Place) (m : Msg) (k : Option Known) (t : Transition) → (name_in m == x) ≡ false → NoGrants t.sends →
     Took x me from seq s m (took s lies from seq m k (Some t))
 about_other x me from seq s lies m k t apart none = record {
-  turn = record { after = hears (tells_of x m) from (seen_known (s.known x)); sends = [] };
+  transition = record { after = hears (tells_of x m) from (seen_known (s.known x)); sends = [] };
   makes = λ l note tells. letter_makes me from l None (tells_of x m) (seen_known (s.known x)) (record { after = seen_known (s.known x); sends = [] })
       (note ∙ (λ i. cond (apart i) (Some (note_in m)) None)) tells refl;
   after = took_shares s lies from seq m k t x (seen_known (s.known x))
@@ -307,11 +307,11 @@ about_other x me from seq s lies m k t apart none = record {
 
 pub take_taken : (x me : ℕ) (s : NodeState) (lies : ℕ → Place) (from seq : ℕ) (m : Msg) → Taken x me from seq s m (take_rule me s lies from seq m)
 take_taken x me s lies from seq m =
-    by_turn (note_turn me from (note_in m) (seen_known (s.known (name_in m)))) refl (note_grants me from (note_in m) (seen_known (s.known (name_in m)))) (two (name_in m) x)
+    by_transition (note_transition me from (note_in m) (seen_known (s.known (name_in m)))) refl (note_grants me from (note_in m) (seen_known (s.known (name_in m)))) (two (name_in m) x)
   where
-    by_turn : (t : Option Turn) → note_turn me from (note_in m) (seen_known (s.known (name_in m))) ≡ t → GrantsNothing t → Two (name_in m) x →
+    by_transition : (t : Option Transition) → note_transition me from (note_in m) (seen_known (s.known (name_in m))) ≡ t → GrantsNothing t → Two (name_in m) x →
         Taken x me from seq s m (took s lies from seq m (s.known (name_in m)) t)
-    by_turn None does none q = Strayed refl
-    by_turn (Some t) does none (Same e) = Taking refl (subst (λ (y : ℕ). Took y me from seq s m (took s lies from seq m (s.known (name_in m)) (Some t))) e
+    by_transition None does none q = Strayed refl
+    by_transition (Some t) does none (Same e) = Taking refl (subst (λ (y : ℕ). Took y me from seq s m (took s lies from seq m (s.known (name_in m)) (Some t))) e
         (about_x me from seq s lies m (s.known (name_in m)) t refl does none))
-    by_turn (Some t) does none (Apart h d) = Taking refl (about_other x me from seq s lies m (s.known (name_in m)) t h none)
+    by_transition (Some t) does none (Apart h d) = Taking refl (about_other x me from seq s lies m (s.known (name_in m)) t h none)

@@ -6,7 +6,7 @@ use Rattle.std.proofs.lemmas.List.Sums.{sum_by-cons}
 use Rattle.bmx_types.specs.declared.numbers.Mode.{Mode}
 use Rattle.bmx_msg.specs.declared.letters.Letter.{Letter}
 use Rattle.bmx_token.specs.declared.parts.Ask.{Ask}
-use Rattle.bmx_token.specs.Turns.{Share, Note, same_mode, is_request_of, is_grant_of}
+use Rattle.bmx_token.specs.Transitions.{Share, Note, same_mode, is_request_of, is_grant_of}
 use Rattle.bmx_protocol.specs.Nodes.{Known, share_of}
 use Rattle.bmx_protocol.specs.Rules.{name_in, note_in}
 use Rattle.bmx_protocol.specs.Worlds.{World}

@@ -6,7 +6,7 @@ use Rattle.bmx_types.specs.declared.numbers.Mode.TheVariants as mode
 use Rattle.bmx_protocol.specs.Histories.{in_flight}
 use Rattle.bmx_protocol.specs.Worlds.{World, world_of}
 use Rattle.bmx_protocol.specs.Cases.{Play, Do, Serve, Next, played, one_bunch, anchor, r0, told_of_the_object}
-use Rattle.bmx_token.specs.Turns.{Share, Grants, made_share, heard_share}
+use Rattle.bmx_token.specs.Transitions.{Share, Grants, made_share, heard_share}
 use Rattle.bmx_token_model.specs.Machine.{Object, no_numbers}
 use Rattle.bmx_store_laws.specs.Inside.Seen.{seen, first_world}
 use Rattle.bmx_store_laws.specs.Laws.{handovers_of}

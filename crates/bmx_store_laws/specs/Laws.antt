@@ -3,7 +3,7 @@ use Rattle.std.specs.Prelude.{◌≡◌, ℕ, ◌<◌, ◌≤◌, ◌==◌, ◌&
 use Rattle.std.specs.Option.{option_map_or}
 use Rattle.bmx_types.specs.declared.numbers.Mode.{Mode}
 use Rattle.bmx_token.specs.declared.parts.Ask.{Ask}
-use Rattle.bmx_token.specs.Turns.{Note, same_mode, is_request_of, is_grant_of}
+use Rattle.bmx_token.specs.Transitions.{Note, same_mode, is_request_of, is_grant_of}
 use Rattle.bmx_protocol.specs.Rules.{name_in, note_in}
 use Rattle.bmx_types.specs.Words.{maker, count_of}
 use Rattle.bmx_types.specs.Openings.{IsOpening}

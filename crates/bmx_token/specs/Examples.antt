@@ -1,4 +1,4 @@
--- Small cases of the rows of a token.
+-- Small cases of the calls on a token.
 use Rattle.std.specs.Prelude.{◌≡◌, ℕ, true, false, List, [], ◌∷◌, Some, None, refl}
 use Rattle.bmx_types.specs.declared.numbers.Mode.{Mode}
 use Rattle.bmx_types.specs.declared.numbers.Mode.TheVariants.{Read, Write}

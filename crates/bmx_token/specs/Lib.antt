@@ -1,5 +1,5 @@
 pub mod Nodes
 pub mod Tokens
-pub mod Turns
+pub mod Transitions
 pub mod Laws
 pub mod Examples

@@ -1,4 +1,4 @@
--- What a node's turns come to, one case for each outcome: what it took of a letter, what it has before and
+-- What a node's transitions come to, one case for each outcome: what it took of a letter, what it has before and
 -- after, and what it sends.
 use Rattle.std.proofs.Common.{◌≡◌, ◌≢◌, ◌⊎◌, ℕ, List, [], ◌∷◌, ◌++◌, map, Bool, true, false}
 use Rattle.std.specs.Prelude.{◌==◌, ◌||◌, is_some, Option, Some, None}
@@ -10,7 +10,7 @@ use Rattle.bmx_token.specs.declared.parts.Role.TheVariants.{Owner, Parent}
 use Rattle.bmx_token.specs.declared.parts.Part.{Part}
 use Rattle.bmx_token.specs.Nodes.{nodes_with, nodes_without}
 use Rattle.bmx_token.specs.Tokens.{is_write}
-use Rattle.bmx_token.specs.Turns.{Share, Note, Asks, Grants, Recalls, Returns, send, Turn, silently, saying, with_token, with_copy, without_copy, heard_share}
+use Rattle.bmx_token.specs.Transitions.{Share, Note, Asks, Grants, Recalls, Returns, send, Transition, silently, saying, with_token, with_copy, without_copy, heard_share}
 
 -- node me's token changes, and nothing is said or taken
 pub data Alters (me : ℕ) (copy : Bool) (p q : Part) : Type 0 where
@@ -25,8 +25,8 @@ pub data Alters (me : ℕ) (copy : Bool) (p q : Part) : Type 0 where
       q ≡ record p { queue = rest; ready = true } → Alters me copy p q
 
 -- node me takes a letter from another, with a note or none, which tells it of the object or doesn't, or nothing;
--- from what it has it makes a turn
-pub data Acts (me from : ℕ) (taken : Option Note) (tells : Bool) (h : Option Share) (t : Turn) : Type 0 where
+-- from what it has it makes a transition
+pub data Acts (me from : ℕ) (taken : Option Note) (tells : Bool) (h : Option Share) (t : Transition) : Type 0 where
   Rests : taken ≡ None → t ≡ record { after = h; sends = [] } → Acts me from taken tells h t
   Hears : h ≡ None → tells ≡ true → taken ≡ None → t ≡ silently (heard_share from) → Acts me from taken tells h t
   AltersTo : (b : Share) (q : Part) → h ≡ Some b → Alters me b.copy b.part q → taken ≡ None → t ≡ silently (with_token b q) →

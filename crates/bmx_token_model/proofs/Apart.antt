@@ -6,8 +6,8 @@ use Rattle.bmx_token.specs.declared.parts.Ask.{Ask}
 use Rattle.bmx_token.specs.declared.parts.Part.{Part}
 use Rattle.bmx_token.specs.declared.parts.Role.{Role}
 use Rattle.bmx_token.specs.declared.parts.Role.TheVariants.{Owner, Parent}
-use Rattle.bmx_token.specs.Turns.{Share, Note, Asks, Grants, Recalls, Returns, Send, send, Turn, made_share, heard_share}
-use Rattle.bmx_token_model.specs.Machine.{Object, Step, Makes, Does, Takes, Writes, Forgets, Clears, Run, IsFirst}
+use Rattle.bmx_token.specs.Transitions.{Share, Note, Asks, Grants, Recalls, Returns, Send, send, Transition, made_share, heard_share}
+use Rattle.bmx_token_model.specs.Machine.{Object, Step, Makes, Does, Receives, Writes, Forgets, Clears, Run, IsFirst}
 use Rattle.bmx_token_model.specs.Laws.{owned_at, queue_at}
 use Rattle.bmx_token_model.proofs.Tallies.{notes, Cases, Same, Apart, cases, same_true, apart_false}
 use Rattle.bmx_token_model.proofs.First.{untouched, first_holds}
@@ -37,12 +37,12 @@ record IsOwn (me : ℕ) (h : Option Share) : Type 0 where
   due : due_to me h ≡ 0
 
 -- and after an act
-record IsAway (me : ℕ) (t : Turn) : Type 0 where
+record IsAway (me : ℕ) (t : Transition) : Type 0 where
   parent : stance t.after ≢ Under me
   reader : times me (reads_of t.after) ≡ 0
   sends : notes_to me t.sends ≡ []
 
-same_away : (me : ℕ) (t k : Turn) → t ≡ k → IsAway me k → IsAway me t
+same_away : (me : ℕ) (t k : Transition) → t ≡ k → IsAway me k → IsAway me t
 same_away me t k f a = rw f a
 
 elsewhere : (me to : ℕ) (n : Note) (sends : List Send) → to ≢ me → notes_to me sends ≡ [] → notes_to me (send to n ∷ sends) ≡ []
@@ -76,7 +76,7 @@ alters_reads me copy p q (Joins r w e) = ap (λ (x : Part). x.readers) e
 alters_reads me copy p q (Frees m h d e) = ap (λ (x : Part). x.readers) e
 alters_reads me copy p q (Readies rest r rs queue e) = ap (λ (x : Part). x.readers) e
 
-acts_away : (me from : ℕ) (taken : Option Note) (tells : Bool) (h : Option Share) (t : Turn) → Acts me from taken tells h t → FromAnother me from taken tells → IsOwn me h → IsAway me t
+acts_away : (me from : ℕ) (taken : Option Note) (tells : Bool) (h : Option Share) (t : Transition) → Acts me from taken tells h t → FromAnother me from taken tells → IsOwn me h → IsAway me t
 acts_away me from taken tells h t (Rests x f) away s = same_away me t _ f record { parent = s.parent; reader = s.reader; sends = refl }
 acts_away me from taken tells h t (Hears e told x f) away s = same_away me t _ f record { parent = λ z. away (inr told) (under_is from me z); reader = refl; sends = refl }
 acts_away me from taken tells h t (AltersTo b q e alters x f) away s0 =
@@ -192,7 +192,7 @@ empty_left : (a b : List Note) → a ++ b ≡ [] → b ≡ []
 empty_left [] b h = h
 empty_left (n ∷ a) b h = absurd cc
 
-apart_moves : (o p : Object) (me from : ℕ) (taken : Option Note) (t : Turn) → Moves o p me from taken t → IsAway me t → IsApart o → IsApart p
+apart_moves : (o p : Object) (me from : ℕ) (taken : Option Note) (t : Transition) → Moves o p me from taken t → IsAway me t → IsApart o → IsApart p
 apart_moves o p me from taken t h away a = record { parents = λ n. parents n (cases n me); readers = λ n. readers n (cases n me); channels = λ n. channels n (cases n me) }
   where
     holds : (n : ℕ) (u : Bool) → (me == n) ≡ u → p.holds n ≡ cond u t.after (o.holds n)
@@ -219,8 +219,8 @@ another_of o me from taken tells q (Nothing x y e) (inr z) = (let both : false �
 another_of o me from taken tells q (Letter l rest channel apart x y e) z = apart
 
 acting_apart : (o p : Object) → Acting o p → IsRequested o → IsShared o → IsApart o → IsApart p
-acting_apart o p a r s g = apart_moves o p a.me a.from a.taken a.turn (acting_moves o p a.me a.from a.taken a.tells a.turn a.refers a.between a.taking a.is)
-    (acts_away a.me a.from a.taken a.tells (o.holds a.me) a.turn a.acts (another_of o a.me a.from a.taken a.tells a.between a.taking) (own_of o a.me r s g)) g
+acting_apart o p a r s g = apart_moves o p a.me a.from a.taken a.transition (acting_moves o p a.me a.from a.taken a.tells a.transition a.refers a.between a.taking a.is)
+    (acts_away a.me a.from a.taken a.tells (o.holds a.me) a.transition a.acts (another_of o a.me a.from a.taken a.tells a.between a.taking) (own_of o a.me r s g)) g
 
 same_apart : (o p : Object) → ((n : ℕ) → p.holds n ≡ o.holds n) → ((n k : ℕ) → notes (p.channel n k) ≡ notes (o.channel n k)) → IsApart o → IsApart p
 same_apart o p holds channel a = record {
@@ -240,7 +240,7 @@ apart_step o p r s a (Makes me nowhere e) = subst IsApart (sym e) record { paren
     readers n true = refl
     readers n false = a.readers n
 apart_step o p r s a (Does me refers act h t has is e) = acting_apart o p (does_acting o p me refers act h t has is e) r s a
-apart_step o p r s a (Takes from me l rest t apart channel is e) = acting_apart o p (takes_acting o p from me l rest t apart channel is e) r s a
+apart_step o p r s a (Receives from me l rest t apart channel is e) = acting_apart o p (takes_acting o p from me l rest t apart channel is e) r s a
 apart_step o p r s a (Writes me to tells told e) =
     same_apart o p (λ n. ap (λ (q : Object). q.holds n) e) (λ n k. ap (λ (q : Object). notes (q.channel n k)) e ∙ silent_notes o me to tells n k) a
 apart_step o p r s a (Forgets me h has u e) = subst IsApart (sym e) record { parents = λ n. parents n (me == n); readers = λ n. readers n (me == n); channels = a.channels }

@@ -4,10 +4,10 @@ use Rattle.std.proofs.Common.{◌≡◌, ◌⊎◌, inl, inr, ℕ, ◌+◌, ◌�
 use Rattle.std.specs.Prelude.{◌||◌, is_some, Option, Some, None}
 use Rattle.std.specs.Option.{option_to_list}
 use Rattle.bmx_types.specs.declared.numbers.Mode.TheVariants as mode
-use Rattle.bmx_graph.specs.State.{put_at}
+use Rattle.bmx_types.specs.Updates.{put_at}
 use Rattle.bmx_token.specs.declared.parts.Ask.{Ask}
-use Rattle.bmx_token.specs.Turns.{Share, Note, Asks, Grants, Recalls, Returns, Send, send, Turn, made_share}
-use Rattle.bmx_token_model.specs.Machine.{Message, Draft, Numbers, Object, Step, Makes, Does, Takes, Writes, Forgets, Clears, Run, IsFirst, is_ask, asks, brings, draft, numbered, with_holding, issue, issue_all, moved, popped}
+use Rattle.bmx_token.specs.Transitions.{Share, Note, Asks, Grants, Recalls, Returns, Send, send, Transition, made_share}
+use Rattle.bmx_token_model.specs.Machine.{Message, Draft, Numbers, Object, Step, Makes, Does, Receives, Writes, Forgets, Clears, Run, IsFirst, is_ask, asks, brings, draft, numbered, with_holding, issue, issue_all, moved, popped}
 use Rattle.bmx_token_model.proofs.Tallies.{tally, tally-append, handover, handover-brings, notes, put-all, put_at-all, put_at-apart, PairCases, Both, Other, pair_cases}
 use Rattle.bmx_token_model.proofs.Each.{Each, each_of, issue_way, popped_way, EachSend, sends_more}
 use Rattle.bmx_token_model.proofs.Acts.{Acts, Rests, Hears, AltersTo, Wants, Answers, GrantsRead, HandsOver, Revokes, Arrives, Forwards, GetsRead, GetsWrite, ReturnsNone, ReturnsNow, ReturnsLater, GetsBack}
@@ -197,8 +197,8 @@ taking_asked o me from taken tells q (Letter l rest channel apart x y e) a = sub
 
 -- ## what is asked
 
--- a turn asks only whom the node looks to, or hands ownership over and asks its taker
-pub data Asking (A : ℕ → Type 0) (t : Turn) : Type 0 where
+-- a transition asks only whom the node looks to, or hands ownership over and asks its taker
+pub data Asking (A : ℕ → Type 0) (t : Transition) : Type 0 where
   AsksThose : AskThose A t.sends → Asking A t
   AsksTaker : (to : ℕ) (rest : List Ask) → t.sends ≡ send to (Grants mode.Write) ∷ map (λ (a : Ask). send to (Asks a.mode a.asker)) rest → Asking A t
 
@@ -211,20 +211,20 @@ pub rest_those : (A : ℕ → Type 0) (to : ℕ) (rest : List Ask) → A to → 
 rest_those A to [] h = tt
 rest_those A to (a ∷ rest) h = (λ x. h, rest_those A to rest h)
 
-asks_as : (A : ℕ → Type 0) (t k : Turn) → t ≡ k → AskThose A k.sends → Asking A t
+asks_as : (A : ℕ → Type 0) (t k : Transition) → t ≡ k → AskThose A k.sends → Asking A t
 asks_as A t k f h = rw f (AsksThose h)
 
 back : (A : ℕ → Type 0) (to : ℕ) → AskThose A (send to Returns ∷ [])
 back A to = (λ x. absurd cc, tt)
 
-pub acts_ask : (A : ℕ → Type 0) (me from : ℕ) (taken : Option Note) (tells : Bool) (h : Option Share) (t : Turn) → Acts me from taken tells h t → ((p : ℕ) → stance h ≡ Under p → A p) → Asking A t
+pub acts_ask : (A : ℕ → Type 0) (me from : ℕ) (taken : Option Note) (tells : Bool) (h : Option Share) (t : Transition) → Acts me from taken tells h t → ((p : ℕ) → stance h ≡ Under p → A p) → Asking A t
 acts_ask A me from taken tells h t (Rests x f) up = asks_as A t _ f tt
 acts_ask A me from taken tells h t (Hears e told x f) up = asks_as A t _ f tt
 acts_ask A me from taken tells h t (AltersTo b q e alters x f) up = asks_as A t _ f tt
 acts_ask A me from taken tells h t (Wants b n parent e role held want x f) up = asks_as A t _ f (λ z. up parent (ap stance e ∙ ap stance_as role), tt)
 acts_ask A me from taken tells h t (Answers b owner held e holds due x f) up = asks_as A t _ f (back A owner)
 acts_ask A me from taken tells h t (GrantsRead b asker rest e role queue test x f) up = asks_as A t _ f (λ z. absurd cc, tt)
-acts_ask A me from taken tells h t (HandsOver b asker rest e role readers queue other test x f) up = AsksTaker asker rest (ap (λ (z : Turn). z.sends) f)
+acts_ask A me from taken tells h t (HandsOver b asker rest e role readers queue other test x f) up = AsksTaker asker rest (ap (λ (z : Transition). z.sends) f)
 acts_ask A me from taken tells h t (Revokes b asker rest e role queue waiting x f) up = asks_as A t _ f (recalls_those A b.part.readers)
 acts_ask A me from taken tells h t (Arrives b n asker e role other x f) up = asks_as A t _ f tt
 acts_ask A me from taken tells h t (Forwards b n asker parent e role x f) up = asks_as A t _ f (λ z. up parent (ap stance e ∙ ap stance_as role), tt)
@@ -238,31 +238,31 @@ acts_ask A me from taken tells h t (GetsBack b e role waited x f) up = asks_as A
 -- ## each step
 
 acting_asked : (o p : Object) → Acting o p → IsPointed o → IsRequested p → IsAsked o → IsAsked p
-acting_asked o p a w r g = subst IsAsked (sym a.is) (by_asking (acts_ask (λ n. MayBeAsked s n a.me) a.me a.from a.taken a.tells (o.holds a.me) a.turn a.acts up))
+acting_asked o p a w r g = subst IsAsked (sym a.is) (by_asking (acts_ask (λ n. MayBeAsked s n a.me) a.me a.from a.taken a.tells (o.holds a.me) a.transition a.acts up))
   where
     q : Object
     q = a.between
 
     s : Object
-    s = with_holding q a.me a.turn.after
+    s = with_holding q a.me a.transition.after
 
     holds : q.holds ≡ o.holds
     holds = taking_holds o a.me a.from a.taken a.tells q a.taking
 
-    some : is_some (o.holds a.me) ≡ true → is_some a.turn.after ≡ true
-    some = knowing_stays a.from (o.holds a.me) a.turn (acts_knowing a.me a.from a.taken a.tells (o.holds a.me) a.turn a.acts)
+    some : is_some (o.holds a.me) ≡ true → is_some a.transition.after ≡ true
+    some = knowing_stays a.from (o.holds a.me) a.transition (acts_knowing a.me a.from a.taken a.tells (o.holds a.me) a.transition a.acts)
 
     asked : IsAsked s
-    asked = holding_asked q a.me a.turn.after (λ k. some (subst (λ (f : ℕ → Option Share). is_some (f a.me) ≡ true) holds k)) (taking_asked o a.me a.from a.taken a.tells q a.taking g)
+    asked = holding_asked q a.me a.transition.after (λ k. some (subst (λ (f : ℕ → Option Share). is_some (f a.me) ≡ true) holds k)) (taking_asked o a.me a.from a.taken a.tells q a.taking g)
 
     up : (p : ℕ) → stance (o.holds a.me) ≡ Under p → MayBeAsked s p a.me
     up p under = record {
-      knows = put-all (λ j k. Knows o j → is_some k ≡ true) q.holds a.me a.turn.after some (λ j d. subst (λ (f : ℕ → Option Share). is_some (f j) ≡ true) (sym holds)) p (w.known a.me p under);
+      knows = put-all (λ j k. Knows o j → is_some k ≡ true) q.holds a.me a.transition.after some (λ j d. subst (λ (f : ℕ → Option Share). is_some (f j) ≡ true) (sym holds)) p (w.known a.me p under);
       answers = taking_answers o a.me a.from a.taken a.tells q a.taking p a.me (w.answers a.me p under);
     }
 
-    by_asking : Asking (λ n. MayBeAsked s n a.me) a.turn → IsAsked (moved q a.me a.refers a.turn)
-    by_asking (AsksThose those) = issue_all_asked s a.me a.refers a.turn.sends those asked
+    by_asking : Asking (λ n. MayBeAsked s n a.me) a.transition → IsAsked (moved q a.me a.refers a.transition)
+    by_asking (AsksThose those) = issue_all_asked s a.me a.refers a.transition.sends those asked
     by_asking (AsksTaker to rest l) = subst (λ x. IsAsked (issue_all s a.me (map (draft a.refers) x))) (sym l)
         (issue_all_asked first a.me a.refers (map (λ (x : Ask). send to (Asks x.mode x.asker)) rest)
         (rest_those (λ n. MayBeAsked first n a.me) to rest record { knows = knows; answers = inr over })
@@ -271,17 +271,17 @@ acting_asked o p a w r g = subst IsAsked (sym a.is) (by_asking (acts_ask (λ n. 
         first : Object
         first = issue s a.me (draft a.refers (send to (Grants mode.Write)))
 
-        -- the grant alone, as a turn
+        -- the grant alone, as a transition
         over : 1 ≤ tally handover (notes (first.channel a.me to))
-        over = handed_over q a.me a.refers record { after = a.turn.after; sends = send to (Grants mode.Write) ∷ [] } to [] refl
+        over = handed_over q a.me a.refers record { after = a.transition.after; sends = send to (Grants mode.Write) ∷ [] } to [] refl
 
         knows : Knows first to
-        knows = ap (λ k. is_some k) (sym (holds_moved q a.me a.refers a.turn to)) ∙ granted_knows (moved q a.me a.refers a.turn) a.me to (subst IsRequested a.is r) (handed_over q a.me a.refers a.turn to rest l)
+        knows = ap (λ k. is_some k) (sym (holds_moved q a.me a.refers a.transition to)) ∙ granted_knows (moved q a.me a.refers a.transition) a.me to (subst IsRequested a.is r) (handed_over q a.me a.refers a.transition to rest l)
 
 pub asked_step : (o p : Object) → IsPointed o → IsRequested p → IsAsked o → Step o p → IsAsked p
 asked_step o p w r a (Makes me nowhere e) = subst IsAsked (sym e) (holding_asked o me (Some made_share) (λ h. refl) a)
 asked_step o p w r a (Does me refers act h t has is e) = acting_asked o p (does_acting o p me refers act h t has is e) w r a
-asked_step o p w r a (Takes from me l rest t apart channel is e) = acting_asked o p (takes_acting o p from me l rest t apart channel is e) w r a
+asked_step o p w r a (Receives from me l rest t apart channel is e) = acting_asked o p (takes_acting o p from me l rest t apart channel is e) w r a
 asked_step o p w r a (Writes me to tells told e) = subst IsAsked (sym e) (issue_asked o me _ (λ x. absurd cc) a)
 asked_step o p w r a (Forgets me h has u e) = subst IsAsked (sym e) record {
   fits = a.fits;

@@ -3,30 +3,30 @@ use Rattle.std.proofs.Common.{◌≡◌, ◌≢◌, ℕ, arith, refl, ap, sym, s
 use Rattle.std.specs.Prelude.{◌==◌, ◌&&◌, Option, Some, None}
 use Rattle.std.proofs.lemmas.Bool.{eqb-false}
 use Rattle.bmx_types.specs.declared.numbers.Mode.TheVariants.{Read, Write}
-use Rattle.bmx_token.specs.Turns.{Share, Grants, Acquires, Act, Turn, turn_of, made_share, heard_share}
-use Rattle.bmx_token_model.specs.Machine.{Message, Object, Does, Takes, Run, Stays, Goes, IsFirst, Born, IsFirstElsewhere, Unknown, Heard, IsFirstRecord, Numbers, no_numbers, popped, letter_turn}
+use Rattle.bmx_token.specs.Transitions.{Share, Grants, Acquires, Operation, Transition, transition_of, made_share, heard_share}
+use Rattle.bmx_token_model.specs.Machine.{Message, Object, Does, Receives, Run, Stays, Goes, IsFirst, Born, IsFirstElsewhere, Unknown, Heard, IsFirstRecord, Numbers, no_numbers, popped, letter_transition}
 use Rattle.bmx_token_model.specs.Tables.{MayClear}
-use Rattle.bmx_token_model.specs.Laws.{WantsArePlaced, Gave, Leads, Here, On}
+use Rattle.bmx_token_model.specs.Laws.{WantsArePlaced, Gave, Chain, Here, On}
 use Rattle.bmx_token_model.proofs.Tallies.{eqb_true}
 use Rattle.bmx_token_model.proofs.Stated.{each_want_is_placed}
-use Rattle.bmx_token_model.specs.Cases.{Next, Do, Take, after_turn, did, took, next, after, first_holds, opening, letter, asked, handed_over, the_taker_waits, table_of_the_owner, tabled}
+use Rattle.bmx_token_model.specs.Cases.{Next, Do, Take, after_transition, did, took, next, after, first_holds, opening, letter, asked, handed_over, the_taker_waits, table_of_the_owner, tabled}
 
 -- what comes next is a step of the model, or nothing
-did_runs : (o p : Object) → Run o p → (me : ℕ) (a : Act) (h : Option Share) → p.holds me ≡ h → Run o (did p me a h)
+did_runs : (o p : Object) → Run o p → (me : ℕ) (a : Operation) (h : Option Share) → p.holds me ≡ h → Run o (did p me a h)
 did_runs o p run me a None has = run
-did_runs o p run me a (Some h) has = by_turn (turn_of me a h) refl
+did_runs o p run me a (Some h) has = by_transition (transition_of me a h) refl
   where
-    by_turn : (t : Option Turn) → turn_of me a h ≡ t → Run o (after_turn p p me t)
-    by_turn None is = run
-    by_turn (Some t) is = Goes run (Does me false a h t has is refl)
+    by_transition : (t : Option Transition) → transition_of me a h ≡ t → Run o (after_transition p p me t)
+    by_transition None is = run
+    by_transition (Some t) is = Goes run (Does me false a h t has is refl)
 
 took_runs : (o p : Object) → Run o p → (from me : ℕ) → from ≢ me → (letters : List Message) → p.channel from me ≡ letters → Run o (took p from me letters)
 took_runs o p run from me apart [] channel = run
-took_runs o p run from me apart (l ∷ rest) channel = by_turn (letter_turn me from l (p.holds me)) refl
+took_runs o p run from me apart (l ∷ rest) channel = by_transition (letter_transition me from l (p.holds me)) refl
   where
-    by_turn : (t : Option Turn) → letter_turn me from l (p.holds me) ≡ t → Run o (after_turn p (popped p from me l rest) me t)
-    by_turn None is = run
-    by_turn (Some t) is = Goes run (Takes from me l rest t apart channel is refl)
+    by_transition : (t : Option Transition) → letter_transition me from l (p.holds me) ≡ t → Run o (after_transition p (popped p from me l rest) me t)
+    by_transition None is = run
+    by_transition (Some t) is = Goes run (Receives from me l rest t apart channel is refl)
 
 next_runs : (o p : Object) → Run o p → (t : Next) → Run o (next p t)
 next_runs o p run (Do me a) = did_runs o p run me a (p.holds me) refl
@@ -78,7 +78,7 @@ its_want_is_placed : WantsArePlaced asked
 its_want_is_placed = each_want_is_placed opening asked opens (nexts_run opening (Do 1 (Acquires Read) ∷ []))
 
 -- the taker of ownership leads to its giver
-the_taker_leads : Leads handed_over 1 1
+the_taker_leads : Chain handed_over 1 1
 the_taker_leads = On the_taker_waits refl refl
     (Here (Gave (heard_share 1) 1 refl refl record { letter = letter 3 (Grants Write); there = (0, omega arith, refl); brings_it = refl }))
 

@@ -6,7 +6,7 @@ use Rattle.bmx_types.specs.declared.numbers.Mode.TheVariants as mode
 use Rattle.bmx_token.specs.declared.parts.Ask.{Ask}
 use Rattle.bmx_token.specs.declared.parts.Role.{Role}
 use Rattle.bmx_token.specs.declared.parts.Role.TheVariants.{Owner, Parent}
-use Rattle.bmx_token.specs.Turns.{Share, Note, Asks, Grants, Send, send, Turn, made_share}
+use Rattle.bmx_token.specs.Transitions.{Share, Note, Asks, Grants, Send, send, Transition, made_share}
 use Rattle.bmx_token_model.specs.Machine.{Message, Numbers, Object, Step, Run, IsFirst, IsUnneededRecord, is_ask, gives, asks, brings, draft, with_holding, issue, issue_all, moved, popped}
 use Rattle.bmx_token_model.specs.Machine as machine
 use Rattle.bmx_token_model.specs.Tables.{Table, Tabled, looks_as, looks_to, IsPlain, MayClear, TableStep, Moves, Forgets, Tabulates, Clears, TableRun, Stays, Goes, untabled}
@@ -15,7 +15,7 @@ use Rattle.bmx_token_model.proofs.Traffic.{Letter, Traffic, Counted}
 use Rattle.bmx_token_model.proofs.Traffic as traffic
 use Rattle.bmx_token_model.proofs.Each.{Each, each_there}
 use Rattle.bmx_token_model.proofs.Moves.{notes_to, Taking, Nothing, Letter as First, Acting, does_acting, takes_acting}
-use Rattle.bmx_token_model.proofs.Roles.{stance, stance_as, Under, under_is, not_owning, Looks, Stays as Keeps, Meets, Turns, Gains, Hands, acts_look}
+use Rattle.bmx_token_model.proofs.Roles.{stance, stance_as, Under, under_is, not_owning, Looks, Stays as Keeps, Meets, Transits, Gains, Hands, acts_look}
 use Rattle.bmx_token_model.proofs.Owners.{write_sends_one}
 use Rattle.bmx_token_model.proofs.First.{untouched}
 use Rattle.bmx_token_model.proofs.Letters.{letter_of, draft_of, traffic_of, map-append, traffic-issue, traffic-popped, traffic-holding, IsCounted, IsIn, Recorded, IsOrderly, taking_orderly, orderly_run}
@@ -69,7 +69,7 @@ under_looks (Some b) n e = by_role b.part.role e
     by_role Owner f = absurd cc
     by_role (Parent p) f = ap (λ (z : ℕ). z == n) (under_is p n f) ∙ same_true n
 
--- ## turns
+-- ## transitions
 
 abbrev drafts_of : Bool → List Send → List traffic.Draft
 drafts_of refers sends = map draft_of (map (draft refers) sends)
@@ -78,7 +78,7 @@ traffic-issue_all : (o : Object) (me : ℕ) (drafts : List machine.Draft) → tr
 traffic-issue_all o me [] = refl
 traffic-issue_all o me (d ∷ drafts) = traffic-issue_all (issue o me d) me drafts ∙ ap (λ z. traffic.issue_all z me (map draft_of drafts)) (traffic-issue o me d)
 
-traffic-moved : (o : Object) (me : ℕ) (refers : Bool) (t : Turn) → traffic_of (moved o me refers t) ≡ traffic.issue_all (traffic.looking (traffic_of o) me (looks_to t.after)) me (drafts_of refers t.sends)
+traffic-moved : (o : Object) (me : ℕ) (refers : Bool) (t : Transition) → traffic_of (moved o me refers t) ≡ traffic.issue_all (traffic.looking (traffic_of o) me (looks_to t.after)) me (drafts_of refers t.sends)
 traffic-moved o me refers t =
     traffic-issue_all (with_holding o me t.after) me (map (draft refers) t.sends) ∙ ap (λ z. traffic.issue_all z me (drafts_of refers t.sends)) (traffic-holding o me t.after)
 
@@ -108,9 +108,9 @@ given_safe o me from taken tells q ts (First l rest channel apart x y e) g t giv
     by_record (Some z) f h = giver_safe (traffic_of o) from me (letter_of l) (map letter_of rest) ts (ap (map letter_of) channel) g.counted t.within z f h
 
 acting_tabled : (o p : Object) (ts : ℕ → ℕ → List Table) → Acting o p → IsOrderly o → IsTabled (traffic_of o) ts → IsTabled (traffic_of p) ts
-acting_tabled o p ts a g t = subst (λ z. IsTabled (traffic_of z) ts) (sym a.is) (rw (traffic-moved q a.me a.refers a.turn)
-    (turned_tabled (traffic_of q) a.me (looks_to a.turn.after) (drafts_of a.refers a.turn.sends) ts (taking_orderly o a.me a.from a.taken a.tells q a.taking g).counted
-    (taken_tabled o a.me a.from a.taken a.tells q ts a.taking t) (by_looks (acts_look a.me a.from a.taken a.tells (o.holds a.me) a.turn a.acts))))
+acting_tabled o p ts a g t = subst (λ z. IsTabled (traffic_of z) ts) (sym a.is) (rw (traffic-moved q a.me a.refers a.transition)
+    (turned_tabled (traffic_of q) a.me (looks_to a.transition.after) (drafts_of a.refers a.transition.sends) ts (taking_orderly o a.me a.from a.taken a.tells q a.taking g).counted
+    (taken_tabled o a.me a.from a.taken a.tells q ts a.taking t) (by_looks (acts_look a.me a.from a.taken a.tells (o.holds a.me) a.transition a.acts))))
   where
     q : Object
     q = a.between
@@ -125,29 +125,29 @@ acting_tabled o p ts a g t = subst (λ z. IsTabled (traffic_of z) ts) (sym a.is)
     giver : gives a.taken a.tells ≡ true → Safe a.from
     giver given = taken_safe o a.me a.from a.taken a.tells q a.taking (ts a.me a.from) a.from a.me (given_safe o a.me a.from a.taken a.tells q ts a.taking g t given)
 
-    -- a turn that hands nothing over
-    those : ((k : ℕ) → tally handover (notes_to k a.turn.sends) ≡ 0) → tables.AskThose Safe (drafts_of a.refers a.turn.sends)
-    those none = by_asking (acts_ask Safe a.me a.from a.taken a.tells (o.holds a.me) a.turn a.acts up)
+    -- a transition that hands nothing over
+    those : ((k : ℕ) → tally handover (notes_to k a.transition.sends) ≡ 0) → tables.AskThose Safe (drafts_of a.refers a.transition.sends)
+    those none = by_asking (acts_ask Safe a.me a.from a.taken a.tells (o.holds a.me) a.transition a.acts up)
       where
-        by_asking : Asking Safe a.turn → tables.AskThose Safe (drafts_of a.refers a.turn.sends)
-        by_asking (AsksThose h) = asked_drafts Safe a.refers a.turn.sends h
+        by_asking : Asking Safe a.transition → tables.AskThose Safe (drafts_of a.refers a.transition.sends)
+        by_asking (AsksThose h) = asked_drafts Safe a.refers a.transition.sends h
         by_asking (AsksTaker to rest l) = absurd (omega (
           arith,
           none to,
           ap (λ z. tally handover (notes_to to z)) l ∙ write_sends_one to to rest ∙ ap (λ (z : Bool). cond {A = ℕ} z 1 0) (same_true to),
         ))
 
-    safely : (n : ℕ) → stance a.turn.after ≡ Under n → Safe n → (k : ℕ) → looks_to a.turn.after k ≡ true → Safe k
-    safely n e s k l = subst Safe (under_is n k (sym e ∙ looks_under a.turn.after k l)) s
+    safely : (n : ℕ) → stance a.transition.after ≡ Under n → Safe n → (k : ℕ) → looks_to a.transition.after k ≡ true → Safe k
+    safely n e s k l = subst Safe (under_is n k (sym e ∙ looks_under a.transition.after k l)) s
 
-    by_looks : Looks a.from a.taken a.tells (o.holds a.me) a.turn → Turned Safe (looks_to a.turn.after) (drafts_of a.refers a.turn.sends)
-    by_looks (Keeps e x l) = Safely (λ k z. up k (sym e ∙ looks_under a.turn.after k z)) (those l)
+    by_looks : Looks a.from a.taken a.tells (o.holds a.me) a.transition → Turned Safe (looks_to a.transition.after) (drafts_of a.refers a.transition.sends)
+    by_looks (Keeps e x l) = Safely (λ k z. up k (sym e ∙ looks_under a.transition.after k z)) (those l)
     by_looks (Meets x y g z l) = Safely (safely a.from y (giver g)) (those l)
-    by_looks (Turns j x y z l) = Safely (safely a.from y (giver (ap (λ n. gives n a.tells) z))) (those (λ k. ap (λ n. tally handover (notes_to k n)) l))
-    by_looks (Gains j x y z l) = Safely (λ k u. not_owning (looks_under a.turn.after k u) y) (those (λ k. ap (λ n. tally handover (notes_to k n)) l))
+    by_looks (Transits j x y z l) = Safely (safely a.from y (giver (ap (λ n. gives n a.tells) z))) (those (λ k. ap (λ n. tally handover (notes_to k n)) l))
+    by_looks (Gains j x y z l) = Safely (λ k u. not_owning (looks_under a.transition.after k u) y) (those (λ k. ap (λ n. tally handover (notes_to k n)) l))
     by_looks (Hands to rest x y z l) =
         Handing (draft_of (draft a.refers (send to (Grants mode.Write)))) (drafts_of a.refers (map (λ (u : Ask). send to (Asks u.mode u.asker)) rest)) (ap (drafts_of a.refers) l) refl refl
-        (λ k u. under_is to k (sym y ∙ looks_under a.turn.after k u))
+        (λ k u. under_is to k (sym y ∙ looks_under a.transition.after k u))
         (asked_drafts (λ n. to ≡ n) a.refers (map (λ (u : Ask). send to (Asks u.mode u.asker)) rest) (rest_those (λ n. to ≡ n) to rest refl))
 
 -- a node has another share, and looks to nobody
@@ -158,7 +158,7 @@ unlooking_tabled o me h ts none c t = rw (traffic-holding o me h)
 plain_tabled : (o p : Object) (ts : ℕ → ℕ → List Table) → IsOrderly o → IsTabled (traffic_of o) ts → (step : Step o p) → IsPlain step → IsTabled (traffic_of p) ts
 plain_tabled o p ts g t (machine.Makes me nowhere e) plain = subst (λ z. IsTabled (traffic_of z) ts) (sym e) (unlooking_tabled o me (Some made_share) ts (λ n. refl) g.counted t)
 plain_tabled o p ts g t (machine.Does me refers a h u has is e) plain = acting_tabled o p ts (does_acting o p me refers a h u has is e) g t
-plain_tabled o p ts g t (machine.Takes from me l rest u apart channel is e) plain = acting_tabled o p ts (takes_acting o p from me l rest u apart channel is e) g t
+plain_tabled o p ts g t (machine.Receives from me l rest u apart channel is e) plain = acting_tabled o p ts (takes_acting o p from me l rest u apart channel is e) g t
 plain_tabled o p ts g t (machine.Writes me to tells told e) plain = subst (λ z. IsTabled (traffic_of z) ts) (sym e) (rw (traffic-issue o me d) record {
   within = issue_within (traffic_of o) me (draft_of d) ts t.within;
   parents = λ m n f. issue_safe (traffic_of o) me (draft_of d) (ts m n) n m None (t.parents m n f);

@@ -1,6 +1,6 @@
 -- What holds of each letter in flight, as letters are issued and taken.
 use Rattle.std.proofs.Common.{◌≡◌, ℕ, ◌+◌, List, [], ◌∷◌, ◌++◌, map, Bool, refl, ap, sym, subst, subst₂}
-use Rattle.bmx_token.specs.Turns.{Send, Turn}
+use Rattle.bmx_token.specs.Transitions.{Send, Transition}
 use Rattle.bmx_token_model.specs.Machine.{Message, Draft, Object, draft, numbered, with_holding, issue, issue_all, moved, popped}
 use Rattle.bmx_token_model.proofs.Tallies.{put_at-here, put_at-apart, Both, Other, pair_cases}
 
@@ -67,5 +67,5 @@ pub issue_all_kept : (P : Object → Type 0) (me : ℕ) → ((o : Object) (d : D
 issue_all_kept P me kept o [] h = h
 issue_all_kept P me kept o (d ∷ drafts) h = issue_all_kept P me kept (issue o me d) drafts (kept o d h)
 
-pub moved_kept : (P : Object → Type 0) (me : ℕ) → ((o : Object) (d : Draft) → P o → P (issue o me d)) → (o : Object) (refers : Bool) (t : Turn) → P (with_holding o me t.after) → P (moved o me refers t)
+pub moved_kept : (P : Object → Type 0) (me : ℕ) → ((o : Object) (d : Draft) → P o → P (issue o me d)) → (o : Object) (refers : Bool) (t : Transition) → P (with_holding o me t.after) → P (moved o me refers t)
 moved_kept P me kept o refers t h = issue_all_kept P me kept (with_holding o me t.after) (map (draft refers) t.sends) h

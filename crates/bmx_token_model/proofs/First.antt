@@ -1,7 +1,7 @@
 -- What holds where a store opens.
 use Rattle.std.proofs.Common.{◌≢◌, ℕ, sym, subst}
 use Rattle.std.specs.Prelude.{Option, Some, None}
-use Rattle.bmx_token.specs.Turns.{Share, made_share, heard_share}
+use Rattle.bmx_token.specs.Transitions.{Share, made_share, heard_share}
 use Rattle.bmx_token_model.specs.Machine.{Object, IsFirst, Absent, Born, IsFirstElsewhere, Unknown, Heard, IsUntouched}
 use Rattle.bmx_token_model.proofs.Tallies.{Cases, Same, Apart, cases}
 

@@ -11,10 +11,10 @@ use Rattle.bmx_token.specs.declared.parts.Part.{Part}
 use Rattle.bmx_token.specs.declared.answers.Revoked.{Revoked}
 use Rattle.bmx_token.specs.declared.answers.Revoked.TheVariants as revoked_is
 use Rattle.bmx_token.specs.Tokens.{request_by, granted_by, inval_by, ack_by}
-use Rattle.bmx_token.specs.Turns.{Share, Note, Asks, Grants, Recalls, Returns, Turn, requested, grant_taken, recalled, returned, note_turn}
-use Rattle.bmx_token_model.specs.Machine.{Message, Object, Run, IsFirst, asks, hears, said_turn, letter_turn}
+use Rattle.bmx_token.specs.Transitions.{Share, Note, Asks, Grants, Recalls, Returns, Transition, requested, grant_taken, recalled, returned, note_transition}
+use Rattle.bmx_token_model.specs.Machine.{Message, Object, Run, IsFirst, asks, hears, said_transition, letter_transition}
 use Rattle.bmx_token_model.specs.Laws.{owned_at, At}
-use Rattle.bmx_token.specs.Turns.{same_mode}
+use Rattle.bmx_token.specs.Transitions.{same_mode}
 use Rattle.bmx_token_model.proofs.Tallies.{tally, tally-append, recall, return, notes, Cases, Same, Apart, cases, same_true}
 use Rattle.bmx_token_model.proofs.Each.{Each}
 use Rattle.bmx_token_model.proofs.Owners.{IsSeated, owned_as, seat_at, seated_run}
@@ -27,8 +27,8 @@ use Rattle.bmx_token_model.proofs.Requests.{IsRequested, ask, granting, stands, 
 use Rattle.bmx_token_model.proofs.Letters.{Knows}
 use Rattle.bmx_token_model.proofs.Asked.{NoAsk, asked_run}
 
--- there is a turn
-abbrev Made : Option Turn → Type 0
+-- there is a transition
+abbrev Made : Option Transition → Type 0
 Made x = is_some x ≡ true
 
 -- what stands at a spot is wanted there, and stands at no other
@@ -71,7 +71,7 @@ wants_it m b h = by_want b.part.want b.part.ready refl refl h
 
 -- ## requests and grants
 
-ask_fits : (p : Object) (from me : ℕ) (m : Mode) (a : ℕ) (b : Share) → IsRequested p → p.holds me ≡ Some b → 1 ≤ tally (ask m a) (notes (p.channel from me)) → Made (note_turn me from (Asks m a) (Some b))
+ask_fits : (p : Object) (from me : ℕ) (m : Mode) (a : ℕ) (b : Share) → IsRequested p → p.holds me ≡ Some b → 1 ≤ tally (ask m a) (notes (p.channel from me)) → Made (note_transition me from (Asks m a) (Some b))
 ask_fits p from me m a b r has some = by_role b.part.role refl
   where
     by_role : (role : Role) → b.part.role ≡ role → Made (requested m a b (request_by me b.part a m role).0 (request_by me b.part a m role).1)
@@ -84,7 +84,7 @@ ask_fits p from me m a b r has some = by_role b.part.role refl
             let w : IsWanted p m a (InFlight from me) = wanted p m a (InFlight from me) r refl some in
             absurd (not_owner p m a b r (ap p.holds (sym f) ∙ has) w.wants (w.alone (Queued a) refl) e)
 
-grant_fits : (p : Object) (from me : ℕ) (m : Mode) → IsRequested p → 1 ≤ tally (granting m) (notes (p.channel from me)) → Made (note_turn me from (Grants m) (p.holds me))
+grant_fits : (p : Object) (from me : ℕ) (m : Mode) → IsRequested p → 1 ≤ tally (granting m) (notes (p.channel from me)) → Made (note_transition me from (Grants m) (p.holds me))
 grant_fits p from me m r some = by_holds (p.holds me) refl w.wants
   where
     w : IsWanted p m me (Granted from)
@@ -95,14 +95,14 @@ grant_fits p from me m r some = by_holds (p.holds me) refl w.wants
     by_mode mode.Read b x role want ready e f g = rw (e, f, g) refl
     by_mode mode.Write b x role want ready e f g = rw (e, f, g) refl
 
-    by_holds : (h : Option Share) → p.holds me ≡ h → unwanting m h ≡ 0 → Made (note_turn me from (Grants m) h)
+    by_holds : (h : Option Share) → p.holds me ≡ h → unwanting m h ≡ 0 → Made (note_transition me from (Grants m) h)
     by_holds None e u = absurd (omega (arith, u))
     by_holds (Some b) e u = by_role b.part.role refl
       where
         is : (b.part.want ≡ Some m) × (b.part.ready ≡ false)
         is = wants_it m b u
 
-        by_role : (role : Role) → b.part.role ≡ role → Made (note_turn me from (Grants m) (Some b))
+        by_role : (role : Role) → b.part.role ≡ role → Made (note_transition me from (Grants m) (Some b))
         by_role Owner f = absurd (not_owner p m me b r e w.wants (w.alone (Queued me) refl) f)
         by_role (Parent x) f = by_mode m b x b.part.role b.part.want b.part.ready f is.0 is.1
 
@@ -119,7 +119,7 @@ one_owner p n m (inr s) a b =
     let here : At n ≡ At m = sym (seat_at p n s.0 s.1 a) ∙ seat_at p m s.0 s.1 b in
     cc
 
-recall_fits : (p : Object) (from me : ℕ) → from ≢ me → IsSeated p → IsShared p → 1 ≤ tally recall (notes (p.channel from me)) → Made (note_turn me from Recalls (p.holds me))
+recall_fits : (p : Object) (from me : ℕ) → from ≢ me → IsSeated p → IsShared p → 1 ≤ tally recall (notes (p.channel from me)) → Made (note_transition me from Recalls (p.holds me))
 recall_fits p from me apart seated shared some = by_holds (p.holds me) refl
   where
     waited : 1 ≤ times me (waits_of (p.holds from))
@@ -132,7 +132,7 @@ recall_fits p from me apart seated shared some = by_holds (p.holds me) refl
     once None s = omega arith
     once (Some b) s = times-once me b.part.waiting s.waiting_rises
 
-    by_holds : (h : Option Share) → p.holds me ≡ h → Made (note_turn me from Recalls h)
+    by_holds : (h : Option Share) → p.holds me ≡ h → Made (note_transition me from Recalls h)
     by_holds None e = refl
     by_holds (Some b) e = by_role b.part.role b.part.due refl refl
       where
@@ -170,13 +170,13 @@ any_of x (y ∷ nodes) h = by_case (cases x y) (any_of x nodes)
         later (Same f u) = absurd (e (sym f))
         later (Apart f u) = (let more : 1 ≤ cond {A = ℕ} false 1 0 + times x nodes = rw u at h in omega (arith, more))
 
-return_fits : (p : Object) (from me : ℕ) → IsShared p → 1 ≤ tally return (notes (p.channel from me)) → Made (note_turn me from Returns (p.holds me))
+return_fits : (p : Object) (from me : ℕ) → IsShared p → 1 ≤ tally return (notes (p.channel from me)) → Made (note_transition me from Returns (p.holds me))
 return_fits p from me shared some = by_holds (p.holds me) refl waited
   where
     waited : 1 ≤ times from (waits_of (p.holds me))
     waited = omega (arith, some, (shared.pairs me from).waited)
 
-    by_holds : (h : Option Share) → p.holds me ≡ h → 1 ≤ times from (waits_of h) → Made (note_turn me from Returns h)
+    by_holds : (h : Option Share) → p.holds me ≡ h → 1 ≤ times from (waits_of h) → Made (note_transition me from Returns h)
     by_holds None e w = absurd (omega (arith, w))
     by_holds (Some b) e w = by_role b.part.role refl
       where
@@ -191,14 +191,14 @@ return_fits p from me shared some = by_holds (p.holds me) refl waited
 
 -- ## no letter is stray
 
--- a turn by a letter is one by its note
-heard_made : (tells : Bool) (from : ℕ) (o : Option Turn) → Made o → Made (option_map (λ (t : Turn). record t { after = hears tells from t.after }) o)
+-- a transition by a letter is one by its note
+heard_made : (tells : Bool) (from : ℕ) (o : Option Transition) → Made o → Made (option_map (λ (t : Transition). record t { after = hears tells from t.after }) o)
 heard_made tells from None h = h
 heard_made tells from (Some t) h = refl
 
 -- whatever steps are taken from an opening, the first letter in flight to a node from another is taken there
-pub never_stray : (o p : Object) → IsFirst o → Run o p → (from me : ℕ) (l : Message) (rest : List Message) → from ≢ me → p.channel from me ≡ l ∷ rest → Made (letter_turn me from l (p.holds me))
-never_stray o p first run from me l rest apart channel = heard_made l.tells from (said_turn me from l.note (p.holds me)) (by_said l.note refl)
+pub never_stray : (o p : Object) → IsFirst o → Run o p → (from me : ℕ) (l : Message) (rest : List Message) → from ≢ me → p.channel from me ≡ l ∷ rest → Made (letter_transition me from l (p.holds me))
+never_stray o p first run from me l rest apart channel = heard_made l.tells from (said_transition me from l.note (p.holds me)) (by_said l.note refl)
   where
     requested_p : IsRequested p
     requested_p = requested_run o p first run
@@ -228,11 +228,11 @@ never_stray o p first run from me l rest apart channel = heard_made l.tells from
     grants_self mode.Read = refl
     grants_self mode.Write = refl
 
-    by_holds : (m : Mode) (a : ℕ) → l.note ≡ Some (Asks m a) → (h : Option Share) → p.holds me ≡ h → is_some h ≡ true → Made (note_turn me from (Asks m a) h)
+    by_holds : (m : Mode) (a : ℕ) → l.note ≡ Some (Asks m a) → (h : Option Share) → p.holds me ≡ h → is_some h ≡ true → Made (note_transition me from (Asks m a) h)
     by_holds m a e None f g = (let both : false ≡ true = g in absurd cc)
     by_holds m a e (Some b) f g = ask_fits p from me m a b requested_p f (omega (arith, self m a, some (ask m a) (Asks m a) e))
 
-    by_said : (note : Option Note) → l.note ≡ note → Made (said_turn me from note (p.holds me))
+    by_said : (note : Option Note) → l.note ≡ note → Made (said_transition me from note (p.holds me))
     by_said None e = refl
     by_said (Some (Asks m a)) e = by_holds m a e (p.holds me) refl (knows m a e)
     by_said (Some (Grants m)) e = grant_fits p from me m requested_p (omega (arith, grants_self m, some (granting m) (Grants m) e))

@@ -4,9 +4,9 @@ use Rattle.std.specs.Prelude.{◌==◌, ◌||◌, is_some, Option, Some, None}
 use Rattle.std.specs.Option.{option_to_list}
 use Rattle.bmx_types.specs.declared.numbers.Mode.{Mode}
 use Rattle.bmx_types.specs.declared.numbers.Mode.TheVariants as mode
-use Rattle.bmx_graph.specs.State.{put}
+use Rattle.bmx_types.specs.Updates.{put}
 use Rattle.bmx_token.specs.declared.parts.Role.TheVariants.{Owner}
-use Rattle.bmx_token.specs.Turns.{Share, Note, Asks, Grants, Recalls, Returns}
+use Rattle.bmx_token.specs.Transitions.{Share, Note, Asks, Grants, Recalls, Returns}
 use Rattle.bmx_token_model.specs.Machine.{Message, Numbers, Object, Run, IsFirst, IsSilent, IsIdle, IsUnneeded, gives, asks}
 use Rattle.bmx_token_model.specs.Laws.{owned_at, At}
 use Rattle.bmx_token_model.proofs.Tallies.{tally, tally-append, recall, return, handover, notes, notes-append, Cases, Same, Apart, cases, same_true, eqb_true}
@@ -21,7 +21,7 @@ use Rattle.bmx_token_model.proofs.Requests.{IsRequested, ask, stands, unwanting,
 use Rattle.bmx_token_model.proofs.Letters.{IsIn, Recorded, NoGift, Knows}
 use Rattle.bmx_token_model.proofs.Parents.{IsKnown, known_run, granted_wants, pointed_run}
 use Rattle.bmx_token_model.proofs.Asked.{some_brings, fits_there, brings_over, has_record, asked_run}
-use Rattle.bmx_token_model.proofs.Chains.{Ends, Has, Gave, along, chained_run}
+use Rattle.bmx_token_model.proofs.Chains.{ChainStop, Has, Gave, along, chained_run}
 
 -- ## a node that wants nothing
 
@@ -125,7 +125,7 @@ unneeded o p first run me h has idle none = record {
         by_seat (inl empty) = absurd (omega (arith, owned e, ap owned_at (empty.unknown me)))
         by_seat (inr s) = subst (IsAt p) (seat_at p me s.0 s.1 (owned e)) s.1
 
-    no_end : (e : h.part.role ≡ Owner) (n : ℕ) → Ends p n → n ≢ me → ⊥
+    no_end : (e : h.part.role ≡ Owner) (n : ℕ) → ChainStop p n → n ≢ me → ⊥
     no_end e n (Has f) d = by_test (n == me) refl ((at_me e).nodes n)
       where
         by_test : (t : Bool) → (n == me) ≡ t → owned_at (p.holds n) ≡ cond t 1 0 → ⊥

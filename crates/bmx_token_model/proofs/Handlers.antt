@@ -13,25 +13,25 @@ use Rattle.bmx_token.specs.declared.answers.Served.{Served}
 use Rattle.bmx_token.specs.declared.answers.Requested.{Requested}
 use Rattle.bmx_token.specs.declared.answers.Revoked.{Revoked}
 use Rattle.bmx_token.specs.Tokens.{take_wanted, want_read, want_write, acquire_by, release_by, is_write, revoke, serve_alone, serve_write, serve_head, serve_by, request_by, granted_by, inval_by, ack_by}
-use Rattle.bmx_token.specs.Turns.{Share, Note, Asks, Grants, Recalls, Returns, Send, Turn, Act, Acquires, Releases, Serves, acquired, released, served, turn_of, requested, grant_taken, recalled, returned, note_turn}
-use Rattle.bmx_token_model.specs.Machine.{Message, hears, said_turn, letter_turn}
+use Rattle.bmx_token.specs.Transitions.{Share, Note, Asks, Grants, Recalls, Returns, Send, Transition, Operation, Acquires, Releases, Serves, acquired, released, served, transition_of, requested, grant_taken, recalled, returned, note_transition}
+use Rattle.bmx_token_model.specs.Machine.{Message, hears, said_transition, letter_transition}
 use Rattle.bmx_token_model.proofs.Tallies.{eqb_true, eqb_false}
 use Rattle.bmx_token_model.proofs.Acts.{TakesWanted, Reads, Writes, Joins, Frees, Readies, Acts, Rests, Hears, AltersTo, Wants, Answers, GrantsRead, HandsOver, Revokes, Arrives, Forwards, GetsRead, GetsWrite, ReturnsNone, ReturnsNow, ReturnsLater, GetsBack}
 
--- a turn, where there is one, is within the outcomes
-abbrev MayAct : ℕ → ℕ → Option Note → Bool → Option Share → Option Turn → Type 0
-MayAct me from taken tells h o = (t : Turn) → o ≡ Some t → Acts me from taken tells h t
+-- a transition, where there is one, is within the outcomes
+abbrev MayAct : ℕ → ℕ → Option Note → Bool → Option Share → Option Transition → Type 0
+MayAct me from taken tells h o = (t : Transition) → o ≡ Some t → Acts me from taken tells h t
 
 pub none_is_not : {A : Type 0} {B : Type 0} (a : A) → None ≡ Some a → B
 none_is_not a h = absurd cc
 
-pub some_is : (a b : Turn) → Some a ≡ Some b → a ≡ b
+pub some_is : (a b : Transition) → Some a ≡ Some b → a ≡ b
 some_is a b h = cc
 
 none_acts : (me from : ℕ) (taken : Option Note) (tells : Bool) (h : Option Share) → MayAct me from taken tells h None
 none_acts me from taken tells h t e = none_is_not t e
 
-some_acts : (me from : ℕ) (taken : Option Note) (tells : Bool) (h : Option Share) (a : Turn) → Acts me from taken tells h a → MayAct me from taken tells h (Some a)
+some_acts : (me from : ℕ) (taken : Option Note) (tells : Bool) (h : Option Share) (a : Transition) → Acts me from taken tells h a → MayAct me from taken tells h (Some a)
 some_acts me from taken tells h a acts t e = subst (λ x. Acts me from taken tells h x) (some_is a t e) acts
 
 -- one answer of two, by a test
@@ -41,8 +41,8 @@ either F false x y h k = k refl
 
 -- ## what a node does by itself
 
--- a turn of a node by itself, where there is one, is within the outcomes
-abbrev May : ℕ → Share → Option Turn → Type 0
+-- a transition of a node by itself, where there is one, is within the outcomes
+abbrev May : ℕ → Share → Option Transition → Type 0
 May me b o = MayAct me me None false (Some b) o
 
 rests : (me : ℕ) (b : Share) → May me b (Some record { after = Some b; sends = [] })
@@ -119,26 +119,26 @@ serve_acts me b (Parent parent) queue r q = none_acts _ _ _ _ _
 serve_acts me b Owner [] r q = none_acts _ _ _ _ _
 serve_acts me b Owner (head ∷ rest) r q = head_acts me b head.asker head.mode rest r q
 
-pub turn_acts : (me : ℕ) (a : Act) (b : Share) → May me b (turn_of me a b)
-turn_acts me (Acquires m) b = acquire_acts me b m b.part.held b.part.want refl refl
-turn_acts me Releases b = release_acts me b b.part.held b.part.due refl refl
-turn_acts me Serves b = serve_acts me b b.part.role b.part.queue refl refl
+pub transition_acts : (me : ℕ) (a : Operation) (b : Share) → May me b (transition_of me a b)
+transition_acts me (Acquires m) b = acquire_acts me b m b.part.held b.part.want refl refl
+transition_acts me Releases b = release_acts me b b.part.held b.part.due refl refl
+transition_acts me Serves b = serve_acts me b b.part.role b.part.queue refl refl
 
 -- ## what a node makes of a letter
 
--- a turn, and then the node hears of the object or not
-abbrev heard : Bool → ℕ → Option Turn → Option Turn
-heard tells from o = option_map (λ (t : Turn). record t { after = hears tells from t.after }) o
+-- a transition, and then the node hears of the object or not
+abbrev heard : Bool → ℕ → Option Transition → Option Transition
+heard tells from o = option_map (λ (t : Transition). record t { after = hears tells from t.after }) o
 
--- a turn by a note, where there is one, is within the outcomes once the node has heard of the object or not
-abbrev Says : ℕ → ℕ → Note → Bool → Share → Option Turn → Type 0
+-- a transition by a note, where there is one, is within the outcomes once the node has heard of the object or not
+abbrev Says : ℕ → ℕ → Note → Bool → Share → Option Transition → Type 0
 Says me from n tells b o = MayAct me from (Some n) tells (Some b) (heard tells from o)
 
 hears_some : (tells : Bool) (from : ℕ) (k : Share) → hears tells from (Some k) ≡ Some k
 hears_some true from k = refl
 hears_some false from k = refl
 
--- who has something of it after the turn hears nothing new
+-- who has something of it after the transition hears nothing new
 says : (me from : ℕ) (n : Note) (tells : Bool) (b k : Share) (sends : List Send) → Acts me from (Some n) tells (Some b) record { after = Some k; sends = sends } →
     Says me from n tells b (Some record { after = Some k; sends = sends })
 says me from n tells b k sends acts =
@@ -178,7 +178,7 @@ ack_acts me from tells b Owner r =
     (λ e. says _ _ _ _ _ _ _ (GetsBack b refl r e refl refl))
     (λ e. none_acts _ _ _ _ _)
 
-note_acts : (me from : ℕ) (tells : Bool) (n : Note) (h : Option Share) → MayAct me from (Some n) tells h (heard tells from (note_turn me from n h))
+note_acts : (me from : ℕ) (tells : Bool) (n : Note) (h : Option Share) → MayAct me from (Some n) tells h (heard tells from (note_transition me from n h))
 note_acts me from tells (Asks m asker) None = none_acts _ _ _ _ _
 note_acts me from tells (Asks m asker) (Some b) = request_acts me from m asker tells b b.part.role refl
 note_acts me from tells (Grants m) None = none_acts _ _ _ _ _
@@ -195,9 +195,9 @@ silent_acts me from true None = some_acts _ _ _ _ _ _ (Hears refl refl refl refl
 silent_acts me from true (Some b) = some_acts _ _ _ _ _ _ (Rests refl refl)
 silent_acts me from false h = some_acts _ _ _ _ _ _ (Rests refl refl)
 
-said_acts : (me from : ℕ) (note : Option Note) (tells : Bool) (h : Option Share) → MayAct me from note tells h (heard tells from (said_turn me from note h))
+said_acts : (me from : ℕ) (note : Option Note) (tells : Bool) (h : Option Share) → MayAct me from note tells h (heard tells from (said_transition me from note h))
 said_acts me from None tells h = silent_acts me from tells h
 said_acts me from (Some n) tells h = note_acts me from tells n h
 
-pub letter_acts : (me from : ℕ) (l : Message) (h : Option Share) → MayAct me from l.note l.tells h (letter_turn me from l h)
+pub letter_acts : (me from : ℕ) (l : Message) (h : Option Share) → MayAct me from l.note l.tells h (letter_transition me from l h)
 letter_acts me from l h = said_acts me from l.note l.tells h

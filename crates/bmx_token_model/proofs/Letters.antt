@@ -3,9 +3,9 @@
 use Rattle.std.proofs.Common.{◌≡◌, ◌⊎◌, inl, inr, ℕ, ◌+◌, ◌≤◌, arith, List, [], ◌∷◌, ◌++◌, map, refl, ap, sym, subst, subst₂, ◌∙◌, Bool, true, false, cond}
 use Rattle.std.specs.Prelude.{◌==◌, ◌&&◌, is_some, Option, Some, None}
 use Rattle.std.specs.Option.{option_map_or}
-use Rattle.bmx_graph.specs.State.{put, put_at}
-use Rattle.bmx_token.specs.Turns.{Share, Note, Returns, Send, send, Turn, made_share, heard_share}
-use Rattle.bmx_token_model.specs.Machine.{Message, Draft, asks, is_ask, is_handover, Numbers, Object, Step, Makes, Does, Takes, Writes, Forgets, Clears, Run, IsFirst, IsUntouched, draft, numbered, gives, brings, sent_in, got_in, issue, issue_all, with_holding, moved, popped}
+use Rattle.bmx_types.specs.Updates.{put, put_at}
+use Rattle.bmx_token.specs.Transitions.{Share, Note, Returns, Send, send, Transition, made_share, heard_share}
+use Rattle.bmx_token_model.specs.Machine.{Message, Draft, asks, is_ask, is_handover, Numbers, Object, Step, Makes, Does, Receives, Writes, Forgets, Clears, Run, IsFirst, IsUntouched, draft, numbered, gives, brings, sent_in, got_in, issue, issue_all, with_holding, moved, popped}
 use Rattle.bmx_token_model.specs.Tables.{looks_to}
 use Rattle.bmx_token_model.proofs.Tallies.{Cases, Same, Apart, cases, same_true, put-all, put_at-all}
 use Rattle.bmx_token_model.proofs.First.{untouched}
@@ -174,12 +174,12 @@ holding_orderly o holds g = record { counted = record { channels = g.counted.cha
 
 acting_orderly : (o p : Object) → Acting o p → IsOrderly o → IsOrderly p
 acting_orderly o p a g = subst IsOrderly (sym a.is)
-    (moved_kept IsOrderly a.me (λ q d k. issue_orderly q a.me d k) a.between a.refers a.turn (holding_orderly a.between _ (taking_orderly o a.me a.from a.taken a.tells a.between a.taking g)))
+    (moved_kept IsOrderly a.me (λ q d k. issue_orderly q a.me d k) a.between a.refers a.transition (holding_orderly a.between _ (taking_orderly o a.me a.from a.taken a.tells a.between a.taking g)))
 
 orderly_step : (o p : Object) → IsOrderly o → Step o p → IsOrderly p
 orderly_step o p g (Makes me nowhere e) = subst IsOrderly (sym e) (holding_orderly o _ g)
 orderly_step o p g (Does me refers a h t has is e) = acting_orderly o p (does_acting o p me refers a h t has is e) g
-orderly_step o p g (Takes from me l rest t apart channel is e) = acting_orderly o p (takes_acting o p from me l rest t apart channel is e) g
+orderly_step o p g (Receives from me l rest t apart channel is e) = acting_orderly o p (takes_acting o p from me l rest t apart channel is e) g
 orderly_step o p g (Writes me to tells told e) = subst IsOrderly (sym e) (issue_orderly o me _ g)
 orderly_step o p g (Forgets me h has u e) = subst IsOrderly (sym e) (holding_orderly o _ g)
 orderly_step o p g (Clears me other u e) = subst IsOrderly (sym e) record {
@@ -228,38 +228,38 @@ pub record IsGiving (o : Object) : Type 0 where
   pub channels : (n m : ℕ) → Knows o n ⊎ Each NoGift (o.channel n m)
 
 -- a node knows the object after an act, or knows it neither before nor after and sends a return at most
-pub data Knowing (from : ℕ) (h : Option Share) (t : Turn) : Type 0 where
+pub data Knowing (from : ℕ) (h : Option Share) (t : Transition) : Type 0 where
   Known : is_some t.after ≡ true → Knowing from h t
   Unknown : h ≡ None → t.after ≡ None → (t.sends ≡ []) ⊎ (t.sends ≡ send from Returns ∷ []) → Knowing from h t
 
-pub acts_knowing : (me from : ℕ) (taken : Option Note) (tells : Bool) (h : Option Share) (t : Turn) → Acts me from taken tells h t → Knowing from h t
+pub acts_knowing : (me from : ℕ) (taken : Option Note) (tells : Bool) (h : Option Share) (t : Transition) → Acts me from taken tells h t → Knowing from h t
 acts_knowing me from taken tells h t (Rests x f) = by_holds h f
   where
     by_holds : (k : Option Share) → t ≡ record { after = k; sends = [] } → Knowing from k t
-    by_holds None e = Unknown refl (ap (λ (z : Turn). z.after) e) (inl (ap (λ (z : Turn). z.sends) e))
-    by_holds (Some b) e = Known (ap (λ (z : Turn). is_some z.after) e)
-acts_knowing me from taken tells h t (Hears e told x f) = Known (ap (λ (z : Turn). is_some z.after) f)
-acts_knowing me from taken tells h t (AltersTo b q e alters x f) = Known (ap (λ (z : Turn). is_some z.after) f)
-acts_knowing me from taken tells h t (Wants b n parent e role held want x f) = Known (ap (λ (z : Turn). is_some z.after) f)
-acts_knowing me from taken tells h t (Answers b owner held e holds due x f) = Known (ap (λ (z : Turn). is_some z.after) f)
-acts_knowing me from taken tells h t (GrantsRead b asker rest e role queue test x f) = Known (ap (λ (z : Turn). is_some z.after) f)
-acts_knowing me from taken tells h t (HandsOver b asker rest e role readers queue other test x f) = Known (ap (λ (z : Turn). is_some z.after) f)
-acts_knowing me from taken tells h t (Revokes b asker rest e role queue waiting x f) = Known (ap (λ (z : Turn). is_some z.after) f)
-acts_knowing me from taken tells h t (Arrives b n asker e role other x f) = Known (ap (λ (z : Turn). is_some z.after) f)
-acts_knowing me from taken tells h t (Forwards b n asker parent e role x f) = Known (ap (λ (z : Turn). is_some z.after) f)
-acts_knowing me from taken tells h t (GetsRead b parent e role want ready x f) = Known (ap (λ (z : Turn). is_some z.after) f)
-acts_knowing me from taken tells h t (GetsWrite b parent e role want ready x f) = Known (ap (λ (z : Turn). is_some z.after) f)
+    by_holds None e = Unknown refl (ap (λ (z : Transition). z.after) e) (inl (ap (λ (z : Transition). z.sends) e))
+    by_holds (Some b) e = Known (ap (λ (z : Transition). is_some z.after) e)
+acts_knowing me from taken tells h t (Hears e told x f) = Known (ap (λ (z : Transition). is_some z.after) f)
+acts_knowing me from taken tells h t (AltersTo b q e alters x f) = Known (ap (λ (z : Transition). is_some z.after) f)
+acts_knowing me from taken tells h t (Wants b n parent e role held want x f) = Known (ap (λ (z : Transition). is_some z.after) f)
+acts_knowing me from taken tells h t (Answers b owner held e holds due x f) = Known (ap (λ (z : Transition). is_some z.after) f)
+acts_knowing me from taken tells h t (GrantsRead b asker rest e role queue test x f) = Known (ap (λ (z : Transition). is_some z.after) f)
+acts_knowing me from taken tells h t (HandsOver b asker rest e role readers queue other test x f) = Known (ap (λ (z : Transition). is_some z.after) f)
+acts_knowing me from taken tells h t (Revokes b asker rest e role queue waiting x f) = Known (ap (λ (z : Transition). is_some z.after) f)
+acts_knowing me from taken tells h t (Arrives b n asker e role other x f) = Known (ap (λ (z : Transition). is_some z.after) f)
+acts_knowing me from taken tells h t (Forwards b n asker parent e role x f) = Known (ap (λ (z : Transition). is_some z.after) f)
+acts_knowing me from taken tells h t (GetsRead b parent e role want ready x f) = Known (ap (λ (z : Transition). is_some z.after) f)
+acts_knowing me from taken tells h t (GetsWrite b parent e role want ready x f) = Known (ap (λ (z : Transition). is_some z.after) f)
 acts_knowing me from taken tells h t (ReturnsNone k e c x f) = by_hearing c
   where
     by_hearing : (k ≡ None) ⊎ ((k ≡ Some (heard_share from)) × (tells ≡ true)) → Knowing from h t
-    by_hearing (inl z) = Unknown e (ap (λ (y : Turn). y.after) f ∙ z) (inr (ap (λ (y : Turn). y.sends) f))
-    by_hearing (inr z) = Known (ap (λ (y : Turn). is_some y.after) f ∙ ap (λ (y : Option Share). is_some y) z.0)
-acts_knowing me from taken tells h t (ReturnsNow b parent e role due test x f) = Known (ap (λ (z : Turn). is_some z.after) f)
-acts_knowing me from taken tells h t (ReturnsLater b parent e role due copy test x f) = Known (ap (λ (z : Turn). is_some z.after) f)
-acts_knowing me from taken tells h t (GetsBack b e role waited x f) = Known (ap (λ (z : Turn). is_some z.after) f)
+    by_hearing (inl z) = Unknown e (ap (λ (y : Transition). y.after) f ∙ z) (inr (ap (λ (y : Transition). y.sends) f))
+    by_hearing (inr z) = Known (ap (λ (y : Transition). is_some y.after) f ∙ ap (λ (y : Option Share). is_some y) z.0)
+acts_knowing me from taken tells h t (ReturnsNow b parent e role due test x f) = Known (ap (λ (z : Transition). is_some z.after) f)
+acts_knowing me from taken tells h t (ReturnsLater b parent e role due copy test x f) = Known (ap (λ (z : Transition). is_some z.after) f)
+acts_knowing me from taken tells h t (GetsBack b e role waited x f) = Known (ap (λ (z : Transition). is_some z.after) f)
 
 -- who knows it still does
-pub knowing_stays : (from : ℕ) (h : Option Share) (t : Turn) → Knowing from h t → is_some h ≡ true → is_some t.after ≡ true
+pub knowing_stays : (from : ℕ) (h : Option Share) (t : Transition) → Knowing from h t → is_some h ≡ true → is_some t.after ≡ true
 knowing_stays from h t (Known k) some = k
 knowing_stays from h t (Unknown e after sends) some = (let both : false ≡ true = sym (ap (λ (z : Option Share). is_some z) e) ∙ some in absurd cc)
 
@@ -296,7 +296,7 @@ issue_all_giving : (o : Object) (me : ℕ) (refers : Bool) (sends : List Send) �
 issue_all_giving o me refers [] k g = g
 issue_all_giving o me refers (s ∷ sends) k g = issue_all_giving (issue o me (draft refers s)) me refers sends k (issue_giving o me (draft refers s) (inl k) g)
 
-moved_giving : (o : Object) (me from : ℕ) (refers : Bool) (t : Turn) → Knowing from (o.holds me) t → IsGiving o → IsGiving (moved o me refers t)
+moved_giving : (o : Object) (me from : ℕ) (refers : Bool) (t : Transition) → Knowing from (o.holds me) t → IsGiving o → IsGiving (moved o me refers t)
 moved_giving o me from refers t k g = by_knowing k
   where
     q : Object
@@ -316,8 +316,8 @@ moved_giving o me from refers t k g = by_knowing k
 
 acting_giving : (o p : Object) → Acting o p → IsGiving o → IsGiving p
 acting_giving o p a g = subst IsGiving (sym a.is)
-    (moved_giving a.between a.me a.from a.refers a.turn (subst (λ (f : ℕ → Option Share). Knowing a.from (f a.me) a.turn) (sym (taking_holds o a.me a.from a.taken a.tells a.between a.taking))
-    (acts_knowing a.me a.from a.taken a.tells (o.holds a.me) a.turn a.acts)) (taking_giving o a.me a.from a.taken a.tells a.between a.taking g))
+    (moved_giving a.between a.me a.from a.refers a.transition (subst (λ (f : ℕ → Option Share). Knowing a.from (f a.me) a.transition) (sym (taking_holds o a.me a.from a.taken a.tells a.between a.taking))
+    (acts_knowing a.me a.from a.taken a.tells (o.holds a.me) a.transition a.acts)) (taking_giving o a.me a.from a.taken a.tells a.between a.taking g))
 
 known_or_not : (h : Option Share) → (h ≡ None) ⊎ (is_some h ≡ true)
 known_or_not None = inl refl
@@ -326,7 +326,7 @@ known_or_not (Some b) = inr refl
 giving_step : (o p : Object) → IsGiving o → Step o p → IsGiving p
 giving_step o p g (Makes me nowhere e) = subst IsGiving (sym e) (holding_giving o me (Some made_share) (λ k. refl) g)
 giving_step o p g (Does me refers a h t has is e) = acting_giving o p (does_acting o p me refers a h t has is e) g
-giving_step o p g (Takes from me l rest t apart channel is e) = acting_giving o p (takes_acting o p from me l rest t apart channel is e) g
+giving_step o p g (Receives from me l rest t apart channel is e) = acting_giving o p (takes_acting o p from me l rest t apart channel is e) g
 giving_step o p g (Writes me to tells told e) = subst IsGiving (sym e) (issue_giving o me _ (by_known (known_or_not (o.holds me))) g)
   where
     by_known : (o.holds me ≡ None) ⊎ (is_some (o.holds me) ≡ true) → Knows o me ⊎ (gives None tells ≡ false)

@@ -3,14 +3,14 @@ use Rattle.std.proofs.Common.{◌≡◌, ◌≢◌, ◌⊎◌, inl, inr, ℕ, �
 use Rattle.std.specs.Prelude.{◌==◌, if◌then◌else◌, Option, Some, None}
 use Rattle.std.specs.Option.{option_to_list}
 use Rattle.bmx_types.specs.declared.numbers.Mode.{Mode}
-use Rattle.bmx_graph.specs.State.{put}
+use Rattle.bmx_types.specs.Updates.{put}
 use Rattle.bmx_token.specs.declared.parts.Ask.{Ask}
-use Rattle.bmx_token.specs.Turns.{Share, Note, Asks, Recalls, Send, send, Turn, Act, turn_of, made_share, silently}
-use Rattle.bmx_token_model.specs.Machine.{Message, Draft, Object, Step, Run, Stays, Goes, IsNowhere, IsUnneeded, draft, numbered, with_holding, issue, issue_all, moved, popped, letter_turn}
+use Rattle.bmx_token.specs.Transitions.{Share, Note, Asks, Recalls, Send, send, Transition, Operation, transition_of, made_share, silently}
+use Rattle.bmx_token_model.specs.Machine.{Message, Draft, Object, Step, Run, Stays, Goes, IsNowhere, IsUnneeded, draft, numbered, with_holding, issue, issue_all, moved, popped, letter_transition}
 use Rattle.bmx_token_model.specs.Machine as machine
 use Rattle.bmx_token_model.proofs.Tallies.{tally, tally-append, notes, notes-append, Same, Apart, cases, same_true, apart_false, put_at-all}
 use Rattle.bmx_token_model.proofs.Acts.{Acts, Rests}
-use Rattle.bmx_token_model.proofs.Handlers.{turn_acts, letter_acts}
+use Rattle.bmx_token_model.proofs.Handlers.{transition_acts, letter_acts}
 
 -- ## what is sent
 
@@ -56,7 +56,7 @@ pub issue_all_holds : (o : Object) (me : ℕ) (drafts : List Draft) → (issue_a
 issue_all_holds o me [] = refl
 issue_all_holds o me (d ∷ drafts) = issue_all_holds (issue o me d) me drafts
 
-pub holds_moved : (o : Object) (me : ℕ) (refers : Bool) (t : Turn) (n : ℕ) → (moved o me refers t).holds n ≡ put o.holds me t.after n
+pub holds_moved : (o : Object) (me : ℕ) (refers : Bool) (t : Transition) (n : ℕ) → (moved o me refers t).holds n ≡ put o.holds me t.after n
 holds_moved o me refers t n = ap (λ (f : ℕ → Option Share). f n) (issue_all_holds (with_holding o me t.after) me (map (draft refers) t.sends))
 
 sent-more : (o : Object) (me : ℕ) (refers : Bool) (s : Send) (sends : List Send) (n k : ℕ) → drafted me (draft refers s) n k ++ sent me sends n k ≡ sent me (s ∷ sends) n k
@@ -82,7 +82,7 @@ sends_notes o me refers (s ∷ sends) n k =
     ∙ append_assoc (notes (o.channel n k)) (drafted me (draft refers s) n k) (sent me sends n k)
     ∙ ap (λ (x : List Note). notes (o.channel n k) ++ x) (sent-more o me refers s sends n k)
 
-pub moved_notes : (o : Object) (me : ℕ) (refers : Bool) (t : Turn) (n k : ℕ) → notes ((moved o me refers t).channel n k) ≡ notes (o.channel n k) ++ sent me t.sends n k
+pub moved_notes : (o : Object) (me : ℕ) (refers : Bool) (t : Transition) (n k : ℕ) → notes ((moved o me refers t).channel n k) ≡ notes (o.channel n k) ++ sent me t.sends n k
 moved_notes o me refers t n k = sends_notes (with_holding o me t.after) me refers t.sends n k
 
 -- a letter about another object says nothing
@@ -123,30 +123,30 @@ popped_notes o from me l rest channel n k = put_at-all (λ x y w. notes (o.chann
 
 -- ## what a step does to shares and channels
 
--- node me took a note of the channel from a node, if any, and made a turn
-pub record Moves (o p : Object) (me from : ℕ) (taken : Option Note) (t : Turn) : Type 0 where
+-- node me took a note of the channel from a node, if any, and made a transition
+pub record Moves (o p : Object) (me from : ℕ) (taken : Option Note) (t : Transition) : Type 0 where
   pub left : ℕ → ℕ → List Note
   pub before : (n k : ℕ) → notes (o.channel n k) ≡ came from me taken n k ++ left n k
   pub after : (n k : ℕ) → notes (p.channel n k) ≡ left n k ++ sent me t.sends n k
   pub holds : (n : ℕ) → p.holds n ≡ put o.holds me t.after n
 
--- and the turn is within the outcomes
+-- and the transition is within the outcomes
 pub record Acted (o p : Object) : Type 0 where
   pub me : ℕ
   pub from : ℕ
   pub taken : Option Note
   pub tells : Bool
-  pub turn : Turn
-  pub moves : Moves o p me from taken turn
-  pub acts : Acts me from taken tells (o.holds me) turn
+  pub transition : Transition
+  pub moves : Moves o p me from taken transition
+  pub acts : Acts me from taken tells (o.holds me) transition
 
 -- a node makes the object, acts, or forgets it
 pub data Changes (o p : Object) : Type 0 where
   Makes : (me : ℕ) → IsNowhere o → Moves o p me me None (silently made_share) → Changes o p
-  Turns : Acted o p → Changes o p
+  Transits : Acted o p → Changes o p
   Forgets : (me : ℕ) (h : Share) → o.holds me ≡ Some h → IsUnneeded o me h → p ≡ with_holding o me None → Changes o p
 
-pub none_moves : (o : Object) (me : ℕ) (refers : Bool) (t : Turn) → Moves o (moved o me refers t) me me None t
+pub none_moves : (o : Object) (me : ℕ) (refers : Bool) (t : Transition) → Moves o (moved o me refers t) me me None t
 none_moves o me refers t = record {
   left = λ n k. notes (o.channel n k);
   before = λ n k. ap (λ (x : List Note). x ++ notes (o.channel n k)) (sym (came-none me me n k));
@@ -167,7 +167,7 @@ still_acted o p holds channel = record {
   from = 0;
   taken = None;
   tells = false;
-  turn = record { after = o.holds 0; sends = [] };
+  transition = record { after = o.holds 0; sends = [] };
   moves = record {
     left = λ n k. notes (o.channel n k);
     before = λ n k. ap (λ (x : List Note). x ++ notes (o.channel n k)) (sym (came-none 0 0 n k));
@@ -183,41 +183,41 @@ pub data Taking (o : Object) (me from : ℕ) (taken : Option Note) (tells : Bool
   Letter : (l : Message) (rest : List Message) → o.channel from me ≡ l ∷ rest → from ≢ me → l.note ≡ taken → l.tells ≡ tells → q ≡ popped o from me l rest →
       Taking o me from taken tells q
 
--- and makes a turn within the outcomes
+-- and makes a transition within the outcomes
 pub record Acting (o p : Object) : Type 0 where
   pub me : ℕ
   pub from : ℕ
   pub taken : Option Note
   pub tells : Bool
-  pub turn : Turn
+  pub transition : Transition
   pub refers : Bool
   pub between : Object
   pub taking : Taking o me from taken tells between
-  pub acts : Acts me from taken tells (o.holds me) turn
-  pub is : p ≡ moved between me refers turn
+  pub acts : Acts me from taken tells (o.holds me) transition
+  pub is : p ≡ moved between me refers transition
 
-pub does_acting : (o p : Object) (me : ℕ) (refers : Bool) (a : Act) (h : Share) (t : Turn) → o.holds me ≡ Some h → turn_of me a h ≡ Some t → p ≡ moved o me refers t → Acting o p
+pub does_acting : (o p : Object) (me : ℕ) (refers : Bool) (a : Operation) (h : Share) (t : Transition) → o.holds me ≡ Some h → transition_of me a h ≡ Some t → p ≡ moved o me refers t → Acting o p
 does_acting o p me refers a h t has is e = record {
   me = me;
   from = me;
   taken = None;
   tells = false;
-  turn = t;
+  transition = t;
   refers = refers;
   between = o;
   taking = Nothing refl refl refl;
-  acts = subst (λ x. Acts me me None false x t) (sym has) (turn_acts me a h t is);
+  acts = subst (λ x. Acts me me None false x t) (sym has) (transition_acts me a h t is);
   is = e;
 }
 
-pub takes_acting : (o p : Object) (from me : ℕ) (l : Message) (rest : List Message) (t : Turn) → from ≢ me → o.channel from me ≡ l ∷ rest →
-    letter_turn me from l (o.holds me) ≡ Some t → p ≡ moved (popped o from me l rest) me false t → Acting o p
+pub takes_acting : (o p : Object) (from me : ℕ) (l : Message) (rest : List Message) (t : Transition) → from ≢ me → o.channel from me ≡ l ∷ rest →
+    letter_transition me from l (o.holds me) ≡ Some t → p ≡ moved (popped o from me l rest) me false t → Acting o p
 takes_acting o p from me l rest t apart channel is e = record {
   me = me;
   from = from;
   taken = l.note;
   tells = l.tells;
-  turn = t;
+  transition = t;
   refers = false;
   between = popped o from me l rest;
   taking = Letter l rest channel apart refl refl refl;
@@ -230,7 +230,7 @@ pub taking_holds : (o : Object) (me from : ℕ) (taken : Option Note) (tells : B
 taking_holds o me from taken tells q (Nothing x y e) = ap (λ (z : Object). z.holds) e
 taking_holds o me from taken tells q (Letter l rest channel apart x y e) = ap (λ (z : Object). z.holds) e
 
-pub acting_moves : (o p : Object) (me from : ℕ) (taken : Option Note) (tells : Bool) (t : Turn) (refers : Bool) (q : Object) → Taking o me from taken tells q → p ≡ moved q me refers t →
+pub acting_moves : (o p : Object) (me from : ℕ) (taken : Option Note) (tells : Bool) (t : Transition) (refers : Bool) (q : Object) → Taking o me from taken tells q → p ≡ moved q me refers t →
     Moves o p me from taken t
 acting_moves o p me from taken tells t refers q (Nothing x y f) e = rw (e, f, x) record {
   left = λ n k. notes (o.channel n k);
@@ -251,8 +251,8 @@ acting_acted o p a = record {
   from = a.from;
   taken = a.taken;
   tells = a.tells;
-  turn = a.turn;
-  moves = acting_moves o p a.me a.from a.taken a.tells a.turn a.refers a.between a.taking a.is;
+  transition = a.transition;
+  moves = acting_moves o p a.me a.from a.taken a.tells a.transition a.refers a.between a.taking a.is;
   acts = a.acts;
 }
 
@@ -261,12 +261,12 @@ makes_moves o p me e = subst (λ x. Moves o x me me None (silently made_share)) 
 
 pub step_changes : (o p : Object) → Step o p → Changes o p
 step_changes o p (machine.Makes me nowhere e) = Makes me nowhere (makes_moves o p me e)
-step_changes o p (machine.Does me refers a h t has is e) = Turns (acting_acted o p (does_acting o p me refers a h t has is e))
-step_changes o p (machine.Takes from me l rest t apart channel is e) = Turns (acting_acted o p (takes_acting o p from me l rest t apart channel is e))
+step_changes o p (machine.Does me refers a h t has is e) = Transits (acting_acted o p (does_acting o p me refers a h t has is e))
+step_changes o p (machine.Receives from me l rest t apart channel is e) = Transits (acting_acted o p (takes_acting o p from me l rest t apart channel is e))
 step_changes o p (machine.Writes me to tells told e) =
-    Turns (still_acted o p (λ n. ap (λ (q : Object). q.holds n) e) (λ n k. ap (λ (q : Object). notes (q.channel n k)) e ∙ silent_notes o me to tells n k))
+    Transits (still_acted o p (λ n. ap (λ (q : Object). q.holds n) e) (λ n k. ap (λ (q : Object). notes (q.channel n k)) e ∙ silent_notes o me to tells n k))
 step_changes o p (machine.Forgets me h has u e) = Forgets me h has u e
-step_changes o p (machine.Clears me other u e) = Turns (still_acted o p (λ n. ap (λ (q : Object). q.holds n) e) (λ n k. ap (λ (q : Object). notes (q.channel n k)) e))
+step_changes o p (machine.Clears me other u e) = Transits (still_acted o p (λ n. ap (λ (q : Object). q.holds n) e) (λ n k. ap (λ (q : Object). notes (q.channel n k)) e))
 
 -- ## over runs
 
@@ -319,11 +319,11 @@ sent-nothing f me sends n k h = tally-sent f me sends n k ∙ by_test (me == n)
     by_test true = h
     by_test false = refl
 
-pub tally-before : (f : Note → ℕ) (o p : Object) (me from : ℕ) (taken : Option Note) (t : Turn) (h : Moves o p me from taken t) (n k : ℕ) →
+pub tally-before : (f : Note → ℕ) (o p : Object) (me from : ℕ) (taken : Option Note) (t : Transition) (h : Moves o p me from taken t) (n k : ℕ) →
     tally f (notes (o.channel n k)) ≡ tally f (came from me taken n k) + tally f (h.left n k)
 tally-before f o p me from taken t h n k = ap (λ (x : List Note). tally f x) (h.before n k) ∙ tally-append f (came from me taken n k) (h.left n k)
 
-pub tally-after : (f : Note → ℕ) (o p : Object) (me from : ℕ) (taken : Option Note) (t : Turn) (h : Moves o p me from taken t) (n k : ℕ) →
+pub tally-after : (f : Note → ℕ) (o p : Object) (me from : ℕ) (taken : Option Note) (t : Transition) (h : Moves o p me from taken t) (n k : ℕ) →
     tally f (notes (p.channel n k)) ≡ tally f (h.left n k) + tally f (sent me t.sends n k)
 tally-after f o p me from taken t h n k = ap (λ (x : List Note). tally f x) (h.after n k) ∙ tally-append f (h.left n k) (sent me t.sends n k)
 

@@ -3,23 +3,23 @@ use Rattle.std.proofs.Common.{◌≡◌, ◌≢◌, ◌⊎◌, inl, inr, ℕ, �
 use Rattle.std.specs.Prelude.{◌==◌, ◌&&◌, if◌then◌else◌, Option, Some, None}
 use Rattle.std.specs.Option.{option_to_list}
 use Rattle.bmx_types.specs.declared.numbers.Mode.TheVariants.{Write}
-use Rattle.bmx_graph.specs.State.{put, put_at}
+use Rattle.bmx_types.specs.Updates.{put, put_at}
 use Rattle.bmx_token.specs.declared.parts.Ask.{Ask}
 use Rattle.bmx_token.specs.declared.parts.Role.{Role}
 use Rattle.bmx_token.specs.declared.parts.Role.TheVariants.{Owner, Parent}
-use Rattle.bmx_token.specs.Turns.{Share, Note, Asks, Grants, send, Turn, silently, made_share}
-use Rattle.bmx_token_model.specs.Machine.{Message, Object, Step, Run, IsFirst, Absent, Born, IsFirstElsewhere, Unknown, Heard, IsSilent, IsNowhere, IsUnneeded, with_holding, issue, moved, popped, letter_turn}
+use Rattle.bmx_token.specs.Transitions.{Share, Note, Asks, Grants, send, Transition, silently, made_share}
+use Rattle.bmx_token_model.specs.Machine.{Message, Object, Step, Run, IsFirst, Absent, Born, IsFirstElsewhere, Unknown, Heard, IsSilent, IsNowhere, IsUnneeded, with_holding, issue, moved, popped, letter_transition}
 use Rattle.bmx_token_model.specs.Machine as machine
 use Rattle.bmx_token_model.specs.Laws.{is_owner, owned_at, Seat, At, Moving, is_at, is_moving, IsOwned, HasOneSeat, OwnershipIsOne}
 use Rattle.bmx_token_model.proofs.Tallies.{tally, handover, notes, handovers_in-tally, Cases, Same, Apart, cases, eqb_true, swapped}
-use Rattle.bmx_token_model.proofs.Roles.{Stance, Absent, Owning, Under, stance, stance_as, Looks, Stays, Meets, Turns as Looking, Gains as Gaining, Hands as Handing, acts_look}
+use Rattle.bmx_token_model.proofs.Roles.{Stance, Absent, Owning, Under, stance, stance_as, Looks, Stays, Meets, Transits as Looking, Gains as Gaining, Hands as Handing, acts_look}
 use Rattle.bmx_token_model.proofs.Handlers.{some_is}
-use Rattle.bmx_token_model.proofs.Moves.{notes_to, sent, came, Moves, Acted, Changes, Makes, Turns, Forgets, step_changes, makes_moves, kept_run, tally-came, came-here, tally-sent, came-nothing, sent-nothing, tally-before, tally-after, tally-send, asks-send}
+use Rattle.bmx_token_model.proofs.Moves.{notes_to, sent, came, Moves, Acted, Changes, Makes, Transits, Forgets, step_changes, makes_moves, kept_run, tally-came, came-here, tally-sent, came-nothing, sent-nothing, tally-before, tally-after, tally-send, asks-send}
 use Rattle.bmx_token_model.proofs.Each.{Each, EachWay, each_there, each_of, issue_each, popped_each}
 
 -- ## what an act does with ownership
 
-pub data Owns (taken : Option Note) (h : Option Share) (t : Turn) : Type 0 where
+pub data Owns (taken : Option Note) (h : Option Share) (t : Transition) : Type 0 where
   Keeps : owned_at t.after ≡ owned_at h → tally handover (option_to_list taken) ≡ 0 → ((k : ℕ) → tally handover (notes_to k t.sends) ≡ 0) → Owns taken h t
   Hands : (to : ℕ) → owned_at h ≡ 1 → owned_at t.after ≡ 0 → tally handover (option_to_list taken) ≡ 0 →
       ((k : ℕ) → tally handover (notes_to k t.sends) ≡ (if to == k then 1 else 0)) → Owns taken h t
@@ -61,7 +61,7 @@ owned_owning (Some b) e = by_role b.part.role e
     by_role Owner f = refl
     by_role (Parent p) f = absurd (omega (arith, f))
 
-owns : (from : ℕ) (taken : Option Note) (tells : Bool) (h : Option Share) (t : Turn) → Looks from taken tells h t → Owns taken h t
+owns : (from : ℕ) (taken : Option Note) (tells : Bool) (h : Option Share) (t : Transition) → Looks from taken tells h t → Owns taken h t
 owns from taken tells h t (Stays e x l) = Keeps (owned_by t.after (stance h) e ∙ sym (owned_stance h)) x l
 owns from taken tells h t (Meets e f g x l) = Keeps (owned_by t.after (Under from) f ∙ sym (owned_by h Absent e)) x l
 owns from taken tells h t (Looking p e f x s) = Keeps (owned_by t.after (Under from) f ∙ sym (owned_by h (Under p) e)) (ap (λ n. tally handover (option_to_list n)) x) (λ k. ap (λ n. tally handover (notes_to k n)) s)
@@ -99,7 +99,7 @@ holds_after o p me after n e = ap owned_at e ∙ by_test (me == n)
     by_test true = refl
     by_test false = refl
 
-keeps_seat : (o p : Object) (me from : ℕ) (taken : Option Note) (t : Turn) (s : Seat) → Moves o p me from taken t → IsAt o s →
+keeps_seat : (o p : Object) (me from : ℕ) (taken : Option Note) (t : Transition) (s : Seat) → Moves o p me from taken t → IsAt o s →
     owned_at t.after ≡ owned_at (o.holds me) → tally handover (option_to_list taken) ≡ 0 → ((k : ℕ) → tally handover (notes_to k t.sends) ≡ 0) → IsAt p s
 keeps_seat o p me from taken t s moves at same x none = record {
   nodes = λ n. holds_after o p me t.after n (moves.holds n) ∙ by_node n (cases n me) ∙ at.nodes n;
@@ -151,7 +151,7 @@ no_owner o n k j (inr s) a e =
     let same : Moving n k ≡ At j = sym (seat_moving o n k s.0 s.1 (λ z. absurd (omega (arith, a, z)))) ∙ seat_at o j s.0 s.1 (owning_owned (o.holds j) e) in
     absurd cc
 
-hands_seat : (o p : Object) (me from : ℕ) (taken : Option Note) (t : Turn) (to : ℕ) → Moves o p me from taken t → IsAt o (At me) →
+hands_seat : (o p : Object) (me from : ℕ) (taken : Option Note) (t : Transition) (to : ℕ) → Moves o p me from taken t → IsAt o (At me) →
     owned_at t.after ≡ 0 → tally handover (option_to_list taken) ≡ 0 → ((k : ℕ) → tally handover (notes_to k t.sends) ≡ (if to == k then 1 else 0)) → IsAt p (Moving me to)
 hands_seat o p me from taken t to moves at gone x one = record {
   nodes = λ n. holds_after o p me t.after n (moves.holds n) ∙ by_node (me == n) (at.nodes n ∙ ap (λ (z : Bool). cond {A = ℕ} z 1 0) (swapped n me));
@@ -177,7 +177,7 @@ hands_seat o p me from taken t to moves at gone x one = record {
     plus : {x y z : ℕ} → x ≡ 0 → y ≡ z → x + y ≡ z
     plus p q = omega arith
 
-gains_seat : (o p : Object) (me from : ℕ) (taken : Option Note) (t : Turn) → Moves o p me from taken t → IsAt o (Moving from me) →
+gains_seat : (o p : Object) (me from : ℕ) (taken : Option Note) (t : Transition) → Moves o p me from taken t → IsAt o (Moving from me) →
     owned_at t.after ≡ 1 → tally handover (option_to_list taken) ≡ 1 → ((k : ℕ) → tally handover (notes_to k t.sends) ≡ 0) → IsAt p (At me)
 gains_seat o p me from taken t moves at here x none = record {
   nodes = λ n. holds_after o p me t.after n (moves.holds n) ∙ by_node (me == n) (at.nodes n) ∙ ap (λ (z : Bool). cond {A = ℕ} z 1 0) (swapped me n);
@@ -204,17 +204,17 @@ gains_seat o p me from taken t moves at here x none = record {
 abbrev SomeSeat : Object → Type 0
 SomeSeat o = (s : Seat) × IsAt o s
 
-owned_after : (o p : Object) (a : Acted o p) (s : Seat) → IsAt o s → Owns a.taken (o.holds a.me) a.turn → SomeSeat p
-owned_after o p a s at (Keeps same t none) = (s, keeps_seat o p a.me a.from a.taken a.turn s a.moves at same t none)
+owned_after : (o p : Object) (a : Acted o p) (s : Seat) → IsAt o s → Owns a.taken (o.holds a.me) a.transition → SomeSeat p
+owned_after o p a s at (Keeps same t none) = (s, keeps_seat o p a.me a.from a.taken a.transition s a.moves at same t none)
 owned_after o p a s at (Hands to mine gone t one) =
     let here : IsAt o (At a.me) = subst (λ x. IsAt o x) (seat_at o a.me s at mine) at in
-    (Moving a.me to, hands_seat o p a.me a.from a.taken a.turn to a.moves here gone t one)
+    (Moving a.me to, hands_seat o p a.me a.from a.taken a.transition to a.moves here gone t one)
 owned_after o p a s at (Gains mine t none) =
     let came_to : tally handover (came a.from a.me a.taken a.from a.me) ≡ 1 = ap (tally handover) (came-here a.from a.me a.taken) ∙ t in
     let some : tally handover (notes (o.channel a.from a.me)) ≢ 0 =
-    λ z. absurd (omega (arith, tally-before handover o p a.me a.from a.taken a.turn a.moves a.from a.me, came_to, z)) in
+    λ z. absurd (omega (arith, tally-before handover o p a.me a.from a.taken a.transition a.moves a.from a.me, came_to, z)) in
     let here : IsAt o (Moving a.from a.me) = subst (λ x. IsAt o x) (seat_moving o a.from a.me s at some) at in
-    (At a.me, gains_seat o p a.me a.from a.taken a.turn a.moves here mine t none)
+    (At a.me, gains_seat o p a.me a.from a.taken a.transition a.moves here mine t none)
 
 -- ## what is kept
 
@@ -253,7 +253,7 @@ pub no_share : {A : Type 0} (h : Option Share) (b : Share) → h ≡ None → h 
 no_share h b e f = absurd cc
 
 -- a silent letter is taken, and its taker still has nothing
-silent_taken : (o : Object) (from me : ℕ) (l : Message) (rest : List Message) (t : Turn) → IsNowhere o → o.channel from me ≡ l ∷ rest → letter_turn me from l (o.holds me) ≡ Some t →
+silent_taken : (o : Object) (from me : ℕ) (l : Message) (rest : List Message) (t : Transition) → IsNowhere o → o.channel from me ≡ l ∷ rest → letter_transition me from l (o.holds me) ≡ Some t →
     IsNowhere (moved (popped o from me l rest) me false t)
 silent_taken o from me l rest t none channel is = subst (λ x. IsNowhere (moved (popped o from me l rest) me false x)) same record {
   unknown = λ n. by_node n (me == n);
@@ -266,15 +266,15 @@ silent_taken o from me l rest t none channel is = subst (λ x. IsNowhere (moved 
     first : Each IsSilent (l ∷ rest)
     first = subst (Each IsSilent) channel (each from me)
 
-    turn : Turn
-    turn = record { after = None; sends = [] }
+    transition : Transition
+    transition = record { after = None; sends = [] }
 
-    same : turn ≡ t
-    same = some_is turn t (sym (turn_is l.note l.tells (o.holds me) first.0.note first.0.tells (none.unknown me)) ∙ is)
+    same : transition ≡ t
+    same = some_is transition t (sym (transition_is l.note l.tells (o.holds me) first.0.note first.0.tells (none.unknown me)) ∙ is)
       where
-        turn_is : (note : Option Note) (tells : Bool) (h : Option Share) → note ≡ None → tells ≡ false → h ≡ None →
-            letter_turn me from (record { seq = l.seq; note = note; tells = tells }) h ≡ Some turn
-        turn_is said told h e f g = rw (e, f, g) refl
+        transition_is : (note : Option Note) (tells : Bool) (h : Option Share) → note ≡ None → tells ≡ false → h ≡ None →
+            letter_transition me from (record { seq = l.seq; note = note; tells = tells }) h ≡ Some transition
+        transition_is said told h e f g = rw (e, f, g) refl
 
     by_node : (n : ℕ) (u : Bool) → cond u None (o.holds n) ≡ None
     by_node n true = refl
@@ -289,7 +289,7 @@ silent_issued o me to tells none e = record {
 
 seated_nowhere : (o p : Object) → IsNowhere o → Step o p → IsSeated p
 seated_nowhere o p none (machine.Does me refers a h t has is e) = no_share (o.holds me) h (none.unknown me) has
-seated_nowhere o p none (machine.Takes from me l rest t apart channel is e) = inl (subst IsNowhere (sym e) (silent_taken o from me l rest t none channel is))
+seated_nowhere o p none (machine.Receives from me l rest t apart channel is e) = inl (subst IsNowhere (sym e) (silent_taken o from me l rest t none channel is))
 seated_nowhere o p none (machine.Writes me to tells told e) = inl (subst IsNowhere (sym e) (silent_issued o me to tells none (told (none.unknown me))))
 seated_nowhere o p none (machine.Forgets me h has u e) = no_share (o.holds me) h (none.unknown me) has
 seated_nowhere o p none (machine.Clears me other u e) = inl (subst IsNowhere (sym e) record { unknown = none.unknown; untold = none.untold })
@@ -297,7 +297,7 @@ seated_nowhere o p none (machine.Makes me nowhere e) = inr (At me, made o p me n
 
 seated_changes : (o p : Object) (s : Seat) → IsAt o s → Changes o p → IsSeated p
 seated_changes o p s at (Makes me none moves) = inr (At me, made o p me none moves)
-seated_changes o p s at (Turns a) = inr (owned_after o p a s at (owns a.from a.taken a.tells (o.holds a.me) a.turn (acts_look a.me a.from a.taken a.tells (o.holds a.me) a.turn a.acts)))
+seated_changes o p s at (Transits a) = inr (owned_after o p a s at (owns a.from a.taken a.tells (o.holds a.me) a.transition (acts_look a.me a.from a.taken a.tells (o.holds a.me) a.transition a.acts)))
 seated_changes o p s at (Forgets me h has u e) = subst IsSeated (sym e) (seated_without o me h has u s at)
 
 pub seated_step : (o p : Object) → IsSeated o → Step o p → IsSeated p

@@ -4,15 +4,15 @@ use Rattle.std.proofs.Common.{◌≡◌, ◌≢◌, ◌⊎◌, inl, inr, ℕ, �
 use Rattle.std.specs.Prelude.{is_some, Option, Some, None}
 use Rattle.std.specs.Option.{option_to_list}
 use Rattle.bmx_types.specs.declared.numbers.Mode.TheVariants as mode
-use Rattle.bmx_graph.specs.State.{put_at}
+use Rattle.bmx_types.specs.Updates.{put_at}
 use Rattle.bmx_token.specs.declared.parts.Ask.{Ask}
 use Rattle.bmx_token.specs.declared.parts.Role.TheVariants.{Parent}
-use Rattle.bmx_token.specs.Turns.{Share, Note, Asks, Grants, Recalls, Returns, send, Turn, made_share}
-use Rattle.bmx_token_model.specs.Machine.{Message, Draft, Numbers, Object, Step, Makes, Does, Takes, Writes, Forgets, Clears, Run, IsFirst, Absent as NotYet, Born, IsFirstElsewhere, Unknown, Heard, gives, brings, with_holding, issue, moved, popped}
+use Rattle.bmx_token.specs.Transitions.{Share, Note, Asks, Grants, Recalls, Returns, send, Transition, made_share}
+use Rattle.bmx_token_model.specs.Machine.{Message, Draft, Numbers, Object, Step, Makes, Does, Receives, Writes, Forgets, Clears, Run, IsFirst, Absent as NotYet, Born, IsFirstElsewhere, Unknown, Heard, gives, brings, with_holding, issue, moved, popped}
 use Rattle.bmx_token_model.proofs.Tallies.{put-all, put-here, put-apart, tally, tally-append, tally_at_most, handover, handover-brings, notes, notes-append, Cases, Same, Apart, cases, same_true, put_at-here, put_at-apart, Both, Other, pair_cases}
 use Rattle.bmx_token_model.proofs.Each.{moved_kept}
 use Rattle.bmx_token_model.proofs.Moves.{notes_to, sent, drafted, issue_notes, moved_notes, holds_moved, tally-sent, Taking, Nothing, Letter, Acting, does_acting, takes_acting, taking_holds, kept_object}
-use Rattle.bmx_token_model.proofs.Roles.{Under, stance, under_is, not_absent, not_owning, role_under, Looks, Stays, Meets, Turns, Gains, Hands, acts_look}
+use Rattle.bmx_token_model.proofs.Roles.{Under, stance, under_is, not_absent, not_owning, role_under, Looks, Stays, Meets, Transits, Gains, Hands, acts_look}
 use Rattle.bmx_token_model.proofs.Owners.{write_sends_one}
 use Rattle.bmx_token_model.proofs.Spots.{Spot, Unasked, Granted, IsAlone, alone_elsewhere}
 use Rattle.bmx_token_model.proofs.Requests.{IsRequested, granting, stands, unwanting, requested_run}
@@ -29,7 +29,7 @@ issue_answers o me d n m (inl h) = inl (issue_entering (λ r. is_some r ≡ true
 issue_answers o me d n m (inr h) =
     inr (omega (arith, h, ap (tally handover) (issue_notes o me d m n) ∙ tally-append handover (notes (o.channel m n)) (drafted me d m n)))
 
-pub moved_answers : (o : Object) (me : ℕ) (refers : Bool) (t : Turn) (n m : ℕ) → AnswersFor o n m → AnswersFor (moved o me refers t) n m
+pub moved_answers : (o : Object) (me : ℕ) (refers : Bool) (t : Transition) (n m : ℕ) → AnswersFor o n m → AnswersFor (moved o me refers t) n m
 moved_answers o me refers t n m h = moved_kept (λ q. AnswersFor q n m) me (λ q d k. issue_answers q me d n m k) o refers t h
 
 popped_answers : (o : Object) (from me : ℕ) (l : Message) (rest : List Message) → o.channel from me ≡ l ∷ rest → (n m : ℕ) → AnswersFor o n m → AnswersFor (popped o from me l rest) n m
@@ -73,7 +73,7 @@ granted_knows p n to r some = by_holds (p.holds to) (granted_wants p n to r some
     by_holds (Some b) e = refl
 
 -- ownership that was just handed over is in flight
-pub handed_over : (q : Object) (me : ℕ) (refers : Bool) (t : Turn) (to : ℕ) (rest : List Ask) →
+pub handed_over : (q : Object) (me : ℕ) (refers : Bool) (t : Transition) (to : ℕ) (rest : List Ask) →
     t.sends ≡ send to (Grants mode.Write) ∷ map (λ (a : Ask). send to (Asks a.mode a.asker)) rest → 1 ≤ tally handover (notes ((moved q me refers t).channel me to))
 handed_over q me refers t to rest s = omega (
   arith,
@@ -82,15 +82,15 @@ handed_over q me refers t to rest s = omega (
   ap (λ x. tally handover (notes_to to x)) s ∙ write_sends_one to to rest ∙ ap (λ (u : Bool). cond {A = ℕ} u 1 0) (same_true to),
 )
 
--- ## stances after a turn
+-- ## stances after a transition
 
-pub stance_mine : (q : Object) (me : ℕ) (refers : Bool) (t : Turn) → stance ((moved q me refers t).holds me) ≡ stance t.after
+pub stance_mine : (q : Object) (me : ℕ) (refers : Bool) (t : Transition) → stance ((moved q me refers t).holds me) ≡ stance t.after
 stance_mine q me refers t = ap stance (holds_moved q me refers t me ∙ put-here q.holds me t.after)
 
-pub stance_other : (q : Object) (me : ℕ) (refers : Bool) (t : Turn) (n : ℕ) → n ≢ me → stance ((moved q me refers t).holds n) ≡ stance (q.holds n)
+pub stance_other : (q : Object) (me : ℕ) (refers : Bool) (t : Transition) (n : ℕ) → n ≢ me → stance ((moved q me refers t).holds n) ≡ stance (q.holds n)
 stance_other q me refers t n d = ap stance (holds_moved q me refers t n ∙ put-apart q.holds me t.after n d)
 
-pub knows_moved : (q : Object) (me : ℕ) (refers : Bool) (t : Turn) (n : ℕ) → (Knows q me → is_some t.after ≡ true) → Knows q n → Knows (moved q me refers t) n
+pub knows_moved : (q : Object) (me : ℕ) (refers : Bool) (t : Transition) (n : ℕ) → (Knows q me → is_some t.after ≡ true) → Knows q n → Knows (moved q me refers t) n
 knows_moved q me refers t n some h = ap (λ k. is_some k) (holds_moved q me refers t n) ∙ put-all (λ j k. Knows q j → is_some k ≡ true) q.holds me t.after some (λ j d z. z) n h
 
 -- ## each step
@@ -101,7 +101,7 @@ pub record IsPointed (o : Object) : Type 0 where
   pub answers : (m n : ℕ) → stance (o.holds m) ≡ Under n → AnswersFor o n m
 
 -- one node has another stance, and each other node the one it had
-moved_pointed : (q : Object) (me : ℕ) (refers : Bool) (t : Turn) → (Knows q me → is_some t.after ≡ true) →
+moved_pointed : (q : Object) (me : ℕ) (refers : Bool) (t : Transition) → (Knows q me → is_some t.after ≡ true) →
     ((n : ℕ) → stance t.after ≡ Under n → Knows (moved q me refers t) n × AnswersFor (moved q me refers t) n me) → IsPointed q → IsPointed (moved q me refers t)
 moved_pointed q me refers t some here g = record {
   known = λ k n e. (both k n (cases k me) e).0;
@@ -117,21 +117,21 @@ moved_pointed q me refers t some here g = record {
         (knows_moved q me refers t n some (g.known k n at), moved_answers q me refers t n k (g.answers k n at))
 
 acting_pointed : (o p : Object) → Acting o p → IsRecorded o → IsGiving o → IsRequested p → IsPointed o → IsPointed p
-acting_pointed o p a c g r w = subst IsPointed (sym a.is) (moved_pointed q a.me a.refers a.turn some by_looks pointed)
+acting_pointed o p a c g r w = subst IsPointed (sym a.is) (moved_pointed q a.me a.refers a.transition some by_looks pointed)
   where
     q : Object
     q = a.between
 
     s : Object
-    s = moved q a.me a.refers a.turn
+    s = moved q a.me a.refers a.transition
 
     holds : q.holds ≡ o.holds
     holds = taking_holds o a.me a.from a.taken a.tells q a.taking
 
-    stays : is_some (o.holds a.me) ≡ true → is_some a.turn.after ≡ true
-    stays = knowing_stays a.from (o.holds a.me) a.turn (acts_knowing a.me a.from a.taken a.tells (o.holds a.me) a.turn a.acts)
+    stays : is_some (o.holds a.me) ≡ true → is_some a.transition.after ≡ true
+    stays = knowing_stays a.from (o.holds a.me) a.transition (acts_knowing a.me a.from a.taken a.tells (o.holds a.me) a.transition a.acts)
 
-    some : Knows q a.me → is_some a.turn.after ≡ true
+    some : Knows q a.me → is_some a.transition.after ≡ true
     some k = stays (subst (λ (f : ℕ → Option Share). is_some (f a.me) ≡ true) holds k)
 
     pointed : IsPointed q
@@ -142,8 +142,8 @@ acting_pointed o p a c g r w = subst IsPointed (sym a.is) (moved_pointed q a.me 
 
     old : (n : ℕ) → Knows o n → AnswersFor o n a.me → Knows s n × AnswersFor s n a.me
     old n k x = (
-      knows_moved q a.me a.refers a.turn n some (subst (λ (f : ℕ → Option Share). is_some (f n) ≡ true) (sym holds) k),
-      moved_answers q a.me a.refers a.turn n a.me (taking_answers o a.me a.from a.taken a.tells q a.taking n a.me x),
+      knows_moved q a.me a.refers a.transition n some (subst (λ (f : ℕ → Option Share). is_some (f n) ≡ true) (sym holds) k),
+      moved_answers q a.me a.refers a.transition n a.me (taking_answers o a.me a.from a.taken a.tells q a.taking n a.me x),
     )
 
     from_giver : gives a.taken a.tells ≡ true → Knows s a.from × AnswersFor s a.from a.me
@@ -151,17 +151,17 @@ acting_pointed o p a c g r w = subst IsPointed (sym a.is) (moved_pointed q a.me 
         let x : Knows o a.from × (is_some (o.entering a.from a.me) ≡ true) = giver o a.me a.from a.taken a.tells q a.taking c g given in
         old a.from x.0 (inl x.1)
 
-    by : (n : ℕ) → stance a.turn.after ≡ Under n → Looks a.from a.taken a.tells (o.holds a.me) a.turn → Knows s n × AnswersFor s n a.me
+    by : (n : ℕ) → stance a.transition.after ≡ Under n → Looks a.from a.taken a.tells (o.holds a.me) a.transition → Knows s n × AnswersFor s n a.me
     by n at (Stays e x l) = let was : stance (o.holds a.me) ≡ Under n = sym e ∙ at in old n (w.known a.me n was) (w.answers a.me n was)
     by n at (Meets x y given z l) = subst (λ z. Knows s z × AnswersFor s z a.me) (under_is a.from n (sym y ∙ at)) (from_giver given)
-    by n at (Turns j x y t l) = subst (λ z. Knows s z × AnswersFor s z a.me) (under_is a.from n (sym y ∙ at)) (from_giver (ap (λ z. gives z a.tells) t))
+    by n at (Transits j x y t l) = subst (λ z. Knows s z × AnswersFor s z a.me) (under_is a.from n (sym y ∙ at)) (from_giver (ap (λ z. gives z a.tells) t))
     by n at (Gains j x y t l) = not_owning at y
     by n at (Hands to rest x y t l) =
-        let over : 1 ≤ tally handover (notes (s.channel a.me to)) = handed_over q a.me a.refers a.turn to rest l in
+        let over : 1 ≤ tally handover (notes (s.channel a.me to)) = handed_over q a.me a.refers a.transition to rest l in
         subst (λ z. Knows s z × AnswersFor s z a.me) (under_is to n (sym y ∙ at)) (granted_knows s a.me to (subst IsRequested a.is r) over, inr over)
 
-    by_looks : (n : ℕ) → stance a.turn.after ≡ Under n → Knows s n × AnswersFor s n a.me
-    by_looks n at = by n at (acts_look a.me a.from a.taken a.tells (o.holds a.me) a.turn a.acts)
+    by_looks : (n : ℕ) → stance a.transition.after ≡ Under n → Knows s n × AnswersFor s n a.me
+    by_looks n at = by n at (acts_look a.me a.from a.taken a.tells (o.holds a.me) a.transition a.acts)
 
 -- a letter that brings ownership
 pub over_there : (letters : List Message) (l : Message) (before after : List Message) → letters ≡ before ++ l ∷ after → brings l ≡ true → 1 ≤ tally handover (notes letters)
@@ -186,7 +186,7 @@ pointed_step o p c g r w (Makes me nowhere e) = subst IsPointed (sym e) record {
     nobody : {A : Type 0} (m n : ℕ) → stance ((with_holding o me (Some made_share)).holds m) ≡ Under n → A
     nobody {A} m n = put-all (λ j k. stance k ≡ Under n → A) o.holds me (Some made_share) (λ h. not_owning h refl) (λ j d h. not_absent h (ap stance (nowhere.unknown j))) m
 pointed_step o p c g r w (Does me refers a h t has is e) = acting_pointed o p (does_acting o p me refers a h t has is e) c g r w
-pointed_step o p c g r w (Takes from me l rest t apart channel is e) = acting_pointed o p (takes_acting o p from me l rest t apart channel is e) c g r w
+pointed_step o p c g r w (Receives from me l rest t apart channel is e) = acting_pointed o p (takes_acting o p from me l rest t apart channel is e) c g r w
 pointed_step o p c g r w (Writes me to tells told e) = subst IsPointed (sym e) record { known = w.known; answers = λ m n f. issue_answers o me _ n m (w.answers m n f) }
 pointed_step o p c g r w (Forgets me h has u e) = subst IsPointed (sym e) record {
   known = λ m n f. put-all (λ j k. (j ≡ me → ⊥) → Knows o j → is_some k ≡ true) o.holds me None (λ d z. absurd (d refl)) (λ j d x z. z) n

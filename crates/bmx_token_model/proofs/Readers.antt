@@ -5,7 +5,7 @@ use Rattle.std.specs.Option.{option_to_list}
 use Rattle.bmx_types.specs.declared.numbers.Mode.TheVariants.{Read}
 use Rattle.bmx_token.specs.declared.parts.Role.{Role}
 use Rattle.bmx_token.specs.declared.parts.Role.TheVariants.{Owner, Parent}
-use Rattle.bmx_token.specs.Turns.{Share, Note, Grants}
+use Rattle.bmx_token.specs.Transitions.{Share, Note, Grants}
 use Rattle.bmx_token_model.specs.Machine.{Message, Object}
 use Rattle.bmx_token_model.specs.Laws.{is_owner, HasReader, ReadersAreListed}
 use Rattle.bmx_token_model.proofs.Tallies.{tally, tally-append, read_grant, notes, Cases, Same, Apart, cases, same_true}

@@ -9,15 +9,15 @@ use Rattle.bmx_token.specs.declared.parts.Ask.{Ask}
 use Rattle.bmx_token.specs.declared.parts.Role.TheVariants.{Owner, Parent}
 use Rattle.bmx_token.specs.declared.parts.Part.{Part}
 use Rattle.bmx_token.specs.Nodes.{nodes_with}
-use Rattle.bmx_token.specs.Turns.{Share, Note, Asks, Grants, Recalls, Returns, Send, send, Turn, silently, saying, with_token, with_copy, without_copy, made_share, heard_share}
+use Rattle.bmx_token.specs.Transitions.{Share, Note, Asks, Grants, Recalls, Returns, Send, send, Transition, silently, saying, with_token, with_copy, without_copy, made_share, heard_share}
 use Rattle.bmx_token_model.specs.Machine.{Object, Run, IsFirst, with_holding}
 use Rattle.bmx_token_model.specs.Laws.{owned_at, queue_at}
-use Rattle.bmx_token.specs.Turns.{same_mode, is_request_of, is_grant_of}
+use Rattle.bmx_token.specs.Transitions.{same_mode, is_request_of, is_grant_of}
 use Rattle.bmx_token_model.proofs.Spots.{Spot, Unasked, InFlight, Queued, Granted, IsAlone, at_spot, moves_spot, alone_elsewhere, at_most_one}
 use Rattle.bmx_token_model.proofs.Tallies.{tally, notes, Cases, Same, Apart, cases, same_true}
 use Rattle.bmx_token_model.proofs.First.{untouched, first_holds}
 use Rattle.bmx_token_model.proofs.Acts.{Alters, TakesWanted, Reads, Writes, Joins, Frees, Readies, Acts, Rests, Hears, AltersTo, Wants, Answers, GrantsRead, HandsOver, Revokes, Arrives, Forwards, GetsRead, GetsWrite, ReturnsNone, ReturnsNow, ReturnsLater, GetsBack}
-use Rattle.bmx_token_model.proofs.Moves.{notes_to, sent, came, Moves, Changes, Makes, Turns, Forgets, none_moves, kept_changes, tally-came, tally-sent, tally-before, tally-after, came-nothing, sent-nothing, tally-send, nothing-send, asks-send, recalls-nothing}
+use Rattle.bmx_token_model.proofs.Moves.{notes_to, sent, came, Moves, Changes, Makes, Transits, Forgets, none_moves, kept_changes, tally-came, tally-sent, tally-before, tally-after, came-nothing, sent-nothing, tally-send, nothing-send, asks-send, recalls-nothing}
 use Rattle.bmx_token_model.proofs.Owners.{owned_as}
 
 -- ## counts
@@ -119,18 +119,18 @@ record Comes (me : ℕ) (sends : List Send) (m : Mode) (a : ℕ) (q r : List Ask
   unwant : a ≢ me → at_spot y c Unasked ≡ 0
 
 -- an act takes a want from one spot to another
-abbrev SomeEffect : ℕ → ℕ → Option Note → Option Share → Turn → Mode → ℕ → Type 0
+abbrev SomeEffect : ℕ → ℕ → Option Note → Option Share → Transition → Mode → ℕ → Type 0
 SomeEffect me from taken h t m a =
     (x : Spot) × (y : Spot) × (c : ℕ) × (r : List Ask) × (v : ℕ) × Leaves me from taken m a (queue_at h) r (unwanting m h) v x c
     × Comes me t.sends m a r (queue_at t.after) v (unwanting m t.after) y c
 
-holds_at : (o p : Object) (me from : ℕ) (taken : Option Note) (t : Turn) → Moves o p me from taken t → p.holds me ≡ t.after
+holds_at : (o p : Object) (me from : ℕ) (taken : Option Note) (t : Transition) → Moves o p me from taken t → p.holds me ≡ t.after
 holds_at o p me from taken t h = h.holds me ∙ ap (λ (u : Bool). cond u t.after (o.holds me)) (same_true me)
 
-holds_else : (o p : Object) (me from : ℕ) (taken : Option Note) (t : Turn) → Moves o p me from taken t → (n : ℕ) → (me == n) ≡ false → p.holds n ≡ o.holds n
+holds_else : (o p : Object) (me from : ℕ) (taken : Option Note) (t : Transition) → Moves o p me from taken t → (n : ℕ) → (me == n) ≡ false → p.holds n ≡ o.holds n
 holds_else o p me from taken t h n e = h.holds n ∙ ap (λ (u : Bool). cond u t.after (o.holds n)) e
 
-effect_moves : (o p : Object) (me from : ℕ) (taken : Option Note) (t : Turn) → Moves o p me from taken t → (m : Mode) (a : ℕ) (e : SomeEffect me from taken (o.holds me) t m a) (s : Spot) →
+effect_moves : (o p : Object) (me from : ℕ) (taken : Option Note) (t : Transition) → Moves o p me from taken t → (m : Mode) (a : ℕ) (e : SomeEffect me from taken (o.holds me) t m a) (s : Spot) →
     stands p m a s + at_spot e.0 e.2 s ≡ stands o m a s + at_spot e.1 e.2 s
 effect_moves o p me from taken t h m a e (InFlight n k) =
     omega (arith, e.5.channel n k, e.6.channel n k, tally-before (ask m a) o p me from taken t h n k, tally-after (ask m a) o p me from taken t h n k)
@@ -263,7 +263,7 @@ comes_nothing me sends m a q u l = record {
   unwant = λ d. refl;
 }
 
-passes : (me from : ℕ) (taken : Option Note) (h : Option Share) (t : Turn) (m : Mode) (a : ℕ) → queue_at t.after ≡ queue_at h → wanting m t.after ≡ wanting m h →
+passes : (me from : ℕ) (taken : Option Note) (h : Option Share) (t : Transition) (m : Mode) (a : ℕ) → queue_at t.after ≡ queue_at h → wanting m t.after ≡ wanting m h →
     IsMute (option_to_list taken) → ((k : ℕ) → IsMute (notes_to k t.sends)) → SomeEffect me from taken h t m a
 passes me from taken h t m a q w x l =
     let u : unwanting m t.after ≡ unwanting m h = omega (arith, w, wants_or_not m t.after, wants_or_not m h) in
@@ -407,7 +407,7 @@ hands_over me from b asker rest m a q once = by_head (same_mode m Write && (aske
     others : List Send
     others = map (λ (q : Ask). send asker (Asks q.mode q.asker)) rest
 
-    t : Turn
+    t : Transition
     t = saying (without_copy record b.part { role = Parent asker; queue = [] }) (send asker (Grants Write) ∷ others)
 
     all : queued m a b.part.queue ≡ cond (same_mode m Write && (asker == a)) 1 0 + queued m a rest
@@ -515,11 +515,11 @@ record IsOnce (me : ℕ) (h : Option Share) : Type 0 where
   mine : 1 ≤ queued Write me (queue_at h) → wanting Write h ≡ 1
 
 -- each want goes from one spot to another, and the node's own is as it should be after
-record IsMoved (me from : ℕ) (taken : Option Note) (h : Option Share) (t : Turn) : Type 0 where
+record IsMoved (me from : ℕ) (taken : Option Note) (h : Option Share) (t : Transition) : Type 0 where
   effects : (m : Mode) (a : ℕ) → SomeEffect me from taken h t m a
   asking : IsAsking me t.after
 
-same_moved : (me from : ℕ) (taken u : Option Note) (h g : Option Share) (t k : Turn) → taken ≡ u → h ≡ g → t ≡ k → IsMoved me from u g k → IsMoved me from taken h t
+same_moved : (me from : ℕ) (taken u : Option Note) (h g : Option Share) (t k : Transition) → taken ≡ u → h ≡ g → t ≡ k → IsMoved me from u g k → IsMoved me from taken h t
 same_moved me from taken u h g t k x e f m = rw (x, e, f) m
 
 zero_not_one : {A : Type 0} {x : ℕ} → x ≡ 0 → x ≡ 1 → A
@@ -528,8 +528,8 @@ zero_not_one e f = absurd (omega (arith, e, f))
 none_not_some : {A : Type 0} {w : Option Mode} {n : Mode} → w ≡ Some n → w ≡ None → A
 none_not_some e f = absurd cc
 
--- a turn that neither asks nor grants, and leaves the queue, the wants and the role
-quietly : (me from : ℕ) (taken : Option Note) (h : Option Share) (t : Turn) → queue_at t.after ≡ queue_at h → ((n : Mode) → wanting n t.after ≡ wanting n h) →
+-- a transition that neither asks nor grants, and leaves the queue, the wants and the role
+quietly : (me from : ℕ) (taken : Option Note) (h : Option Share) (t : Transition) → queue_at t.after ≡ queue_at h → ((n : Mode) → wanting n t.after ≡ wanting n h) →
     owned_at t.after ≡ owned_at h → (IsCalm h → IsCalm t.after) → IsMute (option_to_list taken) → ((k : ℕ) → IsMute (notes_to k t.sends)) → IsAsking me h →
     IsMoved me from taken h t
 quietly me from taken h t q w o calm x l s = record {
@@ -601,7 +601,7 @@ alters_moved me from b q (Readies rest role readers queue f) once s =
       };
     }
 
-acts_moved : (me from : ℕ) (taken : Option Note) (tells : Bool) (h : Option Share) (t : Turn) → Acts me from taken tells h t → IsOnce me h → IsAsking me h → IsMoved me from taken h t
+acts_moved : (me from : ℕ) (taken : Option Note) (tells : Bool) (h : Option Share) (t : Transition) → Acts me from taken tells h t → IsOnce me h → IsAsking me h → IsMoved me from taken h t
 acts_moved me from taken tells h t (Rests x f) once s =
     same_moved _ _ _ _ _ _ _ _ x refl f (quietly me from None h _ refl (λ n. refl) refl (λ c. c) nothing_mute (λ k. nothing_mute) s)
 acts_moved me from taken tells h t (Hears e told x f) once s =
@@ -700,7 +700,7 @@ once_of o me r = record {
       omega (arith, none, wants_or_not Write (o.holds me)));
 }
 
-requested_after : (o p : Object) (me from : ℕ) (taken : Option Note) (t : Turn) → Moves o p me from taken t → IsMoved me from taken (o.holds me) t → IsRequested o → IsRequested p
+requested_after : (o p : Object) (me from : ℕ) (taken : Option Note) (t : Transition) → Moves o p me from taken t → IsMoved me from taken (o.holds me) t → IsRequested o → IsRequested p
 requested_after o p me from taken t h moved r = record {
   nodes = λ a. node a (cases a me);
   spots = λ m a. spot m a (moved.effects m a);
@@ -728,8 +728,8 @@ made_moved me = record { effects = λ m a. passes me me None None (silently made
 
 pub requested_kept : (o p : Object) → IsRequested o → Changes o p → IsRequested p
 requested_kept o p r (Makes me none moves) = requested_after o p me me None (silently made_share) moves (subst (λ h. IsMoved me me None h (silently made_share)) (sym (none.unknown me)) (made_moved me)) r
-requested_kept o p r (Turns a) =
-    requested_after o p a.me a.from a.taken a.turn a.moves (acts_moved a.me a.from a.taken a.tells (o.holds a.me) a.turn a.acts (once_of o a.me r) (r.nodes a.me)) r
+requested_kept o p r (Transits a) =
+    requested_after o p a.me a.from a.taken a.transition a.moves (acts_moved a.me a.from a.taken a.tells (o.holds a.me) a.transition a.acts (once_of o a.me r) (r.nodes a.me)) r
 requested_kept o p r (Forgets me b has u e) = subst IsRequested (sym e)
     (requested_after o (with_holding o me None) me me None record { after = None; sends = [] } (forgets_moves o me)
     (subst (λ h. IsMoved me me None h record { after = None; sends = [] }) (sym has) (forgotten me me b u.idle.want u.idle.queue)) r)

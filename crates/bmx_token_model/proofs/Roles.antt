@@ -7,7 +7,7 @@ use Rattle.bmx_token.specs.declared.parts.Ask.{Ask}
 use Rattle.bmx_token.specs.declared.parts.Role.{Role}
 use Rattle.bmx_token.specs.declared.parts.Role.TheVariants.{Owner, Parent}
 use Rattle.bmx_token.specs.declared.parts.Part.{Part}
-use Rattle.bmx_token.specs.Turns.{Share, Note, Asks, Grants, Recalls, Returns, send, Turn, heard_share}
+use Rattle.bmx_token.specs.Transitions.{Share, Note, Asks, Grants, Recalls, Returns, send, Transition, heard_share}
 use Rattle.bmx_token_model.specs.Machine.{gives, is_gift}
 use Rattle.bmx_token_model.proofs.Tallies.{tally, handover}
 use Rattle.bmx_token_model.proofs.Acts.{Alters, TakesWanted, Reads, Writes, Joins, Frees, Readies, Acts, Rests, Hears, AltersTo, Wants, Answers, GrantsRead, HandsOver, Revokes, Arrives, Forwards, GetsRead, GetsWrite, ReturnsNone, ReturnsNow, ReturnsLater, GetsBack}
@@ -68,16 +68,16 @@ role_kept me copy p q (Readies rest role readers queue e) = ap (λ (x : Part). x
 
 -- it stays, and no ownership is taken or sent; the node hears of the object; it gets a copy from the sender, or
 -- ownership; it hands ownership over
-pub data Looks (from : ℕ) (taken : Option Note) (tells : Bool) (h : Option Share) (t : Turn) : Type 0 where
+pub data Looks (from : ℕ) (taken : Option Note) (tells : Bool) (h : Option Share) (t : Transition) : Type 0 where
   Stays : stance t.after ≡ stance h → tally handover (option_to_list taken) ≡ 0 → ((k : ℕ) → tally handover (notes_to k t.sends) ≡ 0) → Looks from taken tells h t
   Meets : stance h ≡ Absent → stance t.after ≡ Under from → gives taken tells ≡ true → tally handover (option_to_list taken) ≡ 0 →
       ((k : ℕ) → tally handover (notes_to k t.sends) ≡ 0) → Looks from taken tells h t
-  Turns : (p : ℕ) → stance h ≡ Under p → stance t.after ≡ Under from → taken ≡ Some (Grants Read) → t.sends ≡ [] → Looks from taken tells h t
+  Transits : (p : ℕ) → stance h ≡ Under p → stance t.after ≡ Under from → taken ≡ Some (Grants Read) → t.sends ≡ [] → Looks from taken tells h t
   Gains : (p : ℕ) → stance h ≡ Under p → stance t.after ≡ Owning → taken ≡ Some (Grants Write) → t.sends ≡ [] → Looks from taken tells h t
   Hands : (to : ℕ) (rest : List Ask) → stance h ≡ Owning → stance t.after ≡ Under to → taken ≡ None →
       t.sends ≡ send to (Grants Write) ∷ map (λ (a : Ask). send to (Asks a.mode a.asker)) rest → Looks from taken tells h t
 
-same_looks : (from : ℕ) (taken u : Option Note) (tells : Bool) (h g : Option Share) (t a : Turn) → taken ≡ u → h ≡ g → t ≡ a → Looks from u tells g a → Looks from taken tells h t
+same_looks : (from : ℕ) (taken u : Option Note) (tells : Bool) (h g : Option Share) (t a : Transition) → taken ≡ u → h ≡ g → t ≡ a → Looks from u tells g a → Looks from taken tells h t
 same_looks from taken u tells h g t a x e f o = rw (x, e, f) o
 
 -- one note that brings nothing
@@ -92,7 +92,7 @@ gives_told (Some n) tells e = rw e (or_true (is_gift n))
     or_true true = refl
     or_true false = refl
 
-pub acts_look : (me from : ℕ) (taken : Option Note) (tells : Bool) (h : Option Share) (t : Turn) → Acts me from taken tells h t → Looks from taken tells h t
+pub acts_look : (me from : ℕ) (taken : Option Note) (tells : Bool) (h : Option Share) (t : Transition) → Acts me from taken tells h t → Looks from taken tells h t
 acts_look me from taken tells h t (Rests x f) = same_looks _ _ _ _ _ _ _ _ x refl f (Stays refl refl (λ k. refl))
 acts_look me from taken tells h t (Hears e told x f) = same_looks _ _ _ _ _ _ _ _ x e f (Meets refl refl (gives_told None tells told) refl (λ k. refl))
 acts_look me from taken tells h t (AltersTo b q e alters x f) = same_looks _ _ _ _ _ _ _ _ x e f (Stays (ap stance_as (role_kept me b.copy b.part q alters)) refl (λ k. refl))
@@ -103,7 +103,7 @@ acts_look me from taken tells h t (HandsOver b asker rest e role readers queue o
 acts_look me from taken tells h t (Revokes b asker rest e role queue waiting x f) = same_looks _ _ _ _ _ _ _ _ x e f (Stays refl refl (λ k. recalls-nothing handover refl k b.part.readers))
 acts_look me from taken tells h t (Arrives b n asker e role other x f) = same_looks _ _ _ _ _ _ _ _ x e f (Stays refl refl (λ k. refl))
 acts_look me from taken tells h t (Forwards b n asker parent e role x f) = same_looks _ _ _ _ _ _ _ _ x e f (Stays refl refl (λ k. one k parent (Asks n asker) refl))
-acts_look me from taken tells h t (GetsRead b parent e role want ready x f) = same_looks _ _ _ _ _ _ _ _ x e f (Turns parent (ap stance_as role) refl refl refl)
+acts_look me from taken tells h t (GetsRead b parent e role want ready x f) = same_looks _ _ _ _ _ _ _ _ x e f (Transits parent (ap stance_as role) refl refl refl)
 acts_look me from taken tells h t (GetsWrite b parent e role want ready x f) = same_looks _ _ _ _ _ _ _ _ x e f (Gains parent (ap stance_as role) refl refl refl)
 acts_look me from taken tells h t (ReturnsNone j e c x f) = same_looks _ _ _ _ _ _ _ _ x e f (by_hearing c)
   where

@@ -6,14 +6,14 @@ use Rattle.bmx_types.specs.declared.numbers.Mode.{Mode}
 use Rattle.bmx_types.specs.declared.numbers.Mode.TheVariants.{Read, Write}
 use Rattle.bmx_token.specs.declared.parts.Role.{Role}
 use Rattle.bmx_token.specs.declared.parts.Role.TheVariants.{Owner, Parent}
-use Rattle.bmx_graph.specs.State.{put}
-use Rattle.bmx_token.specs.Turns.{Share, Note, Asks, Grants, Recalls, Returns, Turn, silently, made_share}
+use Rattle.bmx_types.specs.Updates.{put}
+use Rattle.bmx_token.specs.Transitions.{Share, Note, Asks, Grants, Recalls, Returns, Transition, silently, made_share}
 use Rattle.bmx_token_model.specs.Machine.{Message, Object, Run, IsFirst, IsUnneeded, with_holding, gives}
 use Rattle.bmx_token_model.specs.Laws.{owned_at, Seat, At, TokensExclude}
 use Rattle.bmx_token_model.proofs.Tallies.{tally, tally-append, read_grant, recall, return, notes, behind, behind-append, behind_no_recall, behind_no_grant, Cases, Same, Apart, cases, same_true}
 use Rattle.bmx_token_model.proofs.First.{untouched, first_holds}
 use Rattle.bmx_token_model.proofs.Each.{Each, each_of}
-use Rattle.bmx_token_model.proofs.Moves.{notes_to, sent, came, Moves, Acted, Changes, Makes, Turns, Forgets, kept_changes, tally-before, tally-after}
+use Rattle.bmx_token_model.proofs.Moves.{notes_to, sent, came, Moves, Acted, Changes, Makes, Transits, Forgets, kept_changes, tally-before, tally-after}
 use Rattle.bmx_token_model.proofs.Owners.{IsSeated, IsAt, owned_as, seat_at, seated_run, no_share}
 use Rattle.bmx_token_model.proofs.Times.{times}
 use Rattle.bmx_token_model.proofs.Sound.{IsSound, IsSoundIf, sound_when_made, sound_when_heard, sound_after}
@@ -31,7 +31,7 @@ with_one x y b u v e z = let e' : b ≡ u + 1 * y + v = rw z at e in omega arith
 with_zero : (x y b u v : ℕ) → b ≡ u + x * y + v → y ≡ 0 → b ≡ u + v
 with_zero x y b u v e z = let e' : b ≡ u + x * 0 + v = rw z at e in omega arith
 
-change : (w v : Object) (me from : ℕ) (taken : Option Note) (m : Turn) → Moves w v me from taken m → (n k : ℕ) →
+change : (w v : Object) (me from : ℕ) (taken : Option Note) (m : Transition) → Moves w v me from taken m → (n k : ℕ) →
     IsChange (tally read_grant (notes (w.channel n k))) (tally recall (notes (w.channel n k))) (behind (notes (w.channel n k))) (tally return (notes (w.channel k n)))
     (tally read_grant (notes (v.channel n k))) (tally recall (notes (v.channel n k))) (behind (notes (v.channel n k))) (tally return (notes (v.channel k n)))
     (tally read_grant (sent me m.sends n k)) (tally recall (sent me m.sends n k)) (tally return (came from me taken k n))
@@ -64,15 +64,15 @@ change w v me from taken m h n k =
 
 -- ## the two sides
 
-holds_here : (w v : Object) (me from : ℕ) (taken : Option Note) (m : Turn) → Moves w v me from taken m → (n : ℕ) → (me == n) ≡ true → v.holds n ≡ m.after
+holds_here : (w v : Object) (me from : ℕ) (taken : Option Note) (m : Transition) → Moves w v me from taken m → (n : ℕ) → (me == n) ≡ true → v.holds n ≡ m.after
 holds_here w v me from taken m h n t = h.holds n ∙ ap (λ (u : Bool). cond u m.after (w.holds n)) t
 
-holds_there : (w v : Object) (me from : ℕ) (taken : Option Note) (m : Turn) → Moves w v me from taken m → (n : ℕ) → (me == n) ≡ false → v.holds n ≡ w.holds n
+holds_there : (w v : Object) (me from : ℕ) (taken : Option Note) (m : Transition) → Moves w v me from taken m → (n : ℕ) → (me == n) ≡ false → v.holds n ≡ w.holds n
 holds_there w v me from taken m h n t = h.holds n ∙ ap (λ (u : Bool). cond u m.after (w.holds n)) t
 
 -- what holds of the one who acts and of each that doesn't, by what it has, sends and takes
 side : (P : Option Share → Option Share → List Note → List Note → Type 0) → ((h : Option Share) → P h h [] []) →
-    (w v : Object) (me from : ℕ) (taken : Option Note) (m : Turn) → Moves w v me from taken m → (n k : ℕ) →
+    (w v : Object) (me from : ℕ) (taken : Option Note) (m : Transition) → Moves w v me from taken m → (n k : ℕ) →
     P (w.holds me) m.after (notes_to k m.sends) (taken_of from taken k) → P (w.holds n) (v.holds n) (sent me m.sends n k) (came from me taken k n)
 side P rest w v me from taken m h n k given = rw (h.holds n) (by_case (cases n me))
   where
@@ -81,7 +81,7 @@ side P rest w v me from taken m h n k given = rw (h.holds n) (by_case (cases n m
     by_case (Apart e t) = rw t (rest (w.holds n))
 
 owner_at : (F : ℕ → ℕ → ℕ → ℕ → ℕ → ℕ → ℕ → Type 0) → ((r q : ℕ) → F r q r q 0 0 0) →
-    (w v : Object) (me from : ℕ) (taken : Option Note) (m : Turn) → Moves w v me from taken m → ((x : ℕ) → AsOwner F from taken (w.holds me) m x) → (n k : ℕ) →
+    (w v : Object) (me from : ℕ) (taken : Option Note) (m : Transition) → Moves w v me from taken m → ((x : ℕ) → AsOwner F from taken (w.holds me) m x) → (n k : ℕ) →
     F (times k (reads_of (w.holds n))) (times k (waits_of (w.holds n))) (times k (reads_of (v.holds n))) (times k (waits_of (v.holds n)))
     (tally read_grant (sent me m.sends n k)) (tally recall (sent me m.sends n k)) (tally return (came from me taken k n))
 owner_at F rest w v me from taken m h given n k =
@@ -89,7 +89,7 @@ owner_at F rest w v me from taken m h given n k =
     (λ h. rest (times k (reads_of h)) (times k (waits_of h))) w v me from taken m h n k (given k)
 
 reader_at : (F : ℕ → ℕ → ℕ → ℕ → ℕ → ℕ → ℕ → Type 0) → ((r q : ℕ) → F r q r q 0 0 0) →
-    (w v : Object) (me from : ℕ) (taken : Option Note) (m : Turn) → Moves w v me from taken m → ((x : ℕ) → AsReader F from taken (w.holds me) m x) → (n k : ℕ) →
+    (w v : Object) (me from : ℕ) (taken : Option Note) (m : Transition) → Moves w v me from taken m → ((x : ℕ) → AsReader F from taken (w.holds me) m x) → (n k : ℕ) →
     F (copy_from n (w.holds k)) (due_to n (w.holds k)) (copy_from n (v.holds k)) (due_to n (v.holds k))
     (tally read_grant (came from me taken n k)) (tally recall (came from me taken n k)) (tally return (sent me m.sends k n))
 reader_at F rest w v me from taken m h given n k =
@@ -115,7 +115,7 @@ pub record IsShared (w : Object) : Type 0 where
   pub sound : (n : ℕ) → IsSoundIf (w.holds n)
   pub pairs : (n k : ℕ) → IsFineAt w n k
 
-fine_after : (w v : Object) (me from : ℕ) (taken : Option Note) (m : Turn) → Moves w v me from taken m → View from taken (w.holds me) m →
+fine_after : (w v : Object) (me from : ℕ) (taken : Option Note) (m : Transition) → Moves w v me from taken m → View from taken (w.holds me) m →
     (n k : ℕ) → IsFineAt w n k → IsFineAt v n k
 fine_after w v me from taken m h (ByOwner o r) n k f =
     owner_keeps _ _ _ _ _ _ _ _ _ _ _ _ _ _ _ _ _ _ _ _ _ _ f (change w v me from taken m h n k)
@@ -126,7 +126,7 @@ fine_after w v me from taken m h (ByReader o r) n k f =
     (owner_at OwnerRests owner_still w v me from taken m h o n k)
     (reader_at ReaderActs (λ r q. ReaderActs.Nothing (reader_still r q)) w v me from taken m h r n k)
 
-shared_after : (w v : Object) (me from : ℕ) (taken : Option Note) (m : Turn) → Moves w v me from taken m → View from taken (w.holds me) m →
+shared_after : (w v : Object) (me from : ℕ) (taken : Option Note) (m : Transition) → Moves w v me from taken m → View from taken (w.holds me) m →
     IsSoundIf m.after → IsShared w → IsShared v
 shared_after w v me from taken m h sees sound s = record {
   sound = λ n. by_case n (cases n me);
@@ -139,8 +139,8 @@ shared_after w v me from taken m h sees sound s = record {
 
 shared_acted : (o p : Object) → Acted o p → IsShared o → IsShared p
 shared_acted o p a s =
-    shared_after o p a.me a.from a.taken a.turn a.moves (view a.me a.from a.taken a.tells (o.holds a.me) a.turn a.acts (s.sound a.me))
-    (sound_after a.me a.from a.taken a.tells (o.holds a.me) a.turn a.acts (s.sound a.me)) s
+    shared_after o p a.me a.from a.taken a.transition a.moves (view a.me a.from a.taken a.tells (o.holds a.me) a.transition a.acts (s.sound a.me))
+    (sound_after a.me a.from a.taken a.tells (o.holds a.me) a.transition a.acts (s.sound a.me)) s
 
 -- who gives the object in no letter grants no read
 ungiven : (letters : List Message) → ((l : Message) (before after : List Message) → letters ≡ before ++ l ∷ after → gives l.note l.tells ≡ false) → tally read_grant (notes letters) ≡ 0
@@ -206,7 +206,7 @@ shared_kept o p s (Makes me empty moves) =
     shared_after o p me me None (silently made_share) moves
     (view_new me None (o.holds me) (silently made_share) made_share (empty.unknown me) refl refl refl (λ x. refl) refl nothing_still (λ k. nothing_still))
     sound_when_made s
-shared_kept o p s (Turns a) = shared_acted o p a s
+shared_kept o p s (Transits a) = shared_acted o p a s
 shared_kept o p s (Forgets me h has u e) = subst IsShared (sym e) (shared_without o me h has u s)
 
 -- ## at first

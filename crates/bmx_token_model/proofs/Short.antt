@@ -4,9 +4,9 @@ use Rattle.std.proofs.Common.{◌≡◌, ◌≢◌, ◌⊎◌, inl, inr, ℕ, �
 use Rattle.std.specs.Prelude.{◌==◌, not, Some}
 use Rattle.bmx_token.specs.declared.parts.Role.TheVariants.{Parent}
 use Rattle.bmx_token.specs.Nodes.{nodes_without}
-use Rattle.bmx_token.specs.Turns.{Share}
+use Rattle.bmx_token.specs.Transitions.{Share}
 use Rattle.bmx_token_model.specs.Machine.{Object}
-use Rattle.bmx_token_model.specs.Laws.{Ends, Owns, Gave, Leads, Here, On, IsBelow}
+use Rattle.bmx_token_model.specs.Laws.{ChainEnd, Owns, Gave, Chain, Here, On, IsBelow}
 use Rattle.bmx_token_model.proofs.Tallies.{Cases, Same, Apart, cases, same_true, swapped}
 use Rattle.bmx_token_model.proofs.Times.{times, times_without-gone, times_without-other}
 
@@ -54,7 +54,7 @@ few (suc nodes) xs once below = omega (arith, length_without nodes xs, once node
 
 -- a walk along parents, with the nodes that it passes
 data Walk (o : Object) : ℕ → List ℕ → Type 0 where
-  Stop : {n : ℕ} → Ends o n → Walk o n (n ∷ [])
+  Stop : {n : ℕ} → ChainEnd o n → Walk o n (n ∷ [])
   Step : {n p : ℕ} {passed : List ℕ} (h : Share) → o.holds n ≡ Some h → h.part.role ≡ Parent p → Walk o p passed → Walk o n (n ∷ passed)
 
 -- one that passes each node once
@@ -84,7 +84,7 @@ from_there o n x _ (Step {p = p} {passed = passed} k has role rest) once h = by_
     by_case (Same f t) ih = subst (Simple o) f record { passed = n ∷ passed; walk = Step k has role rest; once = once }
     by_case (Apart f t) ih = ih (later x n (times x passed) h (λ g. f (sym g)))
 
-simple : (o : Object) (n steps : ℕ) → Leads o n steps → Simple o n
+simple : (o : Object) (n steps : ℕ) → Chain o n steps → Simple o n
 simple o n _ (Here e) = record { passed = n ∷ []; walk = Stop e; once = λ x. one (x == n) }
   where
     one : (t : Bool) → cond {A = ℕ} t 1 0 + 0 ≤ 1
@@ -105,17 +105,17 @@ simple o n _ (On {parent = p} {steps = k} h has role rest) = longer (simple o p 
 
 -- ## a walk has as many steps as it passes nodes, but one
 
-walk_leads : (o : Object) (n : ℕ) (passed : List ℕ) → Walk o n passed → (steps : ℕ) × (suc steps ≡ length passed) × Leads o n steps
+walk_leads : (o : Object) (n : ℕ) (passed : List ℕ) → Walk o n passed → (steps : ℕ) × (suc steps ≡ length passed) × Chain o n steps
 walk_leads o n _ (Stop e) = (0, refl, Here e)
 walk_leads o n _ (Step {p = p} {passed = passed} h has role rest) =
-    let x : (steps : ℕ) × (suc steps ≡ length passed) × Leads o p steps = walk_leads o p passed rest in
+    let x : (steps : ℕ) × (suc steps ≡ length passed) × Chain o p steps = walk_leads o p passed rest in
     (suc x.0, ap (λ (k : ℕ). suc k) x.1, On h has role x.2)
 
 -- it passes only nodes that know the object
 walk_below : (o : Object) (nodes : ℕ) → IsBelow o nodes → (n x : ℕ) (passed : List ℕ) → Walk o n passed → 1 ≤ times x passed → x < nodes
 walk_below o nodes below n x _ (Stop e) h = by_case (cases n x)
   where
-    known : Ends o n → n < nodes
+    known : ChainEnd o n → n < nodes
     known (Owns k has role) = below n k has
     known (Gave k to has role brought) = below n k has
 
@@ -129,8 +129,8 @@ walk_below o nodes below n x _ (Step {p = p} {passed = passed} k has role rest) 
     by_case (Apart f t) ih = ih (later x n (times x passed) h (λ g. f (sym g)))
 
 -- whoever leads somewhere leads there in fewer steps than there are nodes
-pub short_leads : (o : Object) (nodes : ℕ) → IsBelow o nodes → (n steps : ℕ) → Leads o n steps → (few_steps : ℕ) × (few_steps < nodes) × Leads o n few_steps
+pub short_leads : (o : Object) (nodes : ℕ) → IsBelow o nodes → (n steps : ℕ) → Chain o n steps → (few_steps : ℕ) × (few_steps < nodes) × Chain o n few_steps
 short_leads o nodes below n steps l =
     let s : Simple o n = simple o n steps l in
-    let x : (k : ℕ) × (suc k ≡ length s.passed) × Leads o n k = walk_leads o n s.passed s.walk in
+    let x : (k : ℕ) × (suc k ≡ length s.passed) × Chain o n k = walk_leads o n s.passed s.walk in
     (x.0, omega (arith, x.1, few nodes s.passed s.once (λ y. walk_below o nodes below n y s.passed s.walk)), x.2)

@@ -10,7 +10,7 @@ use Rattle.bmx_token.specs.declared.parts.Part.{Part}
 use Rattle.bmx_token.specs.Nodes.{nodes_with, nodes_without}
 use Rattle.bmx_token.specs.Tokens.{is_write}
 use Rattle.bmx_token.proofs.Order.{nodes_with-increases, nodes_without-increases}
-use Rattle.bmx_token.specs.Turns.{Share, Note, Turn, with_token, without_copy, with_copy, made_share, heard_share}
+use Rattle.bmx_token.specs.Transitions.{Share, Note, Transition, with_token, without_copy, with_copy, made_share, heard_share}
 use Rattle.bmx_token_model.proofs.Tallies.{Cases, Same, Apart, cases}
 use Rattle.bmx_token_model.proofs.Acts.{Alters, TakesWanted, Reads, Writes, Joins, Frees, Readies, Acts, Rests, Hears, AltersTo, Wants, Answers, GrantsRead, HandsOver, Revokes, Arrives, Forwards, GetsRead, GetsWrite, ReturnsNone, ReturnsNow, ReturnsLater, GetsBack}
 use Rattle.bmx_token_model.proofs.Times.{times, times-none, times_with-more, times_without-gone, times_without-other}
@@ -216,12 +216,12 @@ sound_alters me b q (Frees m h d e) s = subst (λ x. IsSound (with_token b x)) (
 sound_alters me b q (Readies rest r rs queue e) s = subst (λ x. IsSound (with_token b x)) (sym e) (sound_readies b rest s r rs)
 
 -- the outcome's part, from what is sound before
-turned : (h : Option Share) (b : Share) (t a : Turn) → IsSoundIf h → h ≡ Some b → t ≡ a → (IsSound b → IsSoundIf a.after) → IsSoundIf t.after
-turned h b t a s e f g = subst (λ (x : Turn). IsSoundIf x.after) (sym f) (g (subst IsSoundIf e s))
+turned : (h : Option Share) (b : Share) (t a : Transition) → IsSoundIf h → h ≡ Some b → t ≡ a → (IsSound b → IsSoundIf a.after) → IsSoundIf t.after
+turned h b t a s e f g = subst (λ (x : Transition). IsSoundIf x.after) (sym f) (g (subst IsSoundIf e s))
 
-pub sound_after : (me from : ℕ) (taken : Option Note) (tells : Bool) (h : Option Share) (t : Turn) → Acts me from taken tells h t → IsSoundIf h → IsSoundIf t.after
-sound_after me from taken tells h t (Rests x f) s = subst (λ (x : Turn). IsSoundIf x.after) (sym f) s
-sound_after me from taken tells h t (Hears e told x f) s = subst (λ (x : Turn). IsSoundIf x.after) (sym f) (sound_child from)
+pub sound_after : (me from : ℕ) (taken : Option Note) (tells : Bool) (h : Option Share) (t : Transition) → Acts me from taken tells h t → IsSoundIf h → IsSoundIf t.after
+sound_after me from taken tells h t (Rests x f) s = subst (λ (x : Transition). IsSoundIf x.after) (sym f) s
+sound_after me from taken tells h t (Hears e told x f) s = subst (λ (x : Transition). IsSoundIf x.after) (sym f) (sound_child from)
 sound_after me from taken tells h t (AltersTo b q e alters x f) s = turned h b t _ s e f (λ z. sound_alters me b q alters z)
 sound_after me from taken tells h t (Wants b n parent e r held w x f) s = turned h b t _ s e f (λ z. sound_wants b n parent z r held w)
 sound_after me from taken tells h t (Answers b owner held e x y u f) s = turned h b t _ s e f (λ z. sound_answers b owner held z x y)
@@ -232,7 +232,7 @@ sound_after me from taken tells h t (Arrives b n asker e r other x f) s = turned
 sound_after me from taken tells h t (Forwards b n asker parent e r x f) s = turned h b t _ s e f (λ z. z)
 sound_after me from taken tells h t (GetsRead b parent e r w d x f) s = turned h b t _ s e f (λ z. sound_gets_read b parent from z r w d)
 sound_after me from taken tells h t (GetsWrite b parent e r w d x f) s = turned h b t _ s e f (λ z. sound_gets_write b parent z r w d)
-sound_after me from taken tells h t (ReturnsNone k e c x f) s = subst (λ (x : Turn). IsSoundIf x.after) (sym f) (by_hearing c)
+sound_after me from taken tells h t (ReturnsNone k e c x f) s = subst (λ (x : Transition). IsSoundIf x.after) (sym f) (by_hearing c)
   where
     by_hearing : (k ≡ None) ⊎ ((k ≡ Some (heard_share from)) × (tells ≡ true)) → IsSoundIf k
     by_hearing (inl z) = subst IsSoundIf (sym z) tt

@@ -9,11 +9,11 @@ use Rattle.bmx_types.specs.declared.numbers.Mode.TheVariants as mode
 use Rattle.bmx_token.specs.declared.parts.Ask.{Ask}
 use Rattle.bmx_token.specs.declared.parts.Role.{Role}
 use Rattle.bmx_token.specs.declared.parts.Role.TheVariants.{Owner, Parent}
-use Rattle.bmx_token.specs.Turns.{Share, Note, Asks, Grants, Recalls, Returns}
+use Rattle.bmx_token.specs.Transitions.{Share, Note, Asks, Grants, Recalls, Returns}
 use Rattle.bmx_token_model.specs.Machine.{Message, Numbers, Object, Run, IsFirst, brings, gives}
 use Rattle.bmx_token_model.specs.Laws as law
 use Rattle.bmx_token_model.specs.Laws.{is_recall, is_return, is_due, owes, count_notes, queue_at, standing, IsWaiting, IsPlaced, WantsArePlaced, EachWantIsPlaced, answers_owed, waits_for, EachOwesOneAnswer, NoLetterIsStray, NobodyAsksItself, IsBrought, MayBeAsked, WhoIsAskedAnswers, ParentAnswers, ParentsLeadToTheOwner, GiftsAreRecorded, IdleIsUnneeded, ClearedIsUnneeded, TablesKeepTheLaws}
-use Rattle.bmx_token.specs.Turns.{same_mode, is_request_of, is_grant_of}
+use Rattle.bmx_token.specs.Transitions.{same_mode, is_request_of, is_grant_of}
 use Rattle.bmx_token_model.proofs.Tallies.{tally, tally-append, notes, recall, return, handover, Cases, Same, Apart, cases, same_true, swapped}
 use Rattle.bmx_token_model.proofs.Traffic.{Bounded}
 use Rattle.bmx_token_model.proofs.Each.{Each, each_there}
@@ -29,7 +29,7 @@ use Rattle.bmx_token_model.proofs.Letters.{IsIn, Recorded, NoGift, Knows, orderl
 use Rattle.bmx_token_model.proofs.Parents.{AnswersFor, IsPointed, pointed_run, granted_wants, over_there}
 use Rattle.bmx_token_model.proofs.Asked.{some_brings, fits_there, over_brings, has_record, NoAsk, asked_run}
 use Rattle.bmx_token_model.proofs.Apart.{IsApart, no_own_read, apart_run}
-use Rattle.bmx_token_model.proofs.Chains.{IsChained, Ends, Has, Gave, along, chained_run}
+use Rattle.bmx_token_model.proofs.Chains.{IsChained, ChainStop, Has, Gave, along, chained_run}
 use Rattle.bmx_token_model.proofs.Fitting.{wants_it, never_stray, any_of}
 use Rattle.bmx_token_model.proofs.Forgetting.{not_wanted, unneeded}
 use Rattle.bmx_token_model.proofs.Cleaning.{table_run, cleaned_unneeded}
@@ -289,10 +289,10 @@ under_share o n k e =
     let x : (b : Share) × (o.holds n ≡ Some b) × (stance_as b.part.role ≡ Under k) = role_of (o.holds n) (Under k) e (λ f. cc) in
     (x.0, x.1, role_under x.0.part.role k x.2)
 
-leads_in : (o : Object) → IsChained o → (n : ℕ) → Knows o n → (steps : ℕ) × law.Leads o n steps
-leads_in o c n k = along o (λ n. (steps : ℕ) × law.Leads o n steps) ends on n (c.chains n k)
+leads_in : (o : Object) → IsChained o → (n : ℕ) → Knows o n → (steps : ℕ) × law.Chain o n steps
+leads_in o c n k = along o (λ n. (steps : ℕ) × law.Chain o n steps) ends on n (c.chains n k)
   where
-    ends : (n : ℕ) → Ends o n → (steps : ℕ) × law.Leads o n steps
+    ends : (n : ℕ) → ChainStop o n → (steps : ℕ) × law.Chain o n steps
     ends n (Has e) =
         let x : (b : Share) × (o.holds n ≡ Some b) × (stance_as b.part.role ≡ Owning) = role_of (o.holds n) Owning e (λ f. cc) in
         (0, law.Here (law.Owns x.0 x.1 (role_owning x.0.part.role x.2)))
@@ -300,7 +300,7 @@ leads_in o c n k = along o (λ n. (steps : ℕ) × law.Leads o n steps) ends on 
         let x : (b : Share) × (o.holds n ≡ Some b) × (b.part.role ≡ Parent j) = under_share o n j (c.givers n j h) in
         (0, law.Here (law.Gave x.0 j x.1 x.2 (brought (o.channel n j) (over_brings (o.channel n j) h))))
 
-    on : (n k : ℕ) → stance (o.holds n) ≡ Under k → (steps : ℕ) × law.Leads o k steps → (steps : ℕ) × law.Leads o n steps
+    on : (n k : ℕ) → stance (o.holds n) ≡ Under k → (steps : ℕ) × law.Chain o k steps → (steps : ℕ) × law.Chain o n steps
     on n k e r =
         let x : (b : Share) × (o.holds n ≡ Some b) × (b.part.role ≡ Parent k) = under_share o n k e in
         (suc r.0, law.On x.0 x.1 x.2 r.1)
@@ -311,9 +311,9 @@ parents_lead o p first run = record {
   chains = λ nodes below n h has. chain nodes below n (ap (λ (x : Option Share). is_some x) has);
 }
   where
-    chain : (nodes : ℕ) → law.IsBelow p nodes → (n : ℕ) → Knows p n → (steps : ℕ) × (steps < nodes) × law.Leads p n steps
+    chain : (nodes : ℕ) → law.IsBelow p nodes → (n : ℕ) → Knows p n → (steps : ℕ) × (steps < nodes) × law.Chain p n steps
     chain nodes below n k =
-        let x : (steps : ℕ) × law.Leads p n steps = leads_in p (chained_run o p first run) n k in
+        let x : (steps : ℕ) × law.Chain p n steps = leads_in p (chained_run o p first run) n k in
         short_leads p nodes below n x.0 x.1
 
 -- ## records

@@ -2,7 +2,7 @@
 -- no request in flight counts on.
 use Rattle.std.proofs.Common.{◌≡◌, ◌⊎◌, inl, inr, ℕ, ◌+◌, ◌≤◌, arith, List, [], ◌∷◌, ◌++◌, refl, ap, sym, subst, subst₂, ◌∙◌, Bool, true, false, cond}
 use Rattle.std.specs.Prelude.{Option, Some, None}
-use Rattle.bmx_graph.specs.State.{put, put_at}
+use Rattle.bmx_types.specs.Updates.{put, put_at}
 use Rattle.bmx_token_model.specs.Machine.{Numbers, sent_in, got_in}
 use Rattle.bmx_token_model.specs.Tables.{Table}
 use Rattle.bmx_token_model.proofs.Tallies.{Cases, Same, Apart, cases, put_at-here, put_at-apart, put_at-all, Both, Other, pair_cases}
@@ -251,9 +251,9 @@ giver_safe o from me l rest ts channel c w r has there = inr (λ x i u b. subst 
     first : Counted (o.taken me from) (l ∷ rest) (o.issued from me)
     first = subst (λ z. Counted (o.taken me from) z (o.issued from me)) channel (c.channels from me)
 
--- ## a node's turn
+-- ## a node's transition
 
--- after a turn a node looks to a node that is safe to look to, or to whom it hands ownership over first
+-- after a transition a node looks to a node that is safe to look to, or to whom it hands ownership over first
 pub data Turned (A : ℕ → Type 0) (row : ℕ → Bool) (drafts : List Draft) : Type 0 where
   -- all it looks to and asks is safe
   Safely : ((n : ℕ) → row n ≡ true → A n) → AskThose A drafts → Turned A row drafts
@@ -263,10 +263,10 @@ pub data Turned (A : ℕ → Type 0) (row : ℕ → Bool) (drafts : List Draft) 
 
 pub turned_tabled : (o : Traffic) (me : ℕ) (row : ℕ → Bool) (drafts : List Draft) (ts : ℕ → ℕ → List Table) → IsCounted o → IsTabled o ts →
     Turned (λ n. IsSafe o (ts me n) n me None) row drafts → IsTabled (issue_all (looking o me row) me drafts) ts
-turned_tabled o me row drafts ts c t turn = record {
+turned_tabled o me row drafts ts c t transition = record {
   within = issue_all_within q me drafts ts t.within;
   parents = λ m n e. by_case m n (subst (λ (f : ℕ → ℕ → Bool). f m n ≡ true) (issue_all_looks q me drafts) e) (cases m me);
-  requests = requests turn;
+  requests = requests transition;
 }
   where
     q : Traffic
@@ -297,7 +297,7 @@ turned_tabled o me row drafts ts c t turn = record {
 
     by_case : (m n : ℕ) → put o.looks me row m n ≡ true → Cases m me → IsSafe (issue_all q me drafts) (ts m n) n m None
     by_case m n e (Same f u) = subst (λ z. IsSafe (issue_all q me drafts) (ts z n) n z None) (sym f)
-        (mine turn n (sym (ap (λ (z : Bool). (cond z row (o.looks m)) n) u) ∙ e))
+        (mine transition n (sym (ap (λ (z : Bool). (cond z row (o.looks m)) n) u) ∙ e))
     by_case m n e (Apart f u) = issue_all_safe q me drafts (ts m n) n m None (seen (ts m n) n m None (t.parents m n (sym (ap (λ (z : Bool). (cond z row (o.looks m)) n) u) ∙ e)))
 
     requests : Turned (λ n. IsSafe o (ts me n) n me None) row drafts → Requests (issue_all q me drafts) ts

@@ -5,8 +5,8 @@ use Rattle.std.specs.Option.{option_to_list}
 use Rattle.std.proofs.lemmas.Bool.Decides.{nat_tests}
 use Rattle.std.proofs.lemmas.List.Sums.{sum_by-cons}
 use Rattle.bmx_types.specs.declared.numbers.Mode.TheVariants as mode
-use Rattle.bmx_graph.specs.State.{put, put_at}
-use Rattle.bmx_token.specs.Turns.{Note, Asks, Grants, Recalls, Returns}
+use Rattle.bmx_types.specs.Updates.{put, put_at}
+use Rattle.bmx_token.specs.Transitions.{Note, Asks, Grants, Recalls, Returns}
 use Rattle.bmx_token_model.specs.Machine.{Message, is_handover, brings}
 use Rattle.bmx_token_model.specs.Laws.{handovers_in}
 

@@ -2,7 +2,7 @@
 -- bring, the entering records and the counts of letters; and how letters are numbered in it.
 use Rattle.std.proofs.Common.{◌≡◌, ◌⊎◌, inl, inr, ℕ, ◌+◌, ◌≤◌, arith, List, [], ◌∷◌, ◌++◌, refl, ap, sym, subst, subst₂, ◌∙◌, Bool, true, false, cond}
 use Rattle.std.specs.Prelude.{if◌then◌else◌, Option, Some, None}
-use Rattle.bmx_graph.specs.State.{put, put_at}
+use Rattle.bmx_types.specs.Updates.{put, put_at}
 use Rattle.bmx_token_model.specs.Machine.{Numbers, sent_in, got_in}
 use Rattle.bmx_token_model.proofs.Tallies.{put_at-here, put_at-apart, put_at-all, put_at-both, Both, Other, pair_cases}
 

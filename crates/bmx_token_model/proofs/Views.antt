@@ -9,7 +9,7 @@ use Rattle.bmx_token.specs.declared.parts.Role.{Role}
 use Rattle.bmx_token.specs.declared.parts.Role.TheVariants.{Owner, Parent}
 use Rattle.bmx_token.specs.declared.parts.Part.{Part}
 use Rattle.bmx_token.specs.Nodes.{nodes_with, nodes_without}
-use Rattle.bmx_token.specs.Turns.{Share, Note, Asks, Grants, Recalls, Returns, Send, send, Turn, silently, saying, with_token, with_copy, without_copy, heard_share}
+use Rattle.bmx_token.specs.Transitions.{Share, Note, Asks, Grants, Recalls, Returns, Send, send, Transition, silently, saying, with_token, with_copy, without_copy, heard_share}
 use Rattle.bmx_token_model.proofs.Tallies.{tally, read_grant, recall, return, eqb_true, swapped}
 use Rattle.bmx_token_model.proofs.Acts.{Alters, TakesWanted, Reads, Writes, Joins, Frees, Readies, Acts, Rests, Hears, AltersTo, Wants, Answers, GrantsRead, HandsOver, Revokes, Arrives, Forwards, GetsRead, GetsWrite, ReturnsNone, ReturnsNow, ReturnsLater, GetsBack}
 use Rattle.bmx_token_model.proofs.Moves.{notes_to, tally-send, nothing-send, asks-send, recalls-nothing}
@@ -51,18 +51,18 @@ abbrev pub taken_of : ℕ → Option Note → ℕ → List Note
 taken_of from taken x = if from == x then option_to_list taken else []
 
 -- the numbers of a node and another, as its owner and as its reader
-abbrev pub AsOwner : (ℕ → ℕ → ℕ → ℕ → ℕ → ℕ → ℕ → Type 0) → ℕ → Option Note → Option Share → Turn → ℕ → Type 0
+abbrev pub AsOwner : (ℕ → ℕ → ℕ → ℕ → ℕ → ℕ → ℕ → Type 0) → ℕ → Option Note → Option Share → Transition → ℕ → Type 0
 AsOwner F from taken h m x =
     F (times x (reads_of h)) (times x (waits_of h)) (times x (reads_of m.after)) (times x (waits_of m.after))
     (tally read_grant (notes_to x m.sends)) (tally recall (notes_to x m.sends)) (tally return (taken_of from taken x))
 
-abbrev pub AsReader : (ℕ → ℕ → ℕ → ℕ → ℕ → ℕ → ℕ → Type 0) → ℕ → Option Note → Option Share → Turn → ℕ → Type 0
+abbrev pub AsReader : (ℕ → ℕ → ℕ → ℕ → ℕ → ℕ → ℕ → Type 0) → ℕ → Option Note → Option Share → Transition → ℕ → Type 0
 AsReader F from taken h m x =
     F (copy_from x h) (due_to x h) (copy_from x m.after) (due_to x m.after)
     (tally read_grant (taken_of from taken x)) (tally recall (taken_of from taken x)) (tally return (notes_to x m.sends))
 
 -- an act is an owner's or a reader's
-pub data View (from : ℕ) (taken : Option Note) (h : Option Share) (m : Turn) : Type 0 where
+pub data View (from : ℕ) (taken : Option Note) (h : Option Share) (m : Transition) : Type 0 where
   ByOwner : ((x : ℕ) → AsOwner OwnerActs from taken h m x) → ((x : ℕ) → AsReader ReaderRests from taken h m x) → View from taken h m
   ByReader : ((x : ℕ) → AsOwner OwnerRests from taken h m x) → ((x : ℕ) → AsReader ReaderActs from taken h m x) → View from taken h m
 
@@ -96,7 +96,7 @@ taken_nothing f from taken x h = by_test (from == x)
     by_test false = refl
 
 -- an act that neither an owner nor a reader has to know of
-idle : (from : ℕ) (taken : Option Note) (h : Option Share) (m : Turn) →
+idle : (from : ℕ) (taken : Option Note) (h : Option Share) (m : Transition) →
     ((x : ℕ) → times x (reads_of m.after) ≡ times x (reads_of h)) → ((x : ℕ) → times x (waits_of m.after) ≡ times x (waits_of h)) →
     ((x : ℕ) → copy_from x m.after ≤ copy_from x h) → ((x : ℕ) → due_to x m.after ≡ due_to x h) →
     IsStill (option_to_list taken) → ((k : ℕ) → IsStill (notes_to k m.sends)) → View from taken h m
@@ -117,7 +117,7 @@ idle from taken h m reads waits copies dues t l =
       no_return = (l x).returns;
     })
 
-same : (from : ℕ) (taken u : Option Note) (h g : Option Share) (m a : Turn) → taken ≡ u → h ≡ g → m ≡ a → View from u g a → View from taken h m
+same : (from : ℕ) (taken u : Option Note) (h g : Option Share) (m a : Transition) → taken ≡ u → h ≡ g → m ≡ a → View from u g a → View from taken h m
 same from taken u h g m a t e f v = rw (t, e, f) v
 
 pub record IsAlike (p q : Part) : Type 0 where
@@ -144,7 +144,7 @@ view_like from taken b q sends k t l =
     (λ x. omega (arith, ap (copied_as x b.copy) k.role)) (λ x. ap (due_as x) k.due) t l
 
 -- a node that had nothing has neither readers nor a copy from another
-pub view_new : (from : ℕ) (taken : Option Note) (h : Option Share) (m : Turn) (b : Share) → h ≡ None → m.after ≡ Some b →
+pub view_new : (from : ℕ) (taken : Option Note) (h : Option Share) (m : Transition) (b : Share) → h ≡ None → m.after ≡ Some b →
     b.part.readers ≡ [] → b.part.waiting ≡ [] → ((x : ℕ) → copied_as x b.copy b.part.role ≡ 0) → b.part.due ≡ None →
     IsStill (option_to_list taken) → ((k : ℕ) → IsStill (notes_to k m.sends)) → View from taken h m
 view_new from taken h m b e after reads waits copies due t l =
@@ -183,8 +183,8 @@ owner_rests from taken h after sends x reads waits g c t = record {
   no_return = taken_nothing return from taken x t;
 }
 
--- a reader does nothing about the owner in a turn that takes nothing
-reader_rests : (from : ℕ) (h : Option Share) (t : Turn) (x : ℕ) → copy_from x t.after ≤ copy_from x h → due_to x t.after ≡ due_to x h →
+-- a reader does nothing about the owner in a transition that takes nothing
+reader_rests : (from : ℕ) (h : Option Share) (t : Transition) (x : ℕ) → copy_from x t.after ≤ copy_from x h → due_to x t.after ≡ due_to x h →
     tally return (notes_to x t.sends) ≡ 0 → AsReader ReaderRests from None h t x
 reader_rests from h t x less same none = record {
   less = less;
@@ -357,7 +357,7 @@ view_gets_back from b once =
 
 -- ## all outcomes
 
-pub view : (me from : ℕ) (taken : Option Note) (tells : Bool) (h : Option Share) (t : Turn) → Acts me from taken tells h t → IsSoundIf h → View from taken h t
+pub view : (me from : ℕ) (taken : Option Note) (tells : Bool) (h : Option Share) (t : Transition) → Acts me from taken tells h t → IsSoundIf h → View from taken h t
 view me from taken tells h t (Rests x f) s =
     same from _ _ _ _ _ _ x refl f (idle from None h _ (λ x. refl) (λ x. refl) (λ x. omega arith) (λ x. refl) nothing_still (λ k. nothing_still))
 view me from taken tells h t (Hears e told x f) s =

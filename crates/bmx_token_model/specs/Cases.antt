@@ -1,33 +1,33 @@
 -- Runs of the model worked by hand, each closed by computing: node 0 owns an object, and node 1 has
 -- heard of it.
 use Rattle.std.specs.Prelude.{◌≡◌, ℕ, ◌==◌, ◌&&◌, true, false, if◌then◌else◌, List, [], ◌∷◌, Option, Some, None, IsSome, refl}
-use Rattle.bmx_graph.specs.State.{put_at}
+use Rattle.bmx_types.specs.Updates.{put_at}
 use Rattle.bmx_types.specs.declared.numbers.Mode.TheVariants.{Read, Write}
 use Rattle.bmx_token.specs.Tokens.{owner_part, child_part}
 use Rattle.bmx_token_model.specs.Tables.{Table, Tabled, looks_to, MayForget}
 use Rattle.bmx_token_model.specs.Laws.{owned_at, handovers_in, Requested, Queued, Granted, standing, answers_owed}
-use Rattle.bmx_token.specs.Turns.{Share, Note, Asks, Grants, Recalls, Act, Acquires, Releases, Serves, Turn, turn_of, silently, made_share, heard_share, without_copy}
-use Rattle.bmx_token_model.specs.Machine.{Message, Numbers, no_numbers, Object, moved, popped, letter_turn}
+use Rattle.bmx_token.specs.Transitions.{Share, Note, Asks, Grants, Recalls, Operation, Acquires, Releases, Serves, Transition, transition_of, silently, made_share, heard_share, without_copy}
+use Rattle.bmx_token_model.specs.Machine.{Message, Numbers, no_numbers, Object, moved, popped, letter_transition}
 
 -- ## running
 
 -- what comes next: a node does something by itself, or takes the next letter from another
 pub data Next : Type 0 where
-  Do : (me : ℕ) (a : Act) → Next
+  Do : (me : ℕ) (a : Operation) → Next
   Take : (from me : ℕ) → Next
 
--- the object after a turn; one that is none leaves it
-abbrev pub after_turn : Object → Object → ℕ → Option Turn → Object
-after_turn o p me None = o
-after_turn o p me (Some t) = moved p me false t
+-- the object after a transition; one that is none leaves it
+abbrev pub after_transition : Object → Object → ℕ → Option Transition → Object
+after_transition o p me None = o
+after_transition o p me (Some t) = moved p me false t
 
-abbrev pub did : Object → ℕ → Act → Option Share → Object
+abbrev pub did : Object → ℕ → Operation → Option Share → Object
 did o me a None = o
-did o me a (Some h) = after_turn o o me (turn_of me a h)
+did o me a (Some h) = after_transition o o me (transition_of me a h)
 
 abbrev pub took : Object → ℕ → ℕ → List Message → Object
 took o from me [] = o
-took o from me (l ∷ rest) = after_turn o (popped o from me l rest) me (letter_turn me from l (o.holds me))
+took o from me (l ∷ rest) = after_transition o (popped o from me l rest) me (letter_transition me from l (o.holds me))
 
 -- a node with nothing of it, nothing to do, an empty channel, a letter to itself or a stray one leaves it
 abbrev pub next : Object → Next → Object
@@ -68,8 +68,8 @@ granted_read = after asked (Take 1 0 ∷ Do 0 Serves ∷ [])
 it_is_granted : granted_read.channel 0 1 ≡ letter 1 (Grants Read) ∷ []
 it_is_granted = refl
 
-the_way_there_is_empty : granted_read.channel 1 0 ≡ []
-the_way_there_is_empty = refl
+the_channel_there_is_empty : granted_read.channel 1 0 ≡ []
+the_channel_there_is_empty = refl
 
 the_giver_records_its_letter : granted_read.entering 0 1 ≡ Some record { sent = 1; got = 0 }
 the_giver_records_its_letter = refl
@@ -114,8 +114,8 @@ and_the_reader_has_no_copy = refl
 abbrev pub handed_over : Object
 handed_over = after reads (Do 1 Releases ∷ Do 1 (Acquires Write) ∷ Take 1 0 ∷ Do 0 Serves ∷ Take 0 1 ∷ Take 1 0 ∷ Do 0 Serves ∷ [])
 
-ownership_is_on_its_way : handed_over.channel 0 1 ≡ letter 3 (Grants Write) ∷ []
-ownership_is_on_its_way = refl
+ownership_is_in_flight : handed_over.channel 0 1 ≡ letter 3 (Grants Write) ∷ []
+ownership_is_in_flight = refl
 
 and_left_where_it_was : handed_over.holds 0 ≡ Some (heard_share 1)
 and_left_where_it_was = refl
@@ -123,8 +123,8 @@ and_left_where_it_was = refl
 nobody_owns_it_meanwhile : owned_at (handed_over.holds 0) ≡ 0
 nobody_owns_it_meanwhile = refl
 
-one_handover_is_on_its_way : handovers_in (handed_over.channel 0 1) ≡ 1
-one_handover_is_on_its_way = refl
+one_handover_is_in_flight : handovers_in (handed_over.channel 0 1) ≡ 1
+one_handover_is_in_flight = refl
 
 abbrev pub writes : Object
 writes = after handed_over (Take 0 1 ∷ Do 1 (Acquires Write) ∷ [])
@@ -140,8 +140,8 @@ the_taker_records_who_brought_it = refl
 
 -- ## where a want stands: in flight, in the queue, as a grant in flight, and at one of them alone
 
-it_stands_on_its_way : standing asked Read 1 (Requested 1 0) ≡ 1
-it_stands_on_its_way = refl
+it_stands_in_flight : standing asked Read 1 (Requested 1 0) ≡ 1
+it_stands_in_flight = refl
 
 abbrev queued_read : Object
 queued_read = after asked (Take 1 0 ∷ [])
@@ -149,8 +149,8 @@ queued_read = after asked (Take 1 0 ∷ [])
 then_in_the_queue : standing queued_read Read 1 (Queued 0) ≡ 1
 then_in_the_queue = refl
 
-and_no_more_on_its_way : standing queued_read Read 1 (Requested 1 0) ≡ 0
-and_no_more_on_its_way = refl
+and_no_more_in_flight : standing queued_read Read 1 (Requested 1 0) ≡ 0
+and_no_more_in_flight = refl
 
 then_it_is_granted : standing granted_read Read 1 (Granted 0) ≡ 1
 then_it_is_granted = refl
@@ -166,18 +166,18 @@ a_recall_is_owed_an_answer = refl
 then_the_release_owes_it : answers_owed kept_waiting 0 1 ≡ 1
 then_the_release_owes_it = refl
 
-then_it_is_on_its_way : answers_owed (after kept_waiting (Do 1 Releases ∷ [])) 0 1 ≡ 1
-then_it_is_on_its_way = refl
+then_it_is_in_flight : answers_owed (after kept_waiting (Do 1 Releases ∷ [])) 0 1 ≡ 1
+then_it_is_in_flight = refl
 
 and_then_none_is_owed : answers_owed writes_at_home 0 1 ≡ 0
 and_then_none_is_owed = refl
 
 -- ## letters fit, and nobody writes to itself
 
-the_request_fits : IsSome (letter_turn 0 1 (letter 1 (Asks Read 1)) (asked.holds 0))
+the_request_fits : IsSome (letter_transition 0 1 (letter 1 (Asks Read 1)) (asked.holds 0))
 the_request_fits = refl
 
-the_grant_fits : IsSome (letter_turn 1 0 (letter 1 (Grants Read)) (granted_read.holds 1))
+the_grant_fits : IsSome (letter_transition 1 0 (letter 1 (Grants Read)) (granted_read.holds 1))
 the_grant_fits = refl
 
 nobody_writes_to_itself : handed_over.channel 0 0 ≡ []
@@ -226,8 +226,8 @@ tabled = record { object = writes; tables = put_at (λ n m. []) 1 0 (table_of_th
 
 -- ## single letters
 
-a_stranger_hears_of_it : letter_turn 2 0 (record { seq = 1; note = None; tells = true }) None ≡ Some (silently (heard_share 0))
+a_stranger_hears_of_it : letter_transition 2 0 (record { seq = 1; note = None; tells = true }) None ≡ Some (silently (heard_share 0))
 a_stranger_hears_of_it = refl
 
-a_request_at_a_stranger_is_stray : letter_turn 2 0 (letter 1 (Asks Read 1)) None ≡ None
+a_request_at_a_stranger_is_stray : letter_transition 2 0 (letter 1 (Asks Read 1)) None ≡ None
 a_request_at_a_stranger_is_stray = refl

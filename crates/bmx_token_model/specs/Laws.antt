@@ -7,8 +7,8 @@ use Rattle.bmx_types.specs.declared.numbers.Mode.TheVariants as mode
 use Rattle.bmx_token.specs.declared.parts.Ask.{Ask}
 use Rattle.bmx_token.specs.declared.parts.Role.{Role}
 use Rattle.bmx_token.specs.declared.parts.Role.TheVariants.{Owner, Parent}
-use Rattle.bmx_token.specs.Turns.{Share, Note, Asks, Grants, Recalls, Returns, same_mode, is_request_of, is_grant_of}
-use Rattle.bmx_token_model.specs.Machine.{Message, Numbers, Object, Run, IsFirst, IsNowhere, IsUnneeded, IsUnneededRecord, gives, brings, asks, letter_turn}
+use Rattle.bmx_token.specs.Transitions.{Share, Note, Asks, Grants, Recalls, Returns, same_mode, is_request_of, is_grant_of}
+use Rattle.bmx_token_model.specs.Machine.{Message, Numbers, Object, Run, IsFirst, IsNowhere, IsUnneeded, IsUnneededRecord, gives, brings, asks, letter_transition}
 use Rattle.bmx_token_model.specs.Tables.{Tabled, TableRun, MayForget, MayClear, untabled}
 
 -- ## owners
@@ -186,7 +186,7 @@ EachOwesOneAnswer = (o p : Object) → IsFirst o → Run o p → AnswersAreOwed 
 
 -- the first letter in flight to a node from another isn't stray there by what it says of the token
 abbrev pub NoneIsStray : Object → Type 0
-NoneIsStray o = (from me : ℕ) (l : Message) (rest : List Message) → from ≢ me → o.channel from me ≡ l ∷ rest → IsSome (letter_turn me from l (o.holds me))
+NoneIsStray o = (from me : ℕ) (l : Message) (rest : List Message) → from ≢ me → o.channel from me ≡ l ∷ rest → IsSome (letter_transition me from l (o.holds me))
 
 -- whatever steps are taken from an opening, no letter is stray
 abbrev pub NoLetterIsStray : Type 0
@@ -233,14 +233,14 @@ pub record ParentAnswers (o : Object) (child parent : ℕ) : Type 0 where
   pub wants : IsBrought (o.channel child parent) → asked.share.part.want ≡ Some mode.Write
 
 -- ownership is at a node, or it gave it to another in a letter in flight, and asks that one from then on
-pub data Ends (o : Object) (n : ℕ) : Type 0 where
-  Owns : (h : Share) → o.holds n ≡ Some h → h.part.role ≡ Owner → Ends o n
-  Gave : (h : Share) (to : ℕ) → o.holds n ≡ Some h → h.part.role ≡ Parent to → IsBrought (o.channel n to) → Ends o n
+pub data ChainEnd (o : Object) (n : ℕ) : Type 0 where
+  Owns : (h : Share) → o.holds n ≡ Some h → h.part.role ≡ Owner → ChainEnd o n
+  Gave : (h : Share) (to : ℕ) → o.holds n ≡ Some h → h.part.role ≡ Parent to → IsBrought (o.channel n to) → ChainEnd o n
 
 -- from a node, by parents one after another, to one of these, in so many steps
-pub data Leads (o : Object) : ℕ → ℕ → Type 0 where
-  Here : {n : ℕ} → Ends o n → Leads o n 0
-  On : {n parent steps : ℕ} (h : Share) → o.holds n ≡ Some h → h.part.role ≡ Parent parent → Leads o parent steps → Leads o n (suc steps)
+pub data Chain (o : Object) : ℕ → ℕ → Type 0 where
+  Here : {n : ℕ} → ChainEnd o n → Chain o n 0
+  On : {n parent steps : ℕ} (h : Share) → o.holds n ≡ Some h → h.part.role ≡ Parent parent → Chain o parent steps → Chain o n (suc steps)
 
 -- the nodes that know the object are below a number
 abbrev pub IsBelow : Object → ℕ → Type 0
@@ -249,7 +249,7 @@ IsBelow o nodes = (n : ℕ) (h : Share) → o.holds n ≡ Some h → n < nodes
 -- parents answer, and lead to the owner, or to who gave ownership, in fewer steps than there are nodes
 pub record ParentsLead (o : Object) : Type 0 where
   pub parents : (n parent : ℕ) (h : Share) → o.holds n ≡ Some h → h.part.role ≡ Parent parent → ParentAnswers o n parent
-  pub chains : (nodes : ℕ) → IsBelow o nodes → (n : ℕ) (h : Share) → o.holds n ≡ Some h → (steps : ℕ) × (steps < nodes) × Leads o n steps
+  pub chains : (nodes : ℕ) → IsBelow o nodes → (n : ℕ) (h : Share) → o.holds n ≡ Some h → (steps : ℕ) × (steps < nodes) × Chain o n steps
 
 -- whatever steps are taken from an opening, parents lead to the owner
 abbrev pub ParentsLeadToTheOwner : Type 0

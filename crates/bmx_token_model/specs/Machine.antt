@@ -4,10 +4,10 @@
 use Rattle.std.specs.Prelude.{◌≡◌, ◌≢◌, ℕ, ◌+◌, max, Bool, true, false, ◌||◌, ◌&&◌, if◌then◌else◌, List, [], ◌∷◌, ◌++◌, map, Option, Some, None, unwrap_or}
 use Rattle.std.specs.Option.{option_map, option_map_or}
 use Rattle.bmx_types.specs.declared.numbers.Mode.TheVariants as mode
-use Rattle.bmx_graph.specs.State.{put, put_at}
+use Rattle.bmx_types.specs.Updates.{put, put_at}
 use Rattle.bmx_token.specs.declared.parts.Part.{Part}
 use Rattle.bmx_token.specs.declared.parts.Role.TheVariants.{Owner, Parent}
-use Rattle.bmx_token.specs.Turns.{Share, Note, Asks, Grants, Recalls, Returns, Send, Turn, Act, turn_of, note_turn, made_share, heard_share}
+use Rattle.bmx_token.specs.Transitions.{Share, Note, Asks, Grants, Recalls, Returns, Send, Transition, Operation, transition_of, note_transition, made_share, heard_share}
 
 -- a letter: its number among those from its sender to its receiver, the note on the object's token that it
 -- has, if any, and whether it tells of the object besides, since a field that it brings refers to it
@@ -120,8 +120,8 @@ abbrev pub issue_all : Object → ℕ → List Draft → Object
 issue_all o me [] = o
 issue_all o me (d ∷ drafts) = issue_all (issue o me d) me drafts
 
--- the object after a node's turn, where some field refers to the object or none
-abbrev pub moved : Object → ℕ → Bool → Turn → Object
+-- the object after a node's transition, where some field refers to the object or none
+abbrev pub moved : Object → ℕ → Bool → Transition → Object
 moved o me refers t = issue_all (with_holding o me t.after) me (map (draft refers) t.sends)
 
 -- node me has taken the first letter from a node, and others are still in flight
@@ -141,15 +141,15 @@ hears true from None = Some (heard_share from)
 hears true from (Some h) = Some h
 hears false from h = h
 
--- the turn by a note, where there is one
-abbrev pub said_turn : ℕ → ℕ → Option Note → Option Share → Option Turn
-said_turn me from None h = Some (record { after = h; sends = [] })
-said_turn me from (Some n) h = note_turn me from n h
+-- the transition by a note, where there is one
+abbrev pub said_transition : ℕ → ℕ → Option Note → Option Share → Option Transition
+said_transition me from None h = Some (record { after = h; sends = [] })
+said_transition me from (Some n) h = note_transition me from n h
 
--- the turn of node me by a letter from a node: by its note, and then it hears of the object; None where it
+-- the transition of node me by a letter from a node: by its note, and then it hears of the object; None where it
 -- is stray
-abbrev pub letter_turn : ℕ → ℕ → Message → Option Share → Option Turn
-letter_turn me from l h = option_map (λ (t : Turn). record t { after = hears l.tells from t.after }) (said_turn me from l.note h)
+abbrev pub letter_transition : ℕ → ℕ → Message → Option Share → Option Transition
+letter_transition me from l h = option_map (λ (t : Transition). record t { after = hears l.tells from t.after }) (said_transition me from l.note h)
 
 -- ## the steps of the model
 
@@ -199,10 +199,10 @@ pub data Step (o p : Object) : Type 0 where
   -- it makes the object
   Makes : (me : ℕ) → IsNowhere o → p ≡ with_holding o me (Some made_share) → Step o p
   -- it does something about it by itself, and some field of the object refers to the object or none
-  Does : (me : ℕ) (refers : Bool) (a : Act) (h : Share) (t : Turn) → o.holds me ≡ Some h → turn_of me a h ≡ Some t → p ≡ moved o me refers t → Step o p
+  Does : (me : ℕ) (refers : Bool) (a : Operation) (h : Share) (t : Transition) → o.holds me ≡ Some h → transition_of me a h ≡ Some t → p ≡ moved o me refers t → Step o p
   -- it takes the first letter from another node, which isn't stray
-  Takes : (from me : ℕ) (l : Message) (rest : List Message) (t : Turn) → from ≢ me → o.channel from me ≡ l ∷ rest →
-      letter_turn me from l (o.holds me) ≡ Some t → p ≡ moved (popped o from me l rest) me false t → Step o p
+  Receives : (from me : ℕ) (l : Message) (rest : List Message) (t : Transition) → from ≢ me → o.channel from me ≡ l ∷ rest →
+      letter_transition me from l (o.holds me) ≡ Some t → p ≡ moved (popped o from me l rest) me false t → Step o p
   -- it issues a letter about another object, which may tell of this one, if it knows this one
   Writes : (me to : ℕ) (tells : Bool) → (o.holds me ≡ None → tells ≡ false) → p ≡ issue o me (record { to = to; note = None; tells = tells }) → Step o p
   -- it forgets what it has of it, which nothing needs

@@ -1,10 +1,10 @@
 -- Tables: a node tells another whether it asks it for the object, and how many letters it has sent it and taken
 -- from it, so that the other may clear its record. A table may be lost, or be taken late and more than once.
 use Rattle.std.specs.Prelude.{◌≡◌, ℕ, ◌≤◌, ◌==◌, Bool, false, List, [], ◌∷◌, ◌++◌, Contains, Option, Some, None}
-use Rattle.bmx_graph.specs.State.{put_at}
+use Rattle.bmx_types.specs.Updates.{put_at}
 use Rattle.bmx_token.specs.declared.parts.Role.{Role}
 use Rattle.bmx_token.specs.declared.parts.Role.TheVariants.{Owner, Parent}
-use Rattle.bmx_token.specs.Turns.{Share}
+use Rattle.bmx_token.specs.Transitions.{Share}
 use Rattle.bmx_token_model.specs.Machine.{Numbers, Object, Step, IsIdle, with_holding}
 use Rattle.bmx_token_model.specs.Machine as machine
 
@@ -32,7 +32,7 @@ looks_to (Some h) n = looks_as h.part.role n
 abbrev pub IsPlain : {o p : Object} → Step o p → Type 0
 IsPlain (machine.Makes me nowhere e) = Unit {0}
 IsPlain (machine.Does me refers a h t has is e) = Unit {0}
-IsPlain (machine.Takes from me l rest t apart channel is e) = Unit {0}
+IsPlain (machine.Receives from me l rest t apart channel is e) = Unit {0}
 IsPlain (machine.Writes me to tells told e) = Unit {0}
 IsPlain (machine.Forgets me h has unneeded e) = ⊥
 IsPlain (machine.Clears me other unneeded e) = ⊥

@@ -49,7 +49,7 @@ pub fn who_is_asked_answers()
 {}
 
 /// The law that no letter is stray by what it says of the token: the first in flight to a node from another has
-/// its turn there. It does nothing.
+/// its transition there. It does nothing.
 pub fn no_letter_is_stray()
     ensures { NoLetterIsStray }
 {}

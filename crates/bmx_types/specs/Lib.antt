@@ -1,3 +1,4 @@
 pub mod Integers
 pub mod Openings
+pub mod Updates
 pub mod Words

@@ -10,7 +10,7 @@ bunches_of [] = 0
 bunches_of (b ∷ bs) = max (b.bunch + 1) (bunches_of bs)
 
 -- the name is that of an object of the bunch
-pub record IsBorn (births : List Birth) (bunch name : ℕ) : Type 0 where
+pub record IsOfBunch (births : List Birth) (bunch name : ℕ) : Type 0 where
   pub named : 0 < name
   pub there : name ≤ length births
   pub same : (b : Birth) → slice_get births (name - 1) ≡ Some b → b.bunch ≡ bunch
@@ -26,7 +26,7 @@ pub record AreBirths (births : List Birth) : Type 0 where
   pub first : (i : ℕ) (b : Birth) → i < bunches_of births → slice_get births i ≡ Some b → b.bunch ≡ i
   pub wide : (i : ℕ) (b : Birth) → i < bunches_of births → slice_get births i ≡ Some b → length b.fields ≡ 32
   pub sizes : (b : Birth) → Contains births b → length b.fields ≤ 32
-  pub closed : (b : Birth) (name : ℕ) → Contains births b → Contains b.fields (Ref name) → IsBorn births b.bunch name
+  pub closed : (b : Birth) (name : ℕ) → Contains births b → Contains b.fields (Ref name) → IsOfBunch births b.bunch name
 
 -- 1 to 8 nodes, 1 to 65,535 segments for each
 pub record IsOpening (nodes limit : ℕ) (births : List Birth) : Type 0 where

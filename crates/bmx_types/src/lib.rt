@@ -14,7 +14,7 @@ mod values;
 
 pub use addresses::{Address, Info, Place};
 pub use commands::{Command, Operand, Refusal};
-pub use lists::Items;
+pub use lists::{Bytes, Items};
 pub use names::{Name, Names, Pair, Pairs};
 pub use numbers::{BunchNo, Mode, NoMemory, NodeNo, NodeNos};
 pub use openings::{Birth, Births, Opening};

@@ -12,6 +12,9 @@ pub struct Items<T> {
     items: Vec<T>,
 }
 
+/// Bytes in order.
+pub type Bytes = Items<u8>;
+
 impl<T> Model for Items<T> {
     ghost Value = { List T };
 

@@ -10,7 +10,7 @@ use Rattle.bmx_cli.specs.declared.runs.RunEnd.TheVariants as end
 use Rattle.bmx_cli.specs.declared.statuses.Status.{Status}
 use Rattle.bmx_cli.specs.declared.statuses.Status.TheVariants as status
 use Rattle.bmx_cli.specs.Texts.{has_refusal}
-use Rattle.bmx_cli.specs.Top.{Device, HadFault, Wrote, WroteFront, WrotePart}
+use Rattle.bmx_cli.specs.Top.{Device, HadFault, Wrote, WrotePrefix, WrotePart}
 
 -- what steps print, one after another
 abbrev pub printed_by : List Step → List ℕ
@@ -29,6 +29,6 @@ abbrev pub Ends : Run → RunEnd → Device → Status → Type 0
 Ends run end.Ended sink status.Done = (has_refusal run.history ≡ false) × Wrote sink run.text
 Ends run end.Ended sink status.SomeRefused = (has_refusal run.history ≡ true) × Wrote sink run.text
 Ends run end.Ended sink status.WriteFault = HadFault sink × WrotePart sink run.text
-Ends run end.Ended sink status.NoMemory = WroteFront sink run.text
-Ends run end.NoMemory sink status.NoMemory = WroteFront sink run.text
+Ends run end.Ended sink status.NoMemory = WrotePrefix sink run.text
+Ends run end.NoMemory sink status.NoMemory = WrotePrefix sink run.text
 Ends run e sink s = ⊥

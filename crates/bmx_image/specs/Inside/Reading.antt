@@ -9,13 +9,13 @@ use Rattle.bmx_image.specs.Spelling.{object_bytes}
 use Rattle.bmx_image.specs.Images.{ObjectFits, top_of_fields}
 use Rattle.bmx_image.specs.Faults.{IsFault, IsObjectFault, IsReading}
 
--- an object at the front of bytes, which fits behind what stands before it
+-- an object at the start of bytes, which fits behind what stands before it
 pub record IsRead (before : Before) (bytes : List ℕ) (r : Read) : Type 0 where
   pub parts : bytes ≡ object_bytes r.object ++ r.rest.now
   pub fits : ObjectFits before.count before.index before.top r.object
   pub top : r.top ≡ max before.top (top_of_fields r.object.fields)
 
--- the object at the front of bytes, or its first item that doesn't fit
+-- the object at the start of bytes, or its first item that doesn't fit
 abbrev pub IsObject : Before → List ℕ → Result Read Stop → Type 0
 IsObject before bytes (Ok r) = IsRead before bytes r
 IsObject before bytes (Err stop.NoMemory) = Unit {0}

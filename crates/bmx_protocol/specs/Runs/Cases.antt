@@ -11,7 +11,7 @@ use Rattle.rand_core.specs.Steps.{u32_at, word_bytes}
 use Rattle.bmx_protocol.specs.declared.inputs.NodeAnswer.TheVariants as answer
 use Rattle.bmx_protocol.specs.Cases.{Do, Serve, Next, Play, played, one_bunch, r0, anchor}
 use Rattle.bmx_protocol.specs.Runs.Programs.{Body, Gives, Phase, Stage, stages, Output, text}
-use Rattle.bmx_protocol.specs.Runs.Turns.{Action, Commands, Takes, actions, picked, word}
+use Rattle.bmx_protocol.specs.Runs.Turns.{Action, TriesCommand, TakesLetter, actions, picked, word}
 
 -- ## what is printed
 
@@ -225,10 +225,10 @@ the_last_stage : slice_get (stages crossed_writers) 4 ≡ Some last_stage
 the_last_stage = refl
 
 -- node 0 waits and isn't tried again; node 1 may do its command or take the request
-two_actions_are_enabled : enabled ≡ Commands 1 (command.Write anchor) ∷ Takes 1 0 request ∷ []
+two_actions_are_enabled : enabled ≡ TriesCommand 1 (command.Write anchor) ∷ TakesLetter 1 0 request ∷ []
 two_actions_are_enabled = refl
 
 -- the turn takes the request
-the_request_is_picked : picked 0 26 enabled ≡ Some (Takes 1 0 request)
+the_request_is_picked : picked 0 26 enabled ≡ Some (TakesLetter 1 0 request)
 unfolding state_after pcg32_seed u32_at word_bytes
 the_request_is_picked = refl

@@ -3,13 +3,13 @@ use Rattle.std.specs.Prelude.{◌≡◌, ℕ, ◌+◌, ◌<◌, ◌==◌, ◌⊎
 use Rattle.std.specs.Option.{option_map_or, option_and_then}
 use Rattle.bmx_types.specs.declared.commands.Command.{Command}
 use Rattle.bmx_types.specs.declared.commands.Command.TheVariants as command
-use Rattle.bmx_graph.specs.State.{put}
+use Rattle.bmx_types.specs.Updates.{put}
 use Rattle.bmx_protocol.specs.declared.inputs.Input.{Input}
 use Rattle.bmx_protocol.specs.declared.inputs.NodeAnswer.{NodeAnswer}
 use Rattle.bmx_protocol.specs.declared.inputs.NodeAnswer.TheVariants as answer
 use Rattle.bmx_protocol.specs.declared.events.Event.{Event}
 use Rattle.bmx_protocol.specs.Nodes.{Setting, NodeState}
-use Rattle.bmx_token.specs.Turns.{can_serve}
+use Rattle.bmx_token.specs.Transitions.{can_serve}
 use Rattle.bmx_protocol.specs.Steps.{Node, command_in}
 use Rattle.bmx_protocol.specs.Histories.{AreAfter, in_flight, is_wait}
 

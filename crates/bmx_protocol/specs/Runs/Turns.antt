@@ -8,7 +8,7 @@ use Rattle.bmx_types.specs.declared.commands.Operand.{Operand}
 use Rattle.bmx_types.specs.declared.commands.Command.{Command}
 use Rattle.bmx_graph.specs.Step.{target_of}
 use Rattle.bmx_msg.specs.declared.letters.Letter.{Letter}
-use Rattle.bmx_token.specs.Turns.{Acquires, Releases, Serves as Serving}
+use Rattle.bmx_token.specs.Transitions.{Acquires, Releases, Serves}
 use Rattle.bmx_protocol.specs.declared.inputs.Input.{Input}
 use Rattle.bmx_protocol.specs.declared.inputs.Input.TheVariants as input
 use Rattle.bmx_protocol.specs.declared.events.Event.{Event}
@@ -20,20 +20,20 @@ use Rattle.bmx_protocol.specs.Runs.Programs.{Body, Given, Stage, stages, program
 
 -- what a node may do next: its next command, a serve, or the next letter from a node
 pub data Action : Type 0 where
-  Commands : (node : ℕ) → Command → Action
-  Serves : (node name : ℕ) → Action
-  Takes : (node from : ℕ) → Letter → Action
+  TriesCommand : (node : ℕ) → Command → Action
+  ServesName : (node name : ℕ) → Action
+  TakesLetter : (node from : ℕ) → Letter → Action
 
 -- the node and the input of an action
 abbrev pub actor : Action → ℕ
-actor (Commands n c) = n
-actor (Serves n name) = n
-actor (Takes n from l) = n
+actor (TriesCommand n c) = n
+actor (ServesName n name) = n
+actor (TakesLetter n from l) = n
 
 abbrev pub input_of : Action → Input
-input_of (Commands n c) = input.Do c
-input_of (Serves n name) = input.Serve name
-input_of (Takes n from l) = input.Take from l
+input_of (TriesCommand n c) = input.Do c
+input_of (ServesName n name) = input.Serve name
+input_of (TakesLetter n from l) = input.Take from l
 
 -- the operand of a command that takes a token
 abbrev pub wanted_by : Command → Option Operand
@@ -42,7 +42,7 @@ wanted_by c = wanted_in (about c)
     wanted_in : About → Option Operand
     wanted_in (Token (Acquires m) on) = Some on
     wanted_in (Token Releases on) = None
-    wanted_in (Token Serving on) = None
+    wanted_in (Token Serves on) = None
     wanted_in (Fields on) = None
     wanted_in Making = None
     wanted_in Nothing = None
@@ -59,13 +59,13 @@ is_ready n s c = option_map_or (λ on. ready_at s (target_of (seen_graph n s) n 
 -- a node's next command of its program, where it doesn't wait, or waits and may be tried again
 abbrev pub command_action : ℕ → NodeState → Option Command → Option Given → List Action
 command_action n s w None = []
-command_action n s None (Some g) = Commands n g.command ∷ []
-command_action n s (Some w) (Some g) = if is_ready n s g.command then Commands n g.command ∷ [] else []
+command_action n s None (Some g) = TriesCommand n g.command ∷ []
+command_action n s (Some w) (Some g) = if is_ready n s g.command then TriesCommand n g.command ∷ [] else []
 
 -- the next letter from a node
 abbrev pub letter_action : ℕ → ℕ → List Letter → List Action
 letter_action n from [] = []
-letter_action n from (l ∷ letters) = Takes n from l ∷ []
+letter_action n from (l ∷ letters) = TakesLetter n from l ∷ []
 
 -- the next letters from the first so many nodes, by rising sender
 abbrev pub letter_actions : List Event → ℕ → ℕ → List Action
@@ -77,7 +77,7 @@ letter_actions past n (suc from) = letter_actions past n from ++ letter_action n
 abbrev pub actions_of : Setting → Stage → List Event → List Event → ℕ → NodeState → List ℕ → List Action
 actions_of st stage past part n s names =
     command_action n s (waits_with n None (past ++ part)) (slice_get (program_in stage n) (length (completed n part)))
-    ++ map (Serves n) names ++ letter_actions (past ++ part) n st.nodes
+    ++ map (ServesName n) names ++ letter_actions (past ++ part) n st.nodes
 
 -- the actions of the first so many nodes, by rising node
 abbrev pub actions : Setting → Stage → List Event → List Event → (ℕ → Node) → (ℕ → List ℕ) → ℕ → List Action

@@ -1,6 +1,6 @@
 -- A directory of names.
 use Rattle.std.specs.Prelude.{ℕ, List, Option}
-use Rattle.bmx_segment.specs.Updates.{Puts}
+use Rattle.bmx_types.specs.Updates.{Puts}
 use Rattle.bmx_replica.specs.Slots.{slot_of}
 use Rattle.bmx_replica.specs.declared.directory.Slot.{Slot}
 

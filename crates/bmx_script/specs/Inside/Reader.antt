@@ -6,7 +6,7 @@ use Rattle.bmx_script.specs.declared.lines.LineKind.{LineKind}
 use Rattle.bmx_script.specs.declared.lines.BadCause.TheVariants as cause
 use Rattle.bmx_script.specs.declared.verdicts.Verdict.{Verdict}
 use Rattle.bmx_script.specs.declared.verdicts.Verdict.TheVariants as verdict
-use Rattle.bmx_script.specs.declared.knowledge.Known.{Known}
+use Rattle.bmx_script.specs.declared.knowledge.Knowledge.{Knowledge}
 use Rattle.bmx_script.specs.declared.lines.Line.{Line}
 use Rattle.bmx_script.specs.declared.lines.Bad.{Bad}
 use Rattle.bmx_script.specs.declared.scripts.Reader.{Reader}
@@ -15,7 +15,7 @@ use Rattle.bmx_script.specs.Grammar.{is_long, is_skipped, IsGood, IsBad, Reads, 
 use Rattle.bmx_script.specs.Inside.Distinct.{AreDistinct}
 
 -- there are at most 8 nodes and 16 bunches
-pub record HasRoom (k : Known) : Type 0 where
+pub record HasRoom (k : Knowledge) : Type 0 where
   pub few_nodes : k.nodes ≤ 8
   pub few_bunches : length k.bunches ≤ 16
 
@@ -28,7 +28,7 @@ abbrev pub end_of : Reader → List ℕ → ℕ
 end_of r text = r.start + (length text + 1)
 
 -- what a line comes to, by its number, the number of bytes to its line feed, and its text
-abbrev pub IsVerdict : Known → ℕ → ℕ → List ℕ → Verdict → Type 0
+abbrev pub IsVerdict : Knowledge → ℕ → ℕ → List ℕ → Verdict → Type 0
 IsVerdict k number end text verdict.Skipped = (is_long number end ≡ false) × (is_skipped number text ≡ true)
 IsVerdict k number end text (verdict.Is what) = (is_long number end ≡ false) × (is_skipped number text ≡ false) × IsGood k what text
 IsVerdict k number end text (verdict.Wrong why) = IsBad k number end text why
@@ -49,7 +49,7 @@ verdict_of (Err Range) = verdict.Wrong cause.Range
 verdict_of (Ok what) = verdict.Is what
 
 -- how many bytes lines print from a line number on to another, by what is known before each
-abbrev pub print_length : Known → ℕ → List Line → ℕ → ℕ
+abbrev pub print_length : Knowledge → ℕ → List Line → ℕ → ℕ
 print_length k number [] next = next - number
 print_length k number (l ∷ ls) next =
     l.number - number + (length (spelling k.bunches l.what) + 1) + print_length (known_after k l.what) (l.number + 1) ls next

@@ -1,7 +1,7 @@
 -- How mapped segments are kept: in a list, found by a table.
 use Rattle.std.specs.Prelude.{◌≡◌, ℕ, ◌+◌, ◌*◌, ◌^◌, ◌<◌, ◌≤◌, ◌⊎◌, List, length, slice_index, slice_index_or, Some, is_some, IsSomeAnd}
 use Rattle.bmx_types.specs.Words.{index_of}
-use Rattle.bmx_segment.specs.Updates.{Puts}
+use Rattle.bmx_types.specs.Updates.{Puts}
 use Rattle.bmx_segment.specs.Headers.{header_words}
 use Rattle.bmx_segment.specs.Blocks.{Block, blank_words, blank_starts}
 use Rattle.bmx_segment.specs.Stores.{block_at, header_at, word_at, key_at, key_of}

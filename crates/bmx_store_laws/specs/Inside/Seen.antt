@@ -9,7 +9,7 @@ use Rattle.bmx_msg.specs.declared.letters.Msg.{Msg}
 use Rattle.bmx_msg.specs.declared.letters.Letter.{Letter}
 use Rattle.bmx_msg.specs.Letters.{targets}
 use Rattle.bmx_owner.specs.declared.entering.Record.{Record}
-use Rattle.bmx_token.specs.Turns.{Share, Note}
+use Rattle.bmx_token.specs.Transitions.{Share, Note}
 use Rattle.bmx_token_model.specs.Machine.{Message, Numbers, Object, Draft as Slipped}
 use Rattle.bmx_protocol.specs.Nodes.{Setting, Known, share_of}
 use Rattle.bmx_protocol.specs.Rules.{Draft, name_in, note_in, grant_in}

@@ -1,7 +1,7 @@
 use Rattle.std.proofs.Common.{ℕ, List, Option, Ok, Err, map, ap, sym, ◌∙◌, subst}
 use Rattle.std.specs.Prelude.{string_bytes}
 use Rattle.bmx_script.specs.Grammar.{IsReading}
-use Rattle.bmx_script.specs.Reader.{ForBad}
+use Rattle.bmx_script.specs.Reading.{ForBad}
 use Rattle.bmx_script.specs.declared.scripts.ScriptError.TheVariants as errors
 use Rattle.bmx_cli.specs.declared.runs.Run.{Run}
 use Rattle.bmx_cli.specs.declared.statuses.Status.TheVariants as status

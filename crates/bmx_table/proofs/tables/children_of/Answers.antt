@@ -1,5 +1,5 @@
 use Rattle.std.proofs.Common.{◌≡◌, length, take, slice_get, sym, ap, ◌∙◌, subst, arith}
-use Rattle.bmx_table.proofs.Fronts.{front-more, front-all}
+use Rattle.bmx_table.proofs.Prefixes.{prefix-more, prefix-all}
 use Rattle.bmx_table.proofs.tables.children_of.Goals as goal
 
 pub loop-name-preserved : goal.loop-name-preserved
@@ -8,7 +8,7 @@ loop-name-preserved g c =
     let read = c.loop-name.names.items in
     let n : length read ≡ c.len.result = omega (arith, c.loop-name.names.ok.0) in
     let at = ap (slice_get xs) n ∙ sym c.in-Some.ensures in
-    subst (λ ys. take (length ys) xs ≡ ys) (sym c.in_ok-push.ensures.items) (front-more xs read c.in-Some.name c.loop-name.invariant at)
+    subst (λ ys. take (length ys) xs ≡ ys) (sym c.in_ok-push.ensures.items) (prefix-more xs read c.in-Some.name c.loop-name.invariant at)
 
 pub returns : goal.returns
 returns g c =
@@ -16,4 +16,4 @@ returns g c =
     let read = c.loop-name.names.items in
     let n : length read ≡ c.len.result = omega (arith, c.loop-name.names.ok.0) in
     let at = ap (slice_get xs) n ∙ sym c.in_default.ensures in
-    c.from_vec.ensures ∙ front-all xs read c.loop-name.invariant at
+    c.from_vec.ensures ∙ prefix-all xs read c.loop-name.invariant at

@@ -6,7 +6,8 @@ use Rattle.std.proofs.lemmas.Option.{MatchOption-at_some}
 use Rattle.bmx_types.specs.Words.{name_word}
 use Rattle.bmx_types.specs.declared.values.Val.{Val}
 use Rattle.bmx_types.specs.declared.values.Val.TheVariants as val
-use Rattle.bmx_graph.specs.State.{State, put}
+use Rattle.bmx_graph.specs.State.{State}
+use Rattle.bmx_types.specs.Updates.{put}
 use Rattle.bmx_graph.specs.Step.{with_register, next_name}
 use Rattle.bmx_graph.specs.Graphs.{state_of, same_name}
 use Rattle.bmx_graph.proofs.States.{state_of-from, objects-put, get_or-set_put, with_new-from, OnErr-from}

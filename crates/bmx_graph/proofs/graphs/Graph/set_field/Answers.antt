@@ -3,7 +3,7 @@ use Rattle.std.specs.Vec.{with_item}
 use Rattle.std.specs.Option.{option_map, option_copied_mut}
 use Rattle.std.specs.HashMap.{get}
 use Rattle.bmx_types.specs.declared.values.Val.{Val}
-use Rattle.bmx_graph.specs.State.{put}
+use Rattle.bmx_types.specs.Updates.{put}
 use Rattle.bmx_graph.specs.Graphs.{state_of, same_name}
 use Rattle.bmx_graph.proofs.States.{state_of-from, objects-put, fields-found, field-within, copied-found}
 use Rattle.bmx_graph.proofs.graphs.Graph.set_field.Goals as goal

@@ -3,7 +3,8 @@ use Rattle.std.proofs.lemmas.Option.{MatchOption-at_some}
 use Rattle.bmx_types.specs.Words.{name_word}
 use Rattle.bmx_types.specs.declared.values.Val.TheVariants as val
 use Rattle.bmx_segment.specs.Headers.{kind_number}
-use Rattle.bmx_graph.specs.State.{State, put}
+use Rattle.bmx_graph.specs.State.{State}
+use Rattle.bmx_types.specs.Updates.{put}
 use Rattle.bmx_graph.specs.Step.{with_register}
 use Rattle.bmx_graph.proofs.States.{with_new-from}
 use Rattle.bmx_replica.specs.declared.words.Word.{Word}

@@ -4,8 +4,7 @@ use Rattle.std.specs.Option.{option_map}
 use Rattle.bmx_types.specs.declared.values.Val.{Val}
 use Rattle.bmx_types.specs.declared.values.Val.TheVariants as val
 use Rattle.bmx_segment.specs.Headers.{kind_number}
-use Rattle.bmx_graph.specs.State.{put}
-use Rattle.bmx_segment.specs.Updates.{Puts}
+use Rattle.bmx_types.specs.Updates.{put, Puts}
 use Rattle.bmx_replica.specs.declared.words.Word.{Word}
 use Rattle.std.specs.Prelude.{IsSomeAnd}
 use Rattle.bmx_segment.specs.Stores.{Writes}

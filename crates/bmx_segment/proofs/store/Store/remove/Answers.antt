@@ -1,7 +1,7 @@
 use Rattle.std.proofs.Common.{◌≡◌, ◌≢◌, ℕ, ◌+◌, ◌-◌, ◌<◌, List, length, get_or, set, None, sym, ap, subst, ◌∙◌, arith}
 use Rattle.std.specs.Prelude.{slice_index}
 use Rattle.std.proofs.lemmas.List.{length-set, get_or_read, get_or-set_same, get_or-set_other}
-use Rattle.bmx_segment.specs.Updates.{Puts}
+use Rattle.bmx_types.specs.Updates.{Puts}
 use Rattle.bmx_segment.specs.Blocks.{Block, blank_block}
 use Rattle.bmx_segment.specs.Stores.{block_at, segment_key}
 use Rattle.bmx_segment.specs.Inside.Stores.{Mapped, IsAt, IsStored, rank_of, rank_in}

@@ -1,4 +1,4 @@
--- Two lists of things, each of which fits behind those before it, are the same where they spell the front of the
+-- Two lists of things, each of which fits behind those before it, are the same where they spell the start of the
 -- same bytes and neither can go on.
 use Rattle.std.proofs.Common.{◌≡◌, ℕ, ◌<◌, ◌≤◌, ◌⊎◌, List, [], ◌∷◌, ◌++◌, length, refl, sym, ap, subst, ◌∙◌, append_assoc, arith, inl, inr}
 use Rattle.std.specs.List.{flat_map}
@@ -31,19 +31,19 @@ stopped {A = A} spell Fits Wrong n laws before y ys r s fit (inr wrong) le e =
 in_front : {A : Type 0} (spell : A → List ℕ) (x : A) (xs : List A) (r : List ℕ) → flat_map spell (x ∷ xs) ++ r ≡ spell x ++ (flat_map spell xs ++ r)
 in_front spell x xs r = ap (λ (bytes : List ℕ). bytes ++ r) (flat_map-cons spell x xs) ∙ append_assoc (spell x) (flat_map spell xs) r
 
-pub one_front : {A : Type 0} (spell : A → List ℕ) (Fits : List A → A → Type 0) (Wrong : List A → List ℕ → Type 0) (n : ℕ) → AreSpelled A spell Fits Wrong
+pub one_prefix : {A : Type 0} (spell : A → List ℕ) (Fits : List A → A → Type 0) (Wrong : List A → List ℕ → Type 0) (n : ℕ) → AreSpelled A spell Fits Wrong
     → (before xs ys : List A) (r s : List ℕ) → EachFits Fits before xs → EachFits Fits before ys → Ends n Wrong (before ++ xs) r → Ends n Wrong (before ++ ys) s
     → flat_map spell xs ++ r ≡ flat_map spell ys ++ s → (xs ≡ ys) × (r ≡ s)
-one_front spell Fits Wrong n laws before [] [] r s fx fy ex ey e = (refl, e)
-one_front spell Fits Wrong n laws before [] (y ∷ ys) r s fx fy ex ey e =
+one_prefix spell Fits Wrong n laws before [] [] r s fx fy ex ey e = (refl, e)
+one_prefix spell Fits Wrong n laws before [] (y ∷ ys) r s fx fy ex ey e =
     absurd (stopped spell Fits Wrong n laws before y ys r (flat_map spell ys ++ s) fy.0 ex (bounded n Wrong (before ++ y ∷ ys) s ey) (e ∙ in_front spell y ys s))
-one_front spell Fits Wrong n laws before (x ∷ xs) [] r s fx fy ex ey e =
+one_prefix spell Fits Wrong n laws before (x ∷ xs) [] r s fx fy ex ey e =
     absurd (stopped spell Fits Wrong n laws before x xs s (flat_map spell xs ++ r) fx.0 ey (bounded n Wrong (before ++ x ∷ xs) r ex) (sym e ∙ in_front spell x xs r))
-one_front {A = A} spell Fits Wrong n laws before (x ∷ xs) (y ∷ ys) r s fx fy ex ey e =
+one_prefix {A = A} spell Fits Wrong n laws before (x ∷ xs) (y ∷ ys) r s fx fy ex ey e =
     let first = laws.one before x y (flat_map spell xs ++ r) (flat_map spell ys ++ s) fx.0 fy.0 (sym (in_front spell x xs r) ∙ e ∙ in_front spell y ys s) in
     let more_y : EachFits Fits (before ++ x ∷ []) ys = subst (λ (z : A). EachFits Fits (before ++ z ∷ []) ys) (sym first.0) fy.1 in
     let end_x : Ends n Wrong ((before ++ x ∷ []) ++ xs) r = subst (λ (b : List A). Ends n Wrong b r) (sym (append_assoc before (x ∷ []) xs)) ex in
     let end_y : Ends n Wrong ((before ++ x ∷ []) ++ ys) s =
     subst (λ (z : A). Ends n Wrong ((before ++ z ∷ []) ++ ys) s) (sym first.0) (subst (λ (b : List A). Ends n Wrong b s) (sym (append_assoc before (y ∷ []) ys)) ey) in
-    let others = one_front spell Fits Wrong n laws (before ++ x ∷ []) xs ys r s fx.1 more_y end_x end_y first.1 in
+    let others = one_prefix spell Fits Wrong n laws (before ++ x ∷ []) xs ys r s fx.1 more_y end_x end_y first.1 in
     (ap (λ (z : A). z ∷ xs) first.0 ∙ ap (λ (zs : List A). y ∷ zs) others.0, others.1)
