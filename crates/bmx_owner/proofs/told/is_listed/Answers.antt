@@ -3,7 +3,7 @@ use Rattle.std.specs.List.{list_any}
 use Rattle.std.specs.List.Sorted.{IsStrictlyIncreasing}
 use Rattle.std.proofs.lemmas.Fn.{always_returns_same}
 use Rattle.bmx_owner.proofs.Places.{is_listed-searched}
-use Rattle.bmx_owner.proofs.entering.is_listed.Goals as goal
+use Rattle.bmx_owner.proofs.told.is_listed.Goals as goal
 
 pub returns : goal.returns
 returns c =

@@ -1,5 +1,5 @@
 -- Filters that keep a prefix or the rest of a list, and what is found in a filter.
-use Rattle.std.proofs.Common.{◌≡◌, ℕ, zero, suc, ◌+◌, ◌<◌, ◌≤◌, Bool, true, false, cond, not, List, [], ◌∷◌, ◌++◌, length, get_or, take, drop, Some, None, refl, sym, ap, ◌∙◌, arith, filter, find, All, AllPairs, count_by}
+use Rattle.std.proofs.Common.{◌≡◌, ℕ, zero, suc, ◌+◌, ◌<◌, ◌≤◌, Bool, true, false, cond, not, List, [], ◌∷◌, ◌++◌, length, get_or, take, drop, Some, None, refl, sym, ap, ◌∙◌, subst, arith, filter, find, All, AllPairs, count_by}
 use Rattle.std.specs.List.{AllWithin}
 use Rattle.std.proofs.lemmas.Bool.{cond_both, cond-true, cond-false}
 use Rattle.std.proofs.lemmas.List.Elements.{All-append, All-head, All-tail}
@@ -86,6 +86,14 @@ module _ {X : Type 0} where
       unpassed true b h e = sym e ∙ h refl
       unpassed false b h e = refl
 
+  -- what is found passes
+  pub find_passes : (p : X → Bool) (xs : List X) (x : X) → find p xs ≡ Some x → p x ≡ true
+  find_passes p [] x e = cc
+  find_passes p (y ∷ xs) x e =
+      cond_both (p y) (Some y) (find p xs) (λ o. o ≡ Some x → p x ≡ true)
+      (λ h same. let is : y ≡ x = cc in subst (λ z. p z ≡ true) is h)
+      (λ _ rest. find_passes p xs x rest) e
+
   -- a search in two lists
   pub find-append_none : (p : X → Bool) (xs ys : List X) → find p xs ≡ None → find p (xs ++ ys) ≡ find p ys
   find-append_none p [] ys e = refl
@@ -105,6 +113,12 @@ module _ {X : Type 0} where
       AllPairs-cons R x (xs ++ ys)
       (All-append (R x) xs ys (λ k d within. front zero (suc k) d (omega arith) (omega arith)) (All-head (λ x. All (R x) ys) x xs across))
       (AllPairs-append R xs ys (λ i j d lt within. front (suc i) (suc j) d (omega arith) (omega arith)) rest (All-tail (λ x. All (R x) ys) x xs across))
+
+  pub AllPairs-tail : (R : X → X → Type 0) (x : X) (xs : List X) → AllPairs R (x ∷ xs) → AllPairs R xs
+  AllPairs-tail R x xs h i j d lt within = h (suc i) (suc j) d (omega arith) (omega arith)
+
+  pub AllPairs-head : (R : X → X → Type 0) (x : X) (xs : List X) → AllPairs R (x ∷ xs) → All (R x) xs
+  AllPairs-head R x xs h k d within = h zero (suc k) d (omega arith) (omega arith)
 
   -- how many a filter leaves out
   pub length-filter_not : (p : X → Bool) (xs : List X) → length (filter (λ x. not (p x)) xs) + count_by p xs ≡ length xs
