@@ -31,9 +31,11 @@ claims:
 	python3 tools/claims.py
 
 # Times a script of 2,000 lines and one of 20,000, and prints the ratio. With YARDSTICK=F, a folder with a plain program
-# of the same language and its measure.py, counts the instructions of both besides, by kind of script.
+# of the same language and its measure.py, counts the instructions of both besides, by kind of script. Times cleanings
+# of ten records beside 100 to 100,000 others too.
 bench: build
 	python3 bench/lines.py bin/bmx
+	python3 bench/cleaning.py
 ifdef YARDSTICK
 	python3 $(YARDSTICK)/measure.py bin/bmx $(YARDSTICK)/target/release/yardstick --line-writes --sizes 20000 --no-time
 endif

@@ -20,8 +20,9 @@ use Rattle.bmx_segment.specs.Heaps.{Heap}
 use Rattle.bmx_local.specs.Rooms.{Rooms, first_rooms, rooms_after, rooms_of, answer_in}
 use Rattle.bmx_local.specs.Solos.{graph_of, IsSolo}
 use Rattle.bmx_graph.specs.State.{State, opening_state}
-use Rattle.bmx_graph.specs.Step.{Act, state_after, state_after_all, Effect, effect, changed}
-use Rattle.bmx_graph.specs.Step as effects
+use Rattle.bmx_graph.specs.Step.{Act, state_after, state_after_all, effect, changed}
+use Rattle.bmx_graph.specs.declared.effects.Effect.{Effect}
+use Rattle.bmx_graph.specs.declared.effects.Effect.TheVariants as effects
 
 -- answers go on by an act
 pub answers_push : (limit : ℕ) (rooms : Rooms) (s : State) (acts : List Act) (a : Act) → AreAnswers limit rooms s acts

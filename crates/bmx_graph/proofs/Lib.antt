@@ -3,4 +3,5 @@ pub mod Excluded
 pub mod Births
 pub mod Finding
 pub mod Reaching
+pub mod Values
 mod Unreached

@@ -1,5 +1,5 @@
 -- The steps of the graph: what a node's command is answered, and what it changes.
-use Rattle.std.specs.Prelude.{◌≡◌, ℕ, ◌+◌, ◌==◌, ℤ, ◌+ℤ◌, Bool, true, false, not, ◌&&◌, if◌then◌else◌, List, [], ◌∷◌, replicate, slice_get, slice_set, Option, Some, None, is_some}
+use Rattle.std.specs.Prelude.{◌≡◌, ℕ, ◌+◌, ◌==◌, ℤ, ◌+ℤ◌, Bool, true, false, not, ◌&&◌, if◌then◌else◌, List, [], ◌∷◌, replicate, slice_get, slice_set, Option, Some, None, is_some, IsSome, ◌<◌}
 use Rattle.std.specs.Option.{option_map}
 use Rattle.std.specs.Ordering.{int_eq}
 use Rattle.std.specs.List.{list_any}
@@ -16,6 +16,8 @@ use Rattle.bmx_types.specs.declared.commands.Command.TheVariants as command
 use Rattle.bmx_types.specs.declared.commands.Refusal.TheVariants as refusal
 use Rattle.bmx_graph.specs.declared.answers.Answer.{Answer}
 use Rattle.bmx_graph.specs.declared.answers.Answer.TheVariants as answer
+use Rattle.bmx_graph.specs.declared.effects.Effect.{Effect}
+use Rattle.bmx_graph.specs.declared.effects.Effect.TheVariants.{Nothing, Makes, Sets, Stores, Holds}
 use Rattle.bmx_graph.specs.State.{State, fields_of}
 use Rattle.bmx_types.specs.Updates.{put, put_at}
 
@@ -187,19 +189,6 @@ field_at s (Some name) index = slice_get (fields_of s name) index
 
 -- ## what a command changes
 
--- what a command does to the graph where it is done
-pub data Effect : Type 0 where
-  -- nothing
-  Nothing : Effect
-  -- a new object of null fields is made, and a register refers to it
-  Makes : (register bunch size : ℕ) → Effect
-  -- a register holds the value
-  Sets : (register : ℕ) (v : Val) → Effect
-  -- a field of an object holds the value
-  Stores : (name index : ℕ) (v : Val) → Effect
-  -- the node holds a token so, or no longer
-  Holds : (name : ℕ) (hold : Option Mode) → Effect
-
 -- of the name that an operand means, if any
 abbrev pub holding : Option ℕ → Option Mode → Effect
 holding None hold = Nothing
@@ -220,6 +209,7 @@ abbrev pub raised_by : Option Val → ℤ → Option Val
 raised_by None by = None
 raised_by (Some v) by = option_map (λ k. val.Int k) (sum_of v by)
 
+-- what a command does to the graph where it is done
 abbrev pub effect : State → ℕ → Command → Effect
 effect s n (command.New register bunch size) = Makes register bunch size
 effect s n (command.Copy register value) = Sets register (value_of s n value)
@@ -241,14 +231,26 @@ changed s n (Sets register v) = with_register s n register v
 changed s n (Stores name index v) = with_field s name index v
 changed s n (Holds name hold) = with_held s n name hold
 
--- the state after a command that was answered so: a wait and a refusal change nothing
+-- what a command does that was answered so: where it waits or is refused, nothing
+abbrev pub effect_after : State → ℕ → Command → Answer → Effect
+effect_after s n c answer.Wait = Nothing
+effect_after s n c (answer.Refused why) = Nothing
+effect_after s n c answer.Nil = effect s n c
+effect_after s n c (answer.Value v) = effect s n c
+effect_after s n c answer.Yes = effect s n c
+effect_after s n c answer.No = effect s n c
+
+-- the state after a command that was answered so
 abbrev pub state_after : State → ℕ → Command → Answer → State
-state_after s n c answer.Wait = s
-state_after s n c (answer.Refused why) = s
-state_after s n c answer.Nil = changed s n (effect s n c)
-state_after s n c (answer.Value v) = changed s n (effect s n c)
-state_after s n c answer.Yes = changed s n (effect s n c)
-state_after s n c answer.No = changed s n (effect s n c)
+state_after s n c a = changed s n (effect_after s n c a)
+
+-- an effect that can be had: its register is one of the 16, and its field is there
+abbrev pub IsPossible : State → Effect → Type 0
+IsPossible s Nothing = Unit {0}
+IsPossible s (Makes register bunch size) = register < 16
+IsPossible s (Sets register v) = register < 16
+IsPossible s (Stores name index v) = IsSome (slice_get (fields_of s name) index)
+IsPossible s (Holds name hold) = Unit {0}
 
 -- what a node may answer in place of the graph's answer: it may wait for a token that it would get,
 -- and have no segment for a new object

@@ -3,12 +3,13 @@ ghost use Rattle.std.specs.List.Sorted.{IsStrictlyIncreasing};
 ghost use Rattle.bmx_types.specs.Openings.{bunches_of};
 ghost use Rattle.bmx_graph.specs.Reached.{IsReached};
 ghost use Rattle.bmx_types.specs.Words.{anchor_of};
-ghost use Rattle.bmx_types.specs.declared.commands.Command.TheVariants as command;
 
 use crate::answers::Answer;
-use crate::rules::{anchor, excludes, first_counts, null_registers, permits, register_place, sum};
+use crate::decisions::{Sight, decide};
+use crate::effects::Effect;
+use crate::rules::{anchor, first_counts, null_registers, register_place};
 use crate::walks::Walk;
-use bmx_types::{Command, Mode, Name, Names, NoMemory, NodeNo, Opening, Operand, Refusal, Val};
+use bmx_types::{Command, Mode, Name, Names, NoMemory, NodeNo, Opening, Val};
 use std::alloc::Global;
 use std::collections::HashMap;
 
@@ -31,18 +32,28 @@ pub struct Graph {
     made: [u64; NODES],
 }
 
-/// A field that a command may use: its object, and what stands in it.
-#[derive(Clone, Copy)]
-struct Found {
-    name: Name,
-    value: Val,
+impl Sight for Graph {
+    ghost use Rattle.bmx_graph.specs.Graphs.{state_of};
+
+    ghost graph = { state_of };
+
+    fn register(&self, node: NodeNo, register: u8) -> Val {
+        self.value(node, register)
+    }
+
+    fn hold(&self, node: NodeNo, name: Name) -> Option<Mode> {
+        self.held.get(&(node, name)).copied()
+    }
+
+    fn field(&self, name: Name, index: u8) -> Option<Val> {
+        Graph::field(self, name, index)
+    }
 }
 
 impl Graph {
     ghost use Rattle.bmx_graph.specs.State.{fields_of, opening_state};
-    ghost use Rattle.bmx_graph.specs.Step.{with_register, with_held, with_field, with_new, value_of, target_of, answer_of, state_after};
-    ghost use Rattle.bmx_graph.specs.Graphs.{state_of, bunches_in, IsOperand, HasRegisters};
-    ghost use Rattle.bmx_graph.specs.Inside.Parts.{IsStep, taking, is_excluded, field_refusal, FindsField};
+    ghost use Rattle.bmx_graph.specs.Step.{with_register, with_held, with_field, with_new, answer_of, state_after, changed, IsPossible};
+    ghost use Rattle.bmx_graph.specs.Graphs.{state_of, bunches_in, HasRegisters};
 
     /// The graph of a store that opens so: its births, null registers and no token held. Linear in the
     /// births and their fields.
@@ -77,39 +88,9 @@ impl Graph {
         ensures err { OnErr result (state_of self.new ≡ state_of self.old) }
         ensures bunches { bunches_in self.new ≡ bunches_in self.old }
     {
-        match *command {
-            Command::New { register, size, .. } => {
-                self.make(node, register, size)?;
-                Ok(Answer::Nil)
-            }
-            Command::Copy { register, value } => {
-                let value = self.meaning(node, value);
-                self.set_register(node, register, value);
-                Ok(Answer::Nil)
-            }
-            Command::Drop { register } => {
-                self.set_register(node, register, Val::Null);
-                Ok(Answer::Nil)
-            }
-            Command::Read { on } => self.acquire(node, on, Mode::Read),
-            Command::Write { on } => self.acquire(node, on, Mode::Write),
-            Command::Done { on } => Ok(self.release(node, on)),
-            Command::Set { on, index, value } => Ok(self.set(node, on, index, value)),
-            Command::Add { on, index, by } => Ok(self.add(node, on, index, by)),
-            Command::Get {
-                register,
-                on,
-                index,
-            } => Ok(self.get(node, register, on, index)),
-            Command::Show { on, index } => Ok(self.show(node, on, index)),
-            Command::Same { left, right } => {
-                if self.meaning(node, left) == self.meaning(node, right) {
-                    Ok(Answer::Yes)
-                } else {
-                    Ok(Answer::No)
-                }
-            }
-        }
+        let decision = decide(self, node, command);
+        self.change(node, &decision.effect)?;
+        Ok(decision.answer)
     }
 
     /// A field of an object, None where there is no object of that name or it has no such field.
@@ -156,162 +137,33 @@ impl Graph {
         walk.into_names(alloc)
     }
 
-    /// What an operand stands for at a node.
-    fn meaning(&self, node: NodeNo, operand: Operand) -> Val
-        requires { IsOperand operand }
-        ensures { result ≡ value_of (state_of self.now) node operand }
-    {
-        match operand {
-            Operand::Register(register) => self.value(node, register),
-            Operand::Anchor(bunch) => Val::Ref(anchor(bunch.get())),
-            Operand::Int(number) => Val::Int(number),
-            Operand::Null => Val::Null,
-        }
-    }
-
-    /// The name that an operand refers to at a node.
-    fn target(&self, node: NodeNo, on: Operand) -> Option<Name>
-        requires { IsOperand on }
-        ensures { result ≡ target_of (state_of self.now) node on }
-    {
-        match self.meaning(node, on) {
-            Val::Ref(name) => Some(name),
-            Val::Null | Val::Int(_) => None,
-        }
-    }
-
-    /// How a node holds the token of a name.
-    fn hold(&self, node: NodeNo, name: Name) -> Option<Mode>
-        ensures { result ≡ (state_of self.now).held node name }
-    {
-        self.held.get(&(node, name)).copied()
-    }
-
-    /// Whether another node's hold keeps a node from taking the token so.
-    fn is_excluded(&self, node: NodeNo, name: Name, wanted: Mode) -> bool
-        ensures { result ≡ is_excluded wanted (state_of self.now) node name }
-    {
-        for number in 0..8 {
-            if let Some(other) = NodeNo::new(number) {
-                if other != node && excludes(self.hold(other, name), wanted) {
-                    return true;
-                }
-            }
-        }
-        false
-    }
-
-    /// What a command on a field may use: the name that the operand refers to, and what stands in the
-    /// field. The error says why it may not.
-    fn find_field(
-        &self,
-        node: NodeNo,
-        on: Operand,
-        index: u8,
-        use_as: Mode,
-    ) -> Result<Found, Refusal>
-        requires { IsOperand on }
-        ensures ok { let s = state_of self.now in IfOk result (λ f. FindsField use_as s node (target_of s node on) index f.name f.value) }
-        ensures err { let s = state_of self.now in IfErr result (λ why. field_refusal use_as s node (target_of s node on) index ≡ Some why) }
-    {
-        let name = self.target(node, on).ok_or(Refusal::Empty)?;
-        if !permits(self.hold(node, name), use_as) {
-            return Err(Refusal::NoToken);
-        }
-        let value = self.field(name, index).ok_or(Refusal::Index)?;
-        Ok(Found { name, value })
-    }
-
-    /// A read or a write.
-    fn acquire(&mut self, node: NodeNo, on: Operand, wanted: Mode) -> Result<Answer, NoMemory>
-        requires { IsOperand on }
-        ensures ok { IfOk result (λ a. IsStep (state_of self.old) node (taking wanted on) a (state_of self.new)) }
+    /// Carries out the effect of a node's command.
+    fn change(&mut self, node: NodeNo, effect: &Effect) -> Result<(), NoMemory>
+        requires possible { IsPossible (state_of self.old) effect.now }
+        requires names { (state_of self.old).made node < 2 ^ 56 - 1 }
+        ensures ok { OnOk result (state_of self.new ≡ changed (state_of self.old) node effect.now) }
         ensures err { OnErr result (state_of self.new ≡ state_of self.old) }
         ensures bunches { bunches_in self.new ≡ bunches_in self.old }
     {
-        let Some(name) = self.target(node, on) else {
-            return Ok(Answer::Refused(Refusal::Empty));
-        };
-        if self.hold(node, name).is_some() {
-            return Ok(Answer::Refused(Refusal::Held));
-        }
-        if self.is_excluded(node, name, wanted) {
-            return Ok(Answer::Wait);
-        }
-        self.take(node, name, wanted)?;
-        Ok(Answer::Nil)
-    }
-
-    fn release(&mut self, node: NodeNo, on: Operand) -> Answer
-        requires { IsOperand on }
-        ensures step { IsStep (state_of self.old) node (command.Done on) result (state_of self.new) }
-        ensures bunches { bunches_in self.new ≡ bunches_in self.old }
-    {
-        let Some(name) = self.target(node, on) else {
-            return Answer::Refused(Refusal::Empty);
-        };
-        if self.hold(node, name).is_none() {
-            return Answer::Refused(Refusal::NoToken);
-        }
-        self.give_back(node, name);
-        Answer::Nil
-    }
-
-    fn set(&mut self, node: NodeNo, on: Operand, index: u8, value: Operand) -> Answer
-        requires on { IsOperand on }
-        requires value { IsOperand value }
-        ensures step { IsStep (state_of self.old) node (command.Set on index value) result (state_of self.new) }
-        ensures bunches { bunches_in self.new ≡ bunches_in self.old }
-    {
-        match self.find_field(node, on, index, Mode::Write) {
-            Ok(found) => {
-                let value = self.meaning(node, value);
-                self.set_field(found.name, index, value);
-                Answer::Nil
+        match *effect {
+            Effect::Nothing => Ok(()),
+            Effect::Makes { register, size, .. } => self.make(node, register, size),
+            Effect::Sets { register, value } => {
+                self.set_register(node, register, value);
+                Ok(())
             }
-            Err(why) => Answer::Refused(why),
-        }
-    }
-
-    fn add(&mut self, node: NodeNo, on: Operand, index: u8, by: i64) -> Answer
-        requires { IsOperand on }
-        ensures step { IsStep (state_of self.old) node (command.Add on index by) result (state_of self.new) }
-        ensures bunches { bunches_in self.new ≡ bunches_in self.old }
-    {
-        match self.find_field(node, on, index, Mode::Write) {
-            Ok(found) => match sum(found.value, by) {
-                Some(sum) => {
-                    self.set_field(found.name, index, Val::Int(sum));
-                    Answer::Nil
-                }
-                None => Answer::Refused(Refusal::Number),
-            },
-            Err(why) => Answer::Refused(why),
-        }
-    }
-
-    fn get(&mut self, node: NodeNo, register: u8, on: Operand, index: u8) -> Answer
-        requires register { register < 16 }
-        requires on { IsOperand on }
-        ensures step { IsStep (state_of self.old) node (command.Get register on index) result (state_of self.new) }
-        ensures bunches { bunches_in self.new ≡ bunches_in self.old }
-    {
-        match self.find_field(node, on, index, Mode::Read) {
-            Ok(found) => {
-                self.set_register(node, register, found.value);
-                Answer::Value(found.value)
+            Effect::Stores { name, index, value } => {
+                self.set_field(name, index, value);
+                Ok(())
             }
-            Err(why) => Answer::Refused(why),
-        }
-    }
-
-    fn show(&self, node: NodeNo, on: Operand, index: u8) -> Answer
-        requires { IsOperand on }
-        ensures { let s = state_of self.now in IsStep s node (command.Show on index) result s }
-    {
-        match self.find_field(node, on, index, Mode::Read) {
-            Ok(found) => Answer::Value(found.value),
-            Err(why) => Answer::Refused(why),
+            Effect::Holds {
+                name,
+                hold: Some(mode),
+            } => self.take(node, name, mode),
+            Effect::Holds { name, hold: None } => {
+                self.give_back(node, name);
+                Ok(())
+            }
         }
     }
 

@@ -3,11 +3,15 @@
 #![tactic(auto)]
 
 mod answers;
+mod decisions;
+mod effects;
 mod graphs;
 mod rules;
 mod walks;
 
 pub use answers::Answer;
+pub use decisions::{Decision, Sight, decide, target};
+pub use effects::Effect;
 pub use graphs::Graph;
 pub use rules::{permits, sum};
 

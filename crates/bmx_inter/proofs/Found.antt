@@ -6,7 +6,7 @@ use Rattle.std.proofs.lemmas.List.Kept.{AllPairs-cons, AllPairs-filter}
 use Rattle.bmx_types.specs.declared.names.Pair.{Pair}
 use Rattle.bmx_inter.specs.Order.{is_same, is_ahead, IsInOrder, find_one, with_one, ChangesOne}
 use Rattle.bmx_inter.proofs.Keys.{is_same-true, is_same-itself, key_cases, is_ahead-of, is_ahead-trans, is_ahead-crossed, is_behind-crossed, is_ahead-turned, is_behind-turned}
-use Rattle.bmx_inter.proofs.Parts.{find-filter_kept, find-filter_dropped, find-append_none, find-append_last, AllPairs-append}
+use Rattle.bmx_shelves.proofs.Parts.{find-filter_kept, find-filter_dropped, find-append_none, find-append_last, AllPairs-append}
 
 clash : (b : Bool) → b ≡ true → b ≡ false → ⊥
 clash b t f = let e : true ≡ false = sym t ∙ f in cc

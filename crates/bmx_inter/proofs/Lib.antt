@@ -1,4 +1,3 @@
 pub mod Keys
-pub mod Parts
 pub mod Places
 pub mod Found

@@ -8,7 +8,7 @@ use Rattle.bmx_types.specs.declared.names.Pair.{Pair}
 use Rattle.bmx_inter.specs.Order.{is_same, is_ahead, is_listed, IsInOrder, with_one}
 use Rattle.bmx_inter.specs.Inside.Search.{StandsAt, FitsAt}
 use Rattle.bmx_inter.proofs.Keys.{key_cases, is_behind-of, is_same-ahead, is_same-behind, is_behind-ahead, is_ahead-trans, is_ahead-before_same, is_behind-after_same}
-use Rattle.bmx_inter.proofs.Parts.{filter_front, filter_rest, find_at, find_none}
+use Rattle.bmx_shelves.proofs.Parts.{filter_front, filter_rest, find_at, find_none}
 
 clash : {b : Bool} → b ≡ true → b ≡ false → ⊥
 clash t f = let e : true ≡ false = sym t ∙ f in cc

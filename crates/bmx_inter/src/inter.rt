@@ -1,4 +1,4 @@
-ghost use Rattle.std.specs.Prelude.{◌≡◌, ℕ, ◌+◌, ◌≤◌, ◌<◌, Bool, [], slice_get, OnOk, OnErr};
+ghost use Rattle.std.specs.Prelude.{◌≡◌, ℕ, ◌+◌, ◌^◌, ◌≤◌, ◌<◌, Bool, [], slice_get, OnOk, OnErr};
 
 use crate::order::{OfPair, is_listed, is_rising, put};
 use bmx_types::{BunchNo, Name, NoMemory, Pair, Pairs};
@@ -189,6 +189,7 @@ impl Inter {
         ensures stubs { self.new.stubs ≡ self.old.stubs }
         ensures scions { self.new.scions ≡ scions_cleaned bunch clock listed.now self.old.scions }
         ensures count { result ≡ stale_count bunch clock listed.now self.old.scions }
+        ensures small { result < 2 ^ 63 }
         ensures spare { self.old.spare ≤ self.new.spare }
     {
         let listed = listed.as_slice();

@@ -1,4 +1,7 @@
 pub mod Keys
 pub mod Parts
+pub mod Counts
 pub mod Places
 pub mod Found
+pub mod Named
+pub mod Walks

@@ -1,7 +1,8 @@
-ghost use Rattle.std.specs.Prelude.{◌≡◌, ◌+◌, ◌≤◌, ◌<◌, ◌↔◌, ◌==◌, [], length, slice_get, Some, OnOk, OnErr, IfOk, IsTrue, MatchResult};
-ghost use Rattle.std.specs.List.{list_any};
+ghost use Rattle.std.specs.Prelude.{◌≡◌, ◌+◌, ◌^◌, ◌≤◌, ◌<◌, ◌↔◌, [], length, slice_get, Some, OnOk, OnErr, IfOk, IsTrue, MatchResult};
 ghost use Rattle.std.specs.List.Sorted.{IsStrictlyIncreasing};
 
+use crate::told::{SEEN, Told, end_names, place_of};
+use bmx_shelves::Shelves;
 use bmx_types::{BunchNo, Items, Name, Names, NoMemory, NodeNo};
 use std::alloc::Global;
 use std::marker::Model;
@@ -29,14 +30,14 @@ impl Record {
     ghost use Rattle.bmx_owner.specs.Records.{is_of, is_under, is_settled, is_ahead};
 
     /// Whether it is the record of that name and node.
-    fn is_of(&self, name: Name, node: NodeNo) -> bool
+    pub(crate) fn is_of(&self, name: Name, node: NodeNo) -> bool
         ensures { result ≡ is_of name node self.now }
     {
         self.name == name && self.from == node
     }
 
     /// Whether it is of that bunch and node.
-    fn is_under(&self, bunch: BunchNo, node: NodeNo) -> bool
+    pub(crate) fn is_under(&self, bunch: BunchNo, node: NodeNo) -> bool
         ensures { result ≡ is_under bunch node self.now }
     {
         self.bunch == bunch && self.from == node
@@ -44,7 +45,7 @@ impl Record {
 
     /// Whether no letter later than a table bears on it: one made when its maker had issued `sent`
     /// letters to this node and taken `got` from it.
-    fn is_settled(&self, sent: u64, got: u64) -> bool
+    pub(crate) fn is_settled(&self, sent: u64, got: u64) -> bool
         ensures { result ≡ is_settled sent got self.now }
     {
         self.sent <= got && self.got <= sent
@@ -52,7 +53,7 @@ impl Record {
 
     /// Whether it stands before the record of that name and node: its name is smaller, or its name is
     /// that one and its node is smaller.
-    fn is_ahead(&self, name: Name, node: NodeNo) -> bool
+    pub(crate) fn is_ahead(&self, name: Name, node: NodeNo) -> bool
         ensures { result ≡ is_ahead name node self.now }
     {
         let (word, other) = (self.name.word(), name.word());
@@ -65,17 +66,23 @@ impl Record {
 #[derive(Drop)]
 pub struct Records {
     records: Vec<Record>,
+    /// The names of the records from each node, on a linked list of its own. There is none before room
+    /// was made.
+    names: Option<Shelves<Name>>,
+    /// For how many more records there is room.
+    room: usize,
 }
 
 impl Model for Records {
-    ghost use Rattle.std.specs.Prelude.{◌-◌, vec_len, vec_capacity};
-    ghost use Rattle.bmx_owner.specs.Records.{Entering, IsInOrder};
+    ghost use Rattle.std.specs.Prelude.{vec_len, vec_capacity};
+    ghost use Rattle.bmx_owner.specs.Records.{Entering};
+    ghost use Rattle.bmx_owner.specs.Inside.Named.{Kept};
 
     ghost Value = { Entering };
 
-    ghost view = { λ a. record { list = a.records.items; spare = vec_capacity a.records - vec_len a.records } };
+    ghost view = { λ a. record { list = a.records.items; spare = a.room } };
 
-    ghost invariant = { λ a. IsInOrder a.records.items };
+    ghost invariant = { λ a. Kept a.records.items (vec_len a.records) (vec_capacity a.records) a.room a.names };
 }
 
 impl Records {
@@ -89,17 +96,26 @@ impl Records {
     {
         Records {
             records: Vec::new(alloc),
+            names: None,
+            room: 0,
         }
     }
 
-    /// Makes room for so many more records. Linear in the records where it must move them.
+    /// Makes room for so many more records. Linear in how many more than there was room for, and in the
+    /// records where it must move them.
     pub fn reserve(&mut self, n: u32) -> Result<(), NoMemory>
         ensures list { self.new.list ≡ self.old.list }
         ensures ok { OnOk result (n ≤ self.new.spare) }
         ensures err { OnErr result (self.new.spare < n) }
         ensures spare { self.old.spare ≤ self.new.spare }
     {
-        self.records.reserve(n as usize)?;
+        let n = n as usize;
+        if n > self.room {
+            self.records.reserve(n)?;
+            let alloc = *self.records.allocator();
+            make_room(&mut self.names, alloc, (n - self.room) as u32)?;
+            self.room = n;
+        }
         Ok(())
     }
 
@@ -187,7 +203,8 @@ impl Records {
     /// refers to by way of this one, and was made when it had issued `sent` letters to this node and
     /// taken `got` from it. Removes each record of that bunch and node whose name isn't listed and on
     /// which no later letter bears: its `sent` is at most `got`, and its `got` at most `sent`. Answers
-    /// how many went. One pass over the records, with a logarithmic search for each that may go.
+    /// how many went. Looks at the records from that node alone, with a logarithmic search for each;
+    /// only where some go one pass moves the others together.
     pub fn clean(
         &mut self,
         bunch: BunchNo,
@@ -199,13 +216,23 @@ impl Records {
         requires { IsStrictlyIncreasing listed.now }
         ensures list { self.new.list ≡ cleaned self.old.list bunch from sent got listed.now }
         ensures count { result ≡ stale_count self.old.list bunch from sent got listed.now }
+        ensures small { result < 2 ^ 63 }
         ensures spare { self.old.spare + result ≤ self.new.spare }
     {
+        let told = Told {
+            bunch,
+            from,
+            sent,
+            got,
+            listed,
+        };
         let before = self.records.len();
-        self.records.retain(|r| {
-            !(r.is_under(bunch, from) && r.is_settled(sent, got) && !is_listed(listed, r.name))
-        });
-        (before - self.records.len()) as u64
+        if walk(&mut self.names, self.records.as_slice(), &told) {
+            self.records.retain(|r| !told.ends(r));
+        }
+        let gone = before - self.records.len();
+        self.room += gone;
+        gone as u64
     }
 
     /// The record of that name and node, or else a blank one of that bunch.
@@ -232,6 +259,8 @@ impl Records {
             Err(i) => {
                 let inserted = self.records.insert(i, entry).is_ok();
                 prove!(inserted);
+                note(&mut self.names, &entry);
+                self.room -= 1;
             }
         }
     }
@@ -240,23 +269,49 @@ impl Records {
     fn search(&self, name: Name, node: NodeNo) -> Result<usize, usize>
         ensures { MatchResult result (StandsAt self.now.list name node) (FitsAt self.now.list name node) }
     {
-        let i = self.records.partition_point(|r| r.is_ahead(name, node));
-        match self.records.get(i) {
-            Some(record) if record.is_of(name, node) => Ok(i),
-            _ => Err(i),
-        }
+        place_of(self.records.as_slice(), name, node)
     }
 }
 
-/// Whether rising names list this one. Takes logarithmic time.
-fn is_listed(names: &Names, name: Name) -> bool
-    requires { IsStrictlyIncreasing names.now }
-    ensures { result ≡ list_any (λ x. x == name) names.now }
+ghost use Rattle.std.specs.Prelude.{ℕ, List, Option, not, filter, count_by, IsFalse};
+ghost use Rattle.bmx_shelves.specs.Shelves.{Shelved};
+ghost use Rattle.bmx_owner.specs.declared.entering.Record.{Record};
+ghost use Rattle.bmx_owner.specs.Records.{IsInOrder, is_stale};
+ghost use Rattle.bmx_owner.specs.Inside.Named.{AreShelved, HasOneMore};
+
+/// Makes room for the names of so many more records.
+fn make_room(names: &mut Option<Shelves<Name>>, alloc: Global, more: u32) -> Result<(), NoMemory>
+    ensures ok { OnOk result ((list : List Record) (room : ℕ) → AreShelved list room names.old → AreShelved list (room + more) names.new) }
+    ensures err { OnErr result ((list : List Record) (room : ℕ) → AreShelved list room names.old → AreShelved list room names.new) }
 {
-    names
-        .as_slice()
-        .binary_search_by_key(&name.word(), |x| x.word())
-        .is_ok()
+    if names.is_none() {
+        *names = Some(Shelves::new(alloc, SEEN + 1)?);
+    }
+    let Some(shelves) = names else { unreachable!() };
+    shelves.make_room(more)
+}
+
+/// Notes the name of a new record on its node's shelf.
+fn note(names: &mut Option<Shelves<Name>>, entry: &Record)
+    requires { (list : List Record) × (room : ℕ) × (0 < room) × AreShelved list room names.old }
+    ensures { (old new : List Record) (room : ℕ) → AreShelved old (room + 1) names.old → HasOneMore entry.now old new → AreShelved new room names.new }
+{
+    let Some(shelves) = names else { unreachable!() };
+    shelves.push(entry.from.get() as u32, entry.name);
+}
+
+/// Takes the names of the records off their shelf that a table ends. Answers whether there was one.
+fn walk(names: &mut Option<Shelves<Name>>, records: &[Record], told: &Told) -> bool
+    requires order { IsInOrder records.now }
+    requires listed { IsStrictlyIncreasing told.now.listed.now }
+    requires shelved { (room : ℕ) × AreShelved records.now room names.old }
+    ensures names { (room : ℕ) → AreShelved records.now room names.old → AreShelved (filter (λ r. not (is_stale told.now.bunch told.now.from told.now.sent told.now.got told.now.listed.now r)) records.now) (room + count_by (is_stale told.now.bunch told.now.from told.now.sent told.now.got told.now.listed.now) records.now) names.new }
+    ensures none { IsFalse result → filter (λ r. not (is_stale told.now.bunch told.now.from told.now.sent told.now.got told.now.listed.now r)) records.now ≡ records.now }
+{
+    match names {
+        Some(shelves) => end_names(shelves, records, told),
+        None => false,
+    }
 }
 
 #[cfg(test)]

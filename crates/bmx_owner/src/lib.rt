@@ -3,5 +3,6 @@
 #![tactic(auto)]
 
 mod entering;
+mod told;
 
 pub use entering::{Record, RecordList, Records};

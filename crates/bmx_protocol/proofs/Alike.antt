@@ -13,8 +13,9 @@ use Rattle.bmx_types.specs.declared.commands.Command.TheVariants as command
 use Rattle.bmx_types.specs.declared.addresses.Place.{Place}
 use Rattle.bmx_graph.specs.State.{State}
 use Rattle.bmx_types.specs.Updates.{put}
-use Rattle.bmx_graph.specs.Step as effect_is
-use Rattle.bmx_graph.specs.Step.{value_of, target_of, reference, answer_of, set_answer, add_answer, get_answer, same_value, field_at, Effect, effect, storing, setting, raised_by}
+use Rattle.bmx_graph.specs.Step.{value_of, target_of, reference, answer_of, set_answer, add_answer, get_answer, same_value, field_at, effect, storing, setting, raised_by}
+use Rattle.bmx_graph.specs.declared.effects.Effect.{Effect}
+use Rattle.bmx_graph.specs.declared.effects.Effect.TheVariants as effect_is
 use Rattle.bmx_graph.specs.declared.answers.Answer.TheVariants as graph
 use Rattle.bmx_types.specs.declared.numbers.Mode.TheVariants as mode
 use Rattle.bmx_types.specs.declared.commands.Refusal.TheVariants as refusal

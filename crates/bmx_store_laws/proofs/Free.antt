@@ -22,8 +22,9 @@ use Rattle.bmx_graph.specs.State.{State}
 use Rattle.bmx_types.specs.Updates.{put}
 use Rattle.bmx_graph.specs.declared.answers.Answer.{Answer}
 use Rattle.bmx_graph.specs.declared.answers.Answer.TheVariants as graph
-use Rattle.bmx_graph.specs.Step.{answer_of, target_of, value_of, field_at, sum_of, raised_by, Effect, effect, storing, setting}
-use Rattle.bmx_graph.specs.Step as graph_effect
+use Rattle.bmx_graph.specs.Step.{answer_of, target_of, value_of, field_at, sum_of, raised_by, effect, storing, setting, holding}
+use Rattle.bmx_graph.specs.declared.effects.Effect.{Effect}
+use Rattle.bmx_graph.specs.declared.effects.Effect.TheVariants as graph_effect
 use Rattle.bmx_token.specs.Transitions.{Share, Note, Asks, Grants, Recalls, Returns, Transition, Operation, transition_of}
 use Rattle.bmx_protocol.specs.declared.inputs.NodeAnswer.{NodeAnswer}
 use Rattle.bmx_protocol.specs.declared.views.ViewField.{ViewField}
@@ -200,7 +201,7 @@ setting_free : (x register : ℕ) (v : Option Val) → NotRef x v → NoRefIn x 
 setting_free x register None none = tt
 setting_free x register (Some v) none = none
 
-holding_free : (x : ℕ) (name : Option ℕ) (hold : _) → NoRefIn x (graph_effect.holding name hold)
+holding_free : (x : ℕ) (name : Option ℕ) (hold : _) → NoRefIn x (holding name hold)
 holding_free x None hold = tt
 holding_free x (Some name) hold = tt
 

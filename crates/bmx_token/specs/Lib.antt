@@ -3,3 +3,4 @@ pub mod Tokens
 pub mod Transitions
 pub mod Laws
 pub mod Examples
+pub mod Services

@@ -41,6 +41,21 @@ pub enum Served {
     Moves { to: NodeNo, rest: Queue },
 }
 
+/// What serving the queue of an owner would lead to, told before it is done.
+#[derive(Clone, Copy, Debug, PartialEq, Eq)]
+pub enum Service {
+    /// Nothing: there is no head, or it can't be served yet.
+    Idle,
+    /// The owner's own write would be ready.
+    Ready,
+    /// That node would be granted a read.
+    Read(NodeNo),
+    /// All readers would be told to give up their copies.
+    Revokes,
+    /// Ownership would move to that node.
+    Moves(NodeNo),
+}
+
 /// What a request that came by letter leads to.
 #[derive(Clone, Copy, Debug, PartialEq, Eq)]
 pub enum Requested {

@@ -8,7 +8,7 @@ mod laws;
 mod nodes;
 mod parts;
 
-pub use answers::{Acquire, Release, Requested, Revoked, Served};
+pub use answers::{Acquire, Release, Requested, Revoked, Served, Service};
 pub use laws::keeps_order;
 pub use parts::{Ask, Part, Queue, Role};
 

@@ -1,9 +1,11 @@
-ghost use Rattle.std.specs.Prelude.{◌≡◌, ◌<◌, length, drop, IsTrue, IfOk, OnOk, OnErr, true, Some, None};
+ghost use Rattle.std.specs.Prelude.{◌≡◌, ℕ, ◌<◌, length, drop, IsTrue, IfOk, OnOk, OnErr, true, Some, None};
 ghost use Rattle.bmx_types.specs.declared.numbers.Mode.TheVariants.{Read, Write};
 ghost use Rattle.bmx_token.specs.declared.parts.Role.TheVariants.{Owner};
+ghost use Rattle.bmx_token.specs.Services.{service_of, is_asking};
+ghost use Rattle.bmx_token.specs.Transitions.{can_serve};
 ghost use Rattle.bmx_token.specs.Tokens.{owner_part, child_part, parent_of, take_wanted, want_read, want_write, acquire, release, revoke, serve_alone, serve, request, granted, inval, ack};
 
-use crate::answers::{Acquire, Release, Requested, Revoked, Served};
+use crate::answers::{Acquire, Release, Requested, Revoked, Served, Service};
 use crate::nodes::{join, leave};
 use bmx_types::{Items, Mode, NoMemory, NodeNo, NodeNos};
 use std::alloc::Global;
@@ -104,6 +106,16 @@ impl Part {
         }
     }
 
+    /// Whether acquiring the token in a mode at node `me`, which has a copy or not, asks another node.
+    pub fn asks(&self, me: NodeNo, mode: Mode, copy: bool) -> bool
+        ensures { result ≡ is_asking (acquire me self.now mode copy).1 }
+    {
+        if self.held.is_some() || self.want.is_some() || self.role == Role::Owner {
+            return false;
+        }
+        mode == Mode::Write || !copy
+    }
+
     /// Takes what is wanted, where it is ready.
     fn take_wanted(&mut self, mode: Mode) -> Acquire
         ensures part { self.new ≡ (take_wanted self.old mode self.old.ready).0 }
@@ -174,6 +186,43 @@ impl Part {
             Some(owner) => Release::Answers(owner),
             None => Release::Free,
         }
+    }
+
+    /// What serving the head of the owner's queue at node `me` would lead to.
+    pub fn service(&self, me: NodeNo) -> Service
+        ensures { result ≡ service_of (serve me self.now).1 }
+    {
+        if self.role != Role::Owner || self.queue.is_empty() {
+            return Service::Idle;
+        }
+        let head = *self.queue.at(0);
+        match head.mode {
+            Mode::Read if self.held == Some(Mode::Write) || self.ready => Service::Idle,
+            Mode::Read => Service::Read(head.asker),
+            Mode::Write if self.readers.is_empty() => self.service_alone(me, head.asker),
+            Mode::Write if self.waiting.is_empty() => Service::Revokes,
+            Mode::Write => Service::Idle,
+        }
+    }
+
+    /// The same for a write at the head, where nobody else reads.
+    fn service_alone(&self, me: NodeNo, asker: NodeNo) -> Service
+        ensures { result ≡ service_of (serve_alone me self.now asker (drop 1 self.now.queue)).1 }
+    {
+        if self.held.is_some() || self.ready {
+            Service::Idle
+        } else if asker == me {
+            Service::Ready
+        } else {
+            Service::Moves(asker)
+        }
+    }
+
+    /// Whether the head of the owner's queue at node `me` can be served.
+    pub fn can_serve(&self, me: NodeNo) -> bool
+        ensures { result ≡ can_serve me self.now }
+    {
+        self.service(me) != Service::Idle
     }
 
     /// Serves the head of the owner's queue at node `me`, where it can be served.
@@ -248,6 +297,13 @@ impl Part {
                 Ok(Requested::Queued)
             }
         }
+    }
+
+    /// Whether a grant would be taken in, whoever sends it.
+    pub fn awaits(&self, mode: Mode) -> bool
+        ensures { (from : ℕ) → result ≡ (granted self.now from mode).1 }
+    {
+        self.role != Role::Owner && self.want == Some(mode) && !self.ready
     }
 
     /// Takes in a grant. False where nothing of that mode is wanted that isn't there.

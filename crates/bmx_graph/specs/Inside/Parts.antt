@@ -1,4 +1,4 @@
--- The parts of a command, as the private functions of `Graph` do them.
+-- The parts of a command, as private functions do them.
 use Rattle.std.specs.Prelude.{◌≡◌, ℕ, Bool, true, if◌then◌else◌, Option, Some, None, is_some, slice_get}
 use Rattle.bmx_types.specs.declared.values.Val.{Val}
 use Rattle.bmx_types.specs.declared.numbers.Mode.{Mode}
@@ -9,8 +9,9 @@ use Rattle.bmx_types.specs.declared.commands.Command.TheVariants as command
 use Rattle.bmx_types.specs.declared.commands.Refusal.{Refusal}
 use Rattle.bmx_types.specs.declared.commands.Refusal.TheVariants as refusal
 use Rattle.bmx_graph.specs.declared.answers.Answer.{Answer}
+use Rattle.bmx_graph.specs.declared.decisions.Decision.{Decision}
 use Rattle.bmx_graph.specs.State.{State, fields_of}
-use Rattle.bmx_graph.specs.Step.{is_writer, other_holds, other_writes, answer_of, state_after}
+use Rattle.bmx_graph.specs.Step.{is_writer, other_holds, other_writes, answer_of, effect_after, state_after, IsPossible}
 
 -- a hold gives the right to read, or to write
 abbrev pub permits : Mode → Option Mode → Bool
@@ -26,6 +27,12 @@ excludes mode.Write hold = is_some hold
 pub record IsStep (s : State) (n : ℕ) (c : Command) (a : Answer) (t : State) : Type 0 where
   pub answered : a ≡ answer_of s n c
   pub changed : t ≡ state_after s n c a
+
+-- what comes of a command, and can be done
+pub record Decides (s : State) (n : ℕ) (c : Command) (d : Decision) : Type 0 where
+  pub answered : d.answer ≡ answer_of s n c
+  pub effected : d.effect ≡ effect_after s n c d.answer
+  pub possible : IsPossible s d.effect
 
 -- the command that takes a token
 abbrev pub taking : Mode → Operand → Command

@@ -18,6 +18,7 @@ fn name(count: u64) -> Result<Name, Fail> {
     Ok(Name::new(node(0)?, count).ok_or("no name")?)
 }
 
+/// A record of bunch 0.
 fn record(count: u64, from: u8, sent: u64, got: u64) -> Result<Record, Fail> {
     Ok(Record {
         name: name(count)?,
@@ -38,51 +39,54 @@ fn with_room(alloc: Global) -> Result<Records, Fail>
 
 #[test]
 fn the_larger_letter_stands(rt: HostRuntime) -> Result<(), Fail> {
+    let (given, taken) = (record(2, 1, 5, 0)?, record(2, 1, 5, 4)?);
+    let (two, first, third, one) = (name(2)?, bunch(0)?, bunch(3)?, node(1)?);
     let mut records = with_room(rt.alloc())?;
     assert!(rt; records.is_empty());
-    records.give(name(2)?, bunch(0)?, node(1)?, 5);
-    records.give(name(2)?, bunch(0)?, node(1)?, 3);
-    assert_eq!(rt;
-        records.list(rt.alloc())?.as_slice(),
-        [record(2, 1, 5, 0)?].as_slice()
-    );
-    records.take_over(name(2)?, bunch(3)?, node(1)?, 4);
-    records.take_over(name(2)?, bunch(0)?, node(1)?, 2);
-    assert_eq!(rt;
-        records.list(rt.alloc())?.as_slice(),
-        [record(2, 1, 5, 4)?].as_slice()
-    );
+    records.give(two, first, one, 5);
+    records.give(two, first, one, 3);
+    assert_eq!(rt; records.find(two, one), Some(given));
+    records.take_over(two, third, one, 4);
+    records.take_over(two, first, one, 2);
+    assert_eq!(rt; records.list(rt.alloc())?.as_slice(), [taken].as_slice());
     Ok(())
 }
 
 #[test]
 fn records_by_name_and_node(rt: HostRuntime) -> Result<(), Fail> {
+    let (a, b, c) = (
+        record(2, 4, 0, 6)?,
+        record(2, 7, 2, 0)?,
+        record(3, 1, 1, 0)?,
+    );
+    let (other, four) = (node(1)?, name(4)?);
     let mut records = with_room(rt.alloc())?;
-    records.give(name(3)?, bunch(0)?, node(1)?, 1);
-    records.give(name(2)?, bunch(0)?, node(7)?, 2);
-    records.take_over(name(2)?, bunch(0)?, node(4)?, 6);
-    assert_eq!(rt; records.len(), 3);
-    for (i, want) in [
-        (0, record(2, 4, 0, 6)?),
-        (1, record(2, 7, 2, 0)?),
-        (2, record(3, 1, 1, 0)?),
-    ] {
-        assert!(rt; i < records.len());
-        assert_eq!(rt; records.at(i), want, "at {i}");
-    }
-    assert_eq!(rt; records.find(name(2)?, node(7)?), Some(record(2, 7, 2, 0)?));
-    assert_eq!(rt; records.find(name(2)?, node(1)?), None);
-    assert!(rt; records.has(name(2)?));
-    assert!(rt; records.has(name(3)?));
-    assert!(rt; !records.has(name(1)?));
-    assert!(rt; !records.has(name(4)?));
+    records.give(c.name, c.bunch, c.from, 1);
+    records.give(b.name, b.bunch, b.from, 2);
+    records.take_over(a.name, a.bunch, a.from, 6);
+    assert_eq!(rt; records.list(rt.alloc())?.as_slice(), [a, b, c].as_slice());
+    assert!(rt; records.len() == 3);
+    assert_eq!(rt; records.at(1), b);
+    assert_eq!(rt; records.find(b.name, b.from), Some(b));
+    assert_eq!(rt; records.find(b.name, other), None);
+    assert!(rt; records.has(c.name));
+    assert!(rt; !records.has(four));
     Ok(())
 }
 
-/// A record given by letter 3 and handed over by letter 4, of bunch 0 from node 1.
+/// What a table leaves of a record given by letter 3 and handed over by letter 4, of bunch 0 from node 1.
+fn left(alloc: Global, of: u8, from: u8, sent: u64, got: u64) -> Result<u64, Fail> {
+    let none = Names::new(alloc);
+    let (two, first, one) = (name(2)?, bunch(0)?, node(1)?);
+    let (of, from) = (bunch(of)?, node(from)?);
+    let mut records = with_room(alloc)?;
+    records.give(two, first, one, 3);
+    records.take_over(two, first, one, 4);
+    Ok(records.clean(of, from, sent, got, &none))
+}
+
 #[test]
 fn what_a_table_ends(rt: HostRuntime) -> Result<(), Fail> {
-    let none = Names::new(rt.alloc());
     for (of, from, sent, got, went) in [
         (0, 1, 4, 3, 1),
         (0, 1, 5, 9, 1),
@@ -91,32 +95,26 @@ fn what_a_table_ends(rt: HostRuntime) -> Result<(), Fail> {
         (1, 1, 5, 9, 0),
         (0, 2, 5, 9, 0),
     ] {
-        let mut records = with_room(rt.alloc())?;
-        records.give(name(2)?, bunch(0)?, node(1)?, 3);
-        records.take_over(name(2)?, bunch(0)?, node(1)?, 4);
-        let gone = records.clean(bunch(of)?, node(from)?, sent, got, &none);
         assert_eq!(rt;
-            gone,
+            left(rt.alloc(), of, from, sent, got)?,
             went,
             "bunch {of} from {from}, sent {sent}, got {got}"
         );
-        assert_eq!(rt; records.has(name(2)?), went == 0);
     }
     Ok(())
 }
 
 #[test]
 fn what_a_table_lists_stays(rt: HostRuntime) -> Result<(), Fail> {
+    let (one, two, three) = (name(1)?, name(2)?, name(3)?);
+    let (first, maker, kept) = (bunch(0)?, node(1)?, record(2, 1, 2, 0)?);
     let mut listed = Names::new(rt.alloc());
-    listed.push(name(2)?)?;
+    listed.push(two)?;
     let mut records = with_room(rt.alloc())?;
-    records.give(name(1)?, bunch(0)?, node(1)?, 1);
-    records.give(name(2)?, bunch(0)?, node(1)?, 2);
-    records.give(name(3)?, bunch(0)?, node(1)?, 3);
-    assert_eq!(rt; records.clean(bunch(0)?, node(1)?, 0, 3, &listed), 2);
-    assert_eq!(rt;
-        records.list(rt.alloc())?.as_slice(),
-        [record(2, 1, 2, 0)?].as_slice()
-    );
+    records.give(one, first, maker, 1);
+    records.give(two, first, maker, 2);
+    records.give(three, first, maker, 3);
+    assert_eq!(rt; records.clean(first, maker, 0, 3, &listed), 2);
+    assert_eq!(rt; records.list(rt.alloc())?.as_slice(), [kept].as_slice());
     Ok(())
 }

@@ -6,7 +6,7 @@ use Rattle.bmx_inter.specs.declared.inter.Scion.{Scion}
 use Rattle.bmx_inter.specs.Order.{IsInOrder}
 use Rattle.bmx_inter.specs.Inter.{Paired, scion_pair, is_stale, scions_cleaned}
 use Rattle.bmx_inter.proofs.Found.{IsInOrder-filter}
-use Rattle.bmx_inter.proofs.Parts.{length-filter_not}
+use Rattle.bmx_shelves.proofs.Parts.{length-filter_not}
 use Rattle.bmx_inter.proofs.inter.Inter.clean.Goals as goal
 
 pub returns-clause-scions : goal.returns-clause-scions

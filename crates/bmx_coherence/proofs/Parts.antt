@@ -1,0 +1,263 @@
+-- A node's part of the graph: its registers, what it holds, how many names it made, and its copies, which have the
+-- fields of the graph. What changes of a node, and effects of its commands on the graph, make of it.
+use Rattle.std.proofs.Common.{◌≡◌, ℕ, ◌+◌, refl, ap, sym, subst, ◌∙◌, Bool, true, false, cond, List, [], ◌∷◌, ◌++◌, map, zero, suc}
+use Rattle.std.specs.Prelude.{◌==◌, ◌≢◌, Option, Some, None, is_some, unwrap_or, replicate, slice_set}
+use Rattle.std.specs.Option.{option_map, option_map_or}
+use Rattle.std.proofs.lemmas.List.{map-set}
+use Rattle.bmx_types.specs.Words.{name_word}
+use Rattle.bmx_types.specs.declared.values.Val.{Val}
+use Rattle.bmx_types.specs.declared.values.Val.TheVariants as val
+use Rattle.bmx_types.specs.declared.numbers.Mode.{Mode}
+use Rattle.bmx_types.specs.declared.addresses.Info.{Info}
+use Rattle.bmx_graph.specs.State.{State, fields_of}
+use Rattle.bmx_types.specs.Updates.{put, put_at}
+use Rattle.bmx_graph.specs.Step.{Effect, Nothing, Makes as MakesOne, Sets as SetsOne, Stores, Holds, changed}
+use Rattle.bmx_graph.specs.Step as graph_step
+use Rattle.bmx_protocol.specs.declared.views.ViewField.{ViewField}
+use Rattle.bmx_protocol.specs.declared.views.ViewField.TheVariants as field
+use Rattle.bmx_protocol.specs.Nodes.{NodeState, Known, fields_known, field_of, value_in, with_field}
+use Rattle.bmx_protocol.specs.Changes.{Change, Sets, Makes, Knows, Hears, Gives, Gets, Issues, Takes, heard_of, heard, after_change, after_changes}
+use Rattle.bmx_protocol.specs.Rules.{with_share, next_name, new_object, stored, graph_changes}
+use Rattle.bmx_protocol.proofs.Changing.{Each, kept_by_each}
+use Rattle.bmx_store_laws.proofs.Basics.{eqb_apart, Two, Same, Apart, two, put_same, put_apart, put_at_row, put_at_else}
+
+-- how a node holds an object, and in which mode it wants it
+abbrev pub held_of : Option Known → Option Mode
+held_of k = option_map_or (λ j. j.part.held) k None
+
+abbrev pub want_of : Option Known → Option Mode
+want_of k = option_map_or (λ j. j.part.want) k None
+
+-- a node's state is its part of the graph
+pub record IsPart (me : ℕ) (s : NodeState) (g : State) : Type 0 where
+  pub register : (r : ℕ) → s.register r ≡ g.register me r
+  pub held : (x : ℕ) → held_of (s.known x) ≡ g.held me x
+  pub made : s.made ≡ g.made me
+  pub copies : (x : ℕ) (fields : List Val) → fields_known (s.known x) ≡ Some fields → g.object x ≡ Some fields
+
+some_is : {A : Type 0} (a b : A) → Some a ≡ Some b → a ≡ b
+some_is a b h = cc
+
+-- ## changes of what is known
+
+-- the graph is another at one name alone
+pub record IsElsewhere (me name : ℕ) (g next : State) : Type 0 where
+  pub register : (r : ℕ) → g.register me r ≡ next.register me r
+  pub held : (x : ℕ) → (name == x) ≡ false → g.held me x ≡ next.held me x
+  pub made : g.made me ≡ next.made me
+  pub objects : (x : ℕ) → (name == x) ≡ false → g.object x ≡ next.object x
+
+pub nowhere_else : (me name : ℕ) (g : State) → IsElsewhere me name g g
+nowhere_else me name g = record { register = λ r. refl; held = λ x h. refl; made = refl; objects = λ x h. refl }
+
+-- what is known fits the graph
+pub record KnowsIt (me : ℕ) (g : State) (name : ℕ) (k : Known) : Type 0 where
+  pub held : k.part.held ≡ g.held me name
+  pub fields : (fields : List Val) → fields_known (Some k) ≡ Some fields → g.object name ≡ Some fields
+
+pub part_knows : (me : ℕ) (s : NodeState) (g next : State) (name : ℕ) (k : Known) → IsElsewhere me name g next → KnowsIt me next name k →
+    IsPart me s g → IsPart me (after_change s (Knows name k)) next
+part_knows me s g next name k else it p = record {
+  register = λ r. p.register r ∙ else.register r;
+  held = λ x. held x (two name x);
+  made = p.made ∙ else.made;
+  copies = λ x. copies x (two name x);
+}
+  where
+    held : (x : ℕ) → Two name x → held_of (put s.known name (Some k) x) ≡ next.held me x
+    held x (Same e) = subst (λ (y : ℕ). held_of (put s.known name (Some k) y) ≡ next.held me y) e (ap held_of (put_same s.known name (Some k)) ∙ it.held)
+    held x (Apart h d) = ap held_of (put_apart s.known name x (Some k) h) ∙ p.held x ∙ else.held x h
+
+    copies : (x : ℕ) → Two name x → (fields : List Val) → fields_known (put s.known name (Some k) x) ≡ Some fields → next.object x ≡ Some fields
+    copies x (Same e) fields h = subst (λ (y : ℕ). (fields : List Val) → fields_known (put s.known name (Some k) y) ≡ Some fields → next.object y ≡ Some fields) e
+        (λ l d. it.fields l (ap fields_known (sym (put_same s.known name (Some k))) ∙ d)) fields h
+    copies x (Apart h d) fields e = sym (else.objects x h) ∙ p.copies x fields (ap fields_known (sym (put_apart s.known name x (Some k) h)) ∙ e)
+
+-- hearing of an object that isn't known brings no copy and no token
+part_hears : (me from : ℕ) (info : Info) (s : NodeState) (g : State) → IsPart me s g → IsPart me (after_change s (Hears from info)) g
+part_hears me from info s g p = by_known (s.known info.name) refl
+  where
+    no_fields : (fields : List Val) → None ≡ Some fields → g.object info.name ≡ Some fields
+    no_fields fields h = absurd cc
+
+    by_known : (k : Option Known) → s.known info.name ≡ k →
+        IsPart me (record s { known = cond (is_some k) s.known (put s.known info.name (Some (heard_of from info))) }) g
+    by_known (Some k) is = record { register = p.register; held = p.held; made = p.made; copies = p.copies }
+    by_known None is = part_knows me s g g info.name (heard_of from info) (nowhere_else me info.name g)
+        (record { held = sym (ap held_of is) ∙ p.held info.name; fields = no_fields }) p
+
+-- a change that leaves the part as the graph has it
+abbrev pub Leaves : ℕ → State → Change → Type 0
+Leaves me g (Sets register v) = ⊥
+Leaves me g Makes = ⊥
+Leaves me g (Knows name k) = KnowsIt me g name k
+Leaves me g (Hears from info) = Unit {0}
+Leaves me g (Gives name to seq) = Unit {0}
+Leaves me g (Gets name from seq) = Unit {0}
+Leaves me g (Issues to) = Unit {0}
+Leaves me g (Takes from) = Unit {0}
+
+part_left : (me : ℕ) (g : State) (s : NodeState) (c : Change) → Leaves me g c → IsPart me s g → IsPart me (after_change s c) g
+part_left me g s (Sets register v) none p = absurd none
+part_left me g s Makes none p = absurd none
+part_left me g s (Knows name k) it p = part_knows me s g g name k (nowhere_else me name g) it p
+part_left me g s (Hears from info) none p = part_hears me from info s g p
+part_left me g s (Gives name to seq) none p = record { register = p.register; held = p.held; made = p.made; copies = p.copies }
+part_left me g s (Gets name from seq) none p = record { register = p.register; held = p.held; made = p.made; copies = p.copies }
+part_left me g s (Issues to) none p = record { register = p.register; held = p.held; made = p.made; copies = p.copies }
+part_left me g s (Takes from) none p = record { register = p.register; held = p.held; made = p.made; copies = p.copies }
+
+pub parts_left : (me : ℕ) (g : State) (changes : List Change) → Each (Leaves me g) changes → (s : NodeState) → IsPart me s g → IsPart me (after_changes s changes) g
+parts_left me g changes each s p = kept_by_each (λ t. IsPart me t g) (Leaves me g) (λ t c h q. part_left me g t c h q) changes each s p
+
+-- ## effects at the node
+
+-- a transition leaves the fields of a copy, or takes the copy away
+pub fields_kept : (k : Known) (copy : Option (List ViewField)) (b : Bool) (fields : List Val) →
+    option_map (map value_in) (cond b copy None) ≡ Some fields → option_map (map value_in) copy ≡ Some fields
+fields_kept k copy true fields h = h
+fields_kept k copy false fields h = absurd cc
+
+-- a token is held so from now on
+pub part_holds : (me : ℕ) (s : NodeState) (g : State) (name : ℕ) (k : Known) (hold : Option Mode) → k.part.held ≡ hold →
+    ((fields : List Val) → fields_known (Some k) ≡ Some fields → g.object name ≡ Some fields) → IsPart me s g →
+    IsPart me (after_change s (Knows name k)) (changed g me (Holds name hold))
+part_holds me s g name k hold held fields p = part_knows me s g (changed g me (Holds name hold)) name k
+    (record {
+      register = λ r. refl;
+      held = λ x h. sym (put_at_row g.held me name x hold ∙ put_apart (g.held me) name x hold h);
+      made = refl;
+      objects = λ x h. refl;
+    })
+    (record { held = held ∙ sym (put_at_row g.held me name name hold ∙ put_same (g.held me) name hold); fields = fields }) p
+
+register_put : (me : ℕ) (s : NodeState) (g : State) (register : ℕ) (v : Val) → IsPart me s g → (r : ℕ) → put s.register register v r ≡ put_at g.register me register v me r
+register_put me s g register v p r = by_test (register == r) ∙ sym (put_at_row g.register me register r v)
+  where
+    by_test : (b : Bool) → cond b v (s.register r) ≡ cond b v (g.register me r)
+    by_test true = refl
+    by_test false = p.register r
+
+values_same : (v : Val) → value_in (field_of v) ≡ v
+values_same val.Null = refl
+values_same (val.Int k) = refl
+values_same (val.Ref name) = refl
+
+pub values_again : (fields : List Val) → map value_in (map field_of fields) ≡ fields
+values_again [] = refl
+values_again (v ∷ fields) = λ i. values_same v i ∷ values_again fields i
+
+nulls : (size : ℕ) → map value_in (replicate size field.Null) ≡ replicate size val.Null
+nulls zero = refl
+nulls (suc size) = ap (λ (l : List Val). val.Null ∷ l) (nulls size)
+
+-- a field of a copy is as the graph's after the same store in both
+stored_fields : (g : State) (name index : ℕ) (v : Val) (copy : Option (List ViewField)) →
+    ((fields : List Val) → option_map (map value_in) copy ≡ Some fields → g.object name ≡ Some fields) → (fields : List Val) →
+    option_map (map value_in) (option_map (λ (l : List ViewField). slice_set l index (field_of v)) copy) ≡ Some fields →
+    Some (slice_set (fields_of g name) index v) ≡ Some fields
+stored_fields g name index v None old fields h = absurd cc
+stored_fields g name index v (Some l) old fields h =
+    ap (λ (o : Option (List Val)). Some (slice_set (unwrap_or o []) index v)) (old (map value_in l) refl)
+    ∙ (λ i. Some (slice_set (map value_in l) index (sym (values_same v) i)))
+    ∙ sym (ap Some (map-set value_in l index (field_of v))) ∙ h
+
+-- a new name isn't known yet, and what a store is about is known
+abbrev pub IsReadyFor : ℕ → NodeState → Effect → Type 0
+IsReadyFor me s Nothing = Unit {0}
+IsReadyFor me s (MakesOne register bunch size) = s.known (next_name me s) ≡ None
+IsReadyFor me s (SetsOne register v) = Unit {0}
+IsReadyFor me s (Stores name index v) = is_some (s.known name) ≡ true
+IsReadyFor me s (Holds name hold) = ⊥
+
+-- what an effect of a command that is about no token changes at the node is what it changes in the graph
+pub effect_part : (me : ℕ) (s : NodeState) (g : State) (e : Effect) → IsReadyFor me s e → IsPart me s g → IsPart me (after_changes s (graph_changes me s e)) (changed g me e)
+effect_part me s g Nothing ready p = p
+effect_part me s g (SetsOne register v) ready p = record { register = register_put me s g register v p; held = p.held; made = p.made; copies = p.copies }
+effect_part me s g (Stores name index v) ready p = by_known (s.known name) refl ready
+  where
+    by_known : (k : Option Known) → s.known name ≡ k → is_some k ≡ true → IsPart me (after_changes s (stored name k index v)) (changed g me (Stores name index v))
+    by_known None is some = absurd cc
+    by_known (Some k) is some = part_knows me s g (changed g me (Stores name index v)) name (with_field index v k)
+        (record { register = λ r. refl; held = λ x h. refl; made = refl; objects = λ x h. sym (put_apart g.object name x (Some (slice_set (fields_of g name) index v)) h) })
+        (record {
+          held = sym (ap held_of is) ∙ p.held name;
+          fields = λ fields h. put_same g.object name (Some (slice_set (fields_of g name) index v))
+              ∙ stored_fields g name index v k.copy (λ old e. p.copies name old (ap fields_known is ∙ e)) fields h;
+        }) p
+effect_part me s g (MakesOne register bunch size) ready p = record {
+  register = λ r. register_put me s g register (val.Ref name) p r ∙ (λ i. put_at g.register me register (val.Ref (named i)) me r);
+  held = λ x. held x (two name x);
+  made = ap (λ (n : ℕ). n + 1) p.made ∙ sym (put_same g.made me (g.made me + 1));
+  copies = λ x fields h. (λ i. put g.object (sym named i) (Some (replicate size val.Null)) x) ∙ copies x (two name x) fields h;
+}
+  where
+    name : ℕ
+    name = next_name me s
+
+    named : name ≡ graph_step.next_name g me
+    named = ap (λ (n : ℕ). name_word me (n + 1)) p.made
+
+    held : (x : ℕ) → Two name x → held_of (put s.known name (Some (new_object bunch size)) x) ≡ g.held me x
+    held x (Same e) = subst (λ (y : ℕ). held_of (put s.known name (Some (new_object bunch size)) y) ≡ g.held me y) e
+        (ap held_of (put_same s.known name (Some (new_object bunch size))) ∙ sym (ap held_of ready) ∙ p.held name)
+    held x (Apart h d) = ap held_of (put_apart s.known name x (Some (new_object bunch size)) h) ∙ p.held x
+
+    copies : (x : ℕ) → Two name x → (fields : List Val) → fields_known (put s.known name (Some (new_object bunch size)) x) ≡ Some fields →
+        put g.object name (Some (replicate size val.Null)) x ≡ Some fields
+    copies x (Same e) fields h = subst (λ (y : ℕ). (fields : List Val) → fields_known (put s.known name (Some (new_object bunch size)) y) ≡ Some fields →
+        put g.object name (Some (replicate size val.Null)) y ≡ Some fields) e
+        (λ l d. put_same g.object name (Some (replicate size val.Null)) ∙ ap Some (sym (nulls size))
+        ∙ sym (ap fields_known (put_same s.known name (Some (new_object bunch size)))) ∙ d) fields h
+    copies x (Apart h d) fields e = put_apart g.object name x (Some (replicate size val.Null)) h
+        ∙ p.copies x fields (ap fields_known (sym (put_apart s.known name x (Some (new_object bunch size)) h)) ∙ e)
+effect_part me s g (Holds name hold) ready p = absurd ready
+
+-- ## effects elsewhere
+
+-- an effect is about another object than x, or none
+abbrev pub IsBeside : State → ℕ → ℕ → Effect → Type 0
+IsBeside g me x Nothing = Unit {0}
+IsBeside g me x (MakesOne register bunch size) = graph_step.next_name g me ≢ x
+IsBeside g me x (SetsOne register v) = Unit {0}
+IsBeside g me x (Stores name index v) = name ≢ x
+IsBeside g me x (Holds name hold) = Unit {0}
+
+-- it leaves the fields of x
+pub object_kept : (g : State) (me x : ℕ) (e : Effect) → IsBeside g me x e → (changed g me e).object x ≡ g.object x
+object_kept g me x Nothing beside = refl
+object_kept g me x (MakesOne register bunch size) beside = put_apart g.object (graph_step.next_name g me) x (Some (replicate size val.Null)) (eqb_apart (graph_step.next_name g me) x beside)
+object_kept g me x (SetsOne register v) beside = refl
+object_kept g me x (Stores name index v) beside = put_apart g.object name x (Some (slice_set (fields_of g name) index v)) (eqb_apart name x beside)
+object_kept g me x (Holds name hold) beside = refl
+
+-- another node's part stays
+pub part_else : (me n : ℕ) (s : NodeState) (g : State) (e : Effect) → (me == n) ≡ false →
+    ((x : ℕ) (fields : List Val) → fields_known (s.known x) ≡ Some fields → IsBeside g me x e) → IsPart n s g → IsPart n s (changed g me e)
+part_else me n s g e apart beside p = record {
+  register = λ r. p.register r ∙ sym (registers e r);
+  held = λ x. p.held x ∙ sym (holds e x);
+  made = p.made ∙ sym (count e);
+  copies = λ x fields h. object_kept g me x e (beside x fields h) ∙ p.copies x fields h;
+}
+  where
+    registers : (e : Effect) (r : ℕ) → (changed g me e).register n r ≡ g.register n r
+    registers Nothing r = refl
+    registers (MakesOne register bunch size) r = put_at_else g.register me register n r _ apart
+    registers (SetsOne register v) r = put_at_else g.register me register n r v apart
+    registers (Stores name index v) r = refl
+    registers (Holds name hold) r = refl
+
+    holds : (e : Effect) (x : ℕ) → (changed g me e).held n x ≡ g.held n x
+    holds Nothing x = refl
+    holds (MakesOne register bunch size) x = refl
+    holds (SetsOne register v) x = refl
+    holds (Stores name index v) x = refl
+    holds (Holds name hold) x = put_at_else g.held me name n x hold apart
+
+    count : (e : Effect) → (changed g me e).made n ≡ g.made n
+    count Nothing = refl
+    count (MakesOne register bunch size) = put_apart g.made me n (g.made me + 1) apart
+    count (SetsOne register v) = refl
+    count (Stores name index v) = refl
+    count (Holds name hold) = refl

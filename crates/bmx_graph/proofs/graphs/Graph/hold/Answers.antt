@@ -1,7 +1,0 @@
-use Rattle.std.proofs.Common.{◌∙◌}
-use Rattle.bmx_graph.specs.Graphs.{state_of}
-use Rattle.bmx_graph.proofs.graphs.Graph.hold.Goals as goal
-
-pub returns : goal.returns
-unfolding state_of
-returns c = c.copied.ensures ∙ c.get.ensures.value

@@ -1,0 +1,182 @@
+-- The laws, over every legal history.
+use Rattle.std.proofs.Common.{◌≡◌, ◌≢◌, ◌⊎◌, inl, inr, ℕ, ◌<◌, arith, refl, ap, sym, subst, ◌∙◌, false, cond, List, [], ◌∷◌, ◌++◌, length, drop, zero, suc}
+use Rattle.std.specs.Prelude.{◌||◌, Option, Some, None, IsSome, Contains}
+use Rattle.std.specs.Option.{option_map}
+use Rattle.std.proofs.lemmas.List.{append-nil}
+use Rattle.bmx_types.specs.Openings.{IsOpening}
+use Rattle.bmx_types.specs.declared.addresses.Place.{Place}
+use Rattle.bmx_types.specs.declared.addresses.Info.{Info}
+use Rattle.bmx_types.specs.Updates.{put}
+use Rattle.bmx_msg.specs.declared.letters.Letter.{Letter}
+use Rattle.bmx_token_model.proofs.Readers.{one_or_more}
+use Rattle.bmx_protocol.specs.declared.inputs.NodeAnswer.TheVariants as answer
+use Rattle.bmx_protocol.specs.declared.inputs.Input.TheVariants as input
+use Rattle.bmx_protocol.specs.declared.inputs.Done.{Done}
+use Rattle.bmx_protocol.specs.declared.events.Event.{Event}
+use Rattle.bmx_protocol.specs.Nodes.{Setting, Known, NodeState, share_of}
+use Rattle.bmx_protocol.specs.Rules.{only, infos, name_in, note_in, took}
+use Rattle.bmx_token.specs.Transitions.{Transition, note_transition}
+use Rattle.bmx_protocol.specs.Strays.{some_clash}
+use Rattle.bmx_protocol.specs.Steps.{Node, first_node, IsStep}
+use Rattle.bmx_protocol.specs.Histories.{issued, taken, in_flight, Replays, AreAfter, IsLegal}
+use Rattle.bmx_protocol.specs.Worlds.{World, world_of}
+use Rattle.bmx_protocol.proofs.Prefixes.{joined, prefix_is_legal}
+use Rattle.bmx_store_laws.specs.Inside.Seen.{seen, first_world}
+use Rattle.bmx_store_laws.proofs.Histories.{Came, came_after}
+use Rattle.bmx_store_laws.proofs.Histories as names
+use Rattle.bmx_places.specs.Ledger.{Block, block_at, block_of, LiesIn, IsOf, HasLedger}
+use Rattle.bmx_places.specs.Laws.{BlocksAreKept, HasShape, KnownAt, ToldIn, OneShape, HasPlace, At, Between, OnePlace, NoInfoClashes, NextIsTaken, NoLetterIsStray}
+use Rattle.bmx_places.specs.Laws as law
+use Rattle.bmx_places.proofs.Blocks.{Every, some_same, none_some, IsTold, hears_all}
+use Rattle.bmx_places.proofs.Next.{IsIssued, all_issued, IsTakeable, next_is_takeable}
+use Rattle.bmx_places.proofs.Kept.{Kept, one_more}
+use Rattle.bmx_places.proofs.Opened.{first_kept}
+
+-- ## along a history
+
+all_kept : (st : Setting) → IsOpening st.nodes st.limit st.births → (rest past : List Event) (nodes last : ℕ → Node) → AreAfter st past nodes →
+    IsLegal st (past ++ rest) → Kept st past nodes → Replays st nodes rest last → Kept st (past ++ rest) last
+all_kept st opening [] past nodes last reached legal kept replay =
+    subst (λ (h : List Event). Kept st h last) (sym (append-nil past)) (subst (Kept st past) replay kept)
+all_kept st opening (e ∷ rest) past nodes last reached legal kept replay =
+    let before : IsLegal st past = prefix_is_legal st past (e ∷ rest) legal in
+    let one : Kept st (past ++ e ∷ []) (put nodes e.node replay.0) =
+    one_more st past nodes e replay.0 opening before reached replay.1 (legal.fits past rest e refl) kept in
+    let came : Came st 0 (seen 0 (first_world st)) (past ++ e ∷ []) (put nodes e.node replay.0) =
+    names.one_more st 0 (seen 0 (first_world st)) past nodes e replay.0 (came_after st past nodes opening before reached 0) replay.1 (legal.fits past rest e refl) in
+    let next : past ++ e ∷ rest ≡ (past ++ e ∷ []) ++ rest = sym (joined past (e ∷ []) rest) in
+    let all : Kept st ((past ++ e ∷ []) ++ rest) last =
+    all_kept st opening rest (past ++ e ∷ []) (put nodes e.node replay.0) last came.replay (subst (IsLegal st) next legal) one replay.2 in
+    subst (λ (h : List Event). Kept st h last) (sym next) all
+
+kept_after : (st : Setting) (history : List Event) (nodes : ℕ → Node) → IsOpening st.nodes st.limit st.births → IsLegal st history → AreAfter st history nodes → Kept st history nodes
+kept_after st history nodes opening legal after = all_kept st opening history [] (first_node st) nodes refl legal (first_kept st opening) after
+
+-- ## letters in flight
+
+every_there : {A : Type 0} (P : A → Type 0) (xs : List A) (x : A) → Every P xs → Contains xs x → P x
+every_there P [] x h c = absurd (omega (arith, c.1))
+every_there P (y ∷ xs) x h c = by_place (one_or_more y xs x c) (every_there P xs x h.1)
+  where
+    by_place : (y ≡ x) ⊎ Contains xs x → (Contains xs x → P x) → P x
+    by_place (inl e) rest = subst P e h.0
+    by_place (inr d) rest = rest d
+
+every_drop : {A : Type 0} (P : A → Type 0) (k : ℕ) (xs : List A) → Every P xs → Every P (drop k xs)
+every_drop P zero [] h = tt
+every_drop P zero (x ∷ xs) h = h
+every_drop P (suc k) [] h = tt
+every_drop P (suc k) (x ∷ xs) h = every_drop P k xs h.1
+
+module _ (st : Setting) (history : List Event) (nodes : ℕ → Node) (opening : IsOpening st.nodes st.limit st.births) (legal : IsLegal st history) (after : AreAfter st history nodes) where
+  k : Kept st history nodes
+  k = kept_after st history nodes opening legal after
+
+  abbrev w : World
+  w = world_of nodes history
+
+  letter_right : (n m : ℕ) (l : Letter) → Contains (in_flight n m history) l → IsIssued k.blocks l
+  letter_right n m l there = every_there (IsIssued k.blocks) (in_flight n m history) l
+      (every_drop (IsIssued k.blocks) (length (taken n m history)) (issued n m history) (all_issued (IsIssued k.blocks) n m history k.letters)) there
+
+  info_told : (n m : ℕ) (l : Letter) (info : Info) → Contains (in_flight n m history) l → Contains (infos l.msg) info → IsTold k.blocks info
+  info_told n m l info there within = every_there (IsTold k.blocks) (infos l.msg) info (letter_right n m l there).right.told within
+
+  ledger : HasLedger st w
+  ledger = record {
+    blocks = k.blocks;
+    are = k.are;
+    belong = record {
+      entries = λ n x j e. (k.keeps n).entries x j e;
+      headers = λ n a h e. (k.keeps n).headers a h e;
+      records = λ n x m r e. k.records n x m r e;
+      told = info_told;
+    };
+  }
+
+  -- a shape is that of a block
+  record Shaped (x bunch size : ℕ) : Type 0 where
+    address : ℕ
+    block : Block
+    there : k.blocks address ≡ Some block
+    named : block.name ≡ x
+    bunch_is : block.bunch ≡ bunch
+    size_is : block.size ≡ size
+
+  shaped : (x bunch size : ℕ) → HasShape w x bunch size → Shaped x bunch size
+  shaped x bunch size (KnownAt n j e b s) =
+      let l : LiesIn k.blocks ((nodes n).places.place x) x j = (k.keeps n).entries x j e in
+      record { address = l.place.address; block = block_at x j l.place; there = l.block; named = refl; bunch_is = b; size_is = s }
+  shaped x bunch size (ToldIn n m l info there within named b s) =
+      record { address = info.place.address; block = block_of info; there = info_told n m l info there within; named = named; bunch_is = b; size_is = s }
+
+  shapes : law.ShapesAgree w
+  shapes = record {
+    shapes = λ x bunch size ob os h g. (let a = shaped x bunch size h in let c = shaped x ob os g in
+        let same : (a.block.bunch ≡ c.block.bunch) × (a.block.size ≡ c.block.size) = k.are.one_shape a.address c.address a.block c.block a.there c.there (a.named ∙ sym c.named) in
+        (sym a.bunch_is ∙ same.0 ∙ c.bunch_is, sym a.size_is ∙ same.1 ∙ c.size_is));
+    records = λ n m x bunch size r e h. (let a = shaped x bunch size h in let of : IsOf k.blocks x r.bunch = k.records n x m r e in
+        sym of.of ∙ (k.are.one_shape of.address a.address of.block a.block of.there a.there (of.named ∙ sym a.named)).0 ∙ a.bunch_is);
+  }
+
+  -- a place is that of a block
+  record Lying (x : ℕ) (p : Place) : Type 0 where
+    block : Block
+    there : k.blocks p.address ≡ Some block
+    named : block.name ≡ x
+    moves : block.moves ≡ p.moves
+
+  lying : (x : ℕ) (p : Place) → HasPlace w x p → Lying x p
+  lying x p (At n e) = by_known ((nodes n).state.known x) refl
+    where
+      by_known : (j : Option Known) → (nodes n).state.known x ≡ j → Lying x p
+      by_known None f = none_some (sym ((k.keeps n).unplaced x f) ∙ e)
+      by_known (Some j) f =
+          let l : LiesIn k.blocks ((nodes n).places.place x) x j = (k.keeps n).entries x j f in
+          let same : l.place ≡ p = some_same (sym l.lies ∙ e) in
+          subst (Lying x) same (record { block = block_at x j l.place; there = l.block; named = refl; moves = refl })
+  lying x p (Between n m l info there within named at) =
+      subst (Lying x) at (record { block = block_of info; there = info_told n m l info there within; named = named; moves = refl })
+
+  places : law.PlacesAgree w
+  places = record {
+    one = λ x p q h g moves. (let a = lying x p h in let c = lying x q g in
+        k.are.one_address p.address q.address a.block c.block a.there c.there (a.named ∙ sym c.named) (a.moves ∙ moves ∙ sym c.moves));
+    newest = λ x p q h g. (let a = lying x p h in omega (arith, a.moves, k.still p.address a.block a.there));
+    placed = λ n x j e. subst IsSome (sym ((k.keeps n).entries x j e).lies) refl;
+  }
+
+  no_clash : (from me : ℕ) (l : Letter) → Contains (in_flight from me history) l → some_clash me from (nodes me).state.known (nodes me).places (infos l.msg) ≡ false
+  no_clash from me l there = (hears_all st w k.blocks k.are me from (infos l.msg) (nodes me).state (nodes me).places (letter_right from me l there).right.told (k.keeps me) (λ n. refl)).0
+
+  next_taken : (from me stamp : ℕ) (l : Letter) (rest : List Letter) (done : Done) (then : Node) → from < st.nodes → me < st.nodes → in_flight from me history ≡ l ∷ rest →
+      IsStep st me (nodes me) stamp (input.Take from l) done then → done.answer ≡ answer.Nil
+  next_taken from me stamp l rest done then real real_me first step =
+      let t : IsTakeable st me from (nodes me) l = next_is_takeable st history nodes opening legal after k.blocks k.are k.still me from (k.keeps me) k.letters l rest first real_me real in
+      ap (λ (d : Done). d.answer) step.outcome
+      ∙ (λ i. (cond (t.good i || (step.is_told.clash ∙ t.calm) i) (only answer.Stray) (took s step.told.lies from l.seq l.msg (s.known (name_in l.msg)) (note_transition me from (note_in l.msg) (option_map share_of (s.known (name_in l.msg)))))).answer)
+      ∙ ap (λ (o : Option Transition). (took s step.told.lies from l.seq l.msg (s.known (name_in l.msg)) o).answer) t.turns
+    where
+      s : NodeState
+      s = (nodes me).state
+
+-- ## the laws
+
+pub blocks_are_kept : BlocksAreKept
+blocks_are_kept st history nodes opening legal after = ledger st history nodes opening legal after
+
+pub one_shape : OneShape
+one_shape st history nodes opening legal after = shapes st history nodes opening legal after
+
+pub one_place : OnePlace
+one_place st history nodes opening legal after = places st history nodes opening legal after
+
+pub no_info_clashes : NoInfoClashes
+no_info_clashes st history nodes opening legal after = no_clash st history nodes opening legal after
+
+pub next_is_taken : NextIsTaken
+next_is_taken st history nodes opening legal after = next_taken st history nodes opening legal after
+
+pub no_letter_is_stray : NoLetterIsStray
+no_letter_is_stray st history e opening legal there =
+    every_there (λ (f : Event). f.done.answer ≢ answer.Stray) history e (kept_after st history legal.steps.0 opening legal legal.steps.1).answers there

@@ -1,0 +1,281 @@
+-- No Info of a block clashes at a node whose headers are of blocks, and once it is learnt they still are.
+use Rattle.std.proofs.Common.{◌≡◌, ℕ, ◌+◌, ◌^◌, ◌<◌, ◌≤◌, arith, refl, ap, sym, subst, ◌∙◌, Bool, true, false, cond, List, [], ◌∷◌, map, length, zero, suc}
+use Rattle.std.specs.Prelude.{◌==◌, ◌&&◌, ◌||◌, not, nat_lt, Option, Some, None, is_some}
+use Rattle.std.specs.Option.{option_map_or}
+use Rattle.std.proofs.lemmas.Bool.Decides.{nat_tests}
+use Rattle.bmx_types.specs.Words.{address_word, home_of, segment_of, index_of}
+use Rattle.bmx_types.specs.declared.addresses.Place.{Place}
+use Rattle.bmx_types.specs.declared.addresses.Info.{Info}
+use Rattle.bmx_types.specs.Updates.{put}
+use Rattle.bmx_protocol.specs.declared.views.ViewField.{ViewField}
+use Rattle.bmx_protocol.specs.Nodes.{Setting, Known, NodeState}
+use Rattle.bmx_protocol.specs.Places.{Lives, Went, Header, Places, with_object, overlaps, any_below, is_another, is_across, is_in_the_way, is_barred, with_went, with_learnt, learn_at, with_all_learnt, differs, clashes_at}
+use Rattle.bmx_protocol.specs.Changes.{Hears, heard_of, heard, after_change, after_changes}
+use Rattle.bmx_protocol.specs.Strays.{clashes, some_clash}
+use Rattle.bmx_protocol.specs.Worlds.{World}
+use Rattle.bmx_store_laws.proofs.Basics.{eqb_is, eqb_of, eqb_same, Two, Same, Apart, two}
+use Rattle.bmx_places.specs.Ledger.{Block, IsBlock, AreBlocks, block_at, block_of, LiesIn, Heads}
+
+-- ## addresses
+
+pub same_word : (a : ℕ) → address_word (home_of a) (segment_of a) (index_of a) ≡ a
+same_word a = omega arith
+
+pub home_again : (h s i : ℕ) → s < 2 ^ 24 → i < 2 ^ 32 → home_of (address_word h s i) ≡ h
+home_again h s i p q = omega arith
+
+pub segment_again : (h s i : ℕ) → s < 2 ^ 24 → i < 2 ^ 32 → segment_of (address_word h s i) ≡ s
+segment_again h s i p q = omega arith
+
+pub index_again : (h s i : ℕ) → i < 2 ^ 32 → index_of (address_word h s i) ≡ i
+index_again h s i q = omega arith
+
+segment_small : (a : ℕ) → segment_of a < 2 ^ 24
+segment_small a = omega arith
+
+-- ## lists and options
+
+-- each of a list
+abbrev pub Every : {A : Type 0} → (A → Type 0) → List A → Type 0
+Every P [] = Unit {0}
+Every P (x ∷ xs) = P x × Every P xs
+
+pub some_same : {A : Type 0} {x y : A} → Some x ≡ Some y → x ≡ y
+some_same e = cc
+
+pub none_some : {A B : Type 0} {x : A} → None ≡ Some x → B
+none_some e = absurd (cc)
+
+-- ## a node
+
+-- what an Info tells is of a block
+abbrev pub IsTold : (ℕ → Option Block) → Info → Type 0
+IsTold blocks info = blocks info.place.address ≡ Some (block_of info)
+
+abbrev pub AllHead : (ℕ → Option Block) → (ℕ → Option Header) → Type 0
+AllHead blocks header = (address : ℕ) (h : Header) → header address ≡ Some h → Heads blocks address h
+
+-- each entry of a node lies in its block, each header stands in front of one, and each copy has as many fields as
+-- its object
+pub record Keeps (blocks : ℕ → Option Block) (known : ℕ → Option Known) (a : Places) : Type 0 where
+  pub entries : (x : ℕ) (k : Known) → known x ≡ Some k → LiesIn blocks (a.place x) x k
+  pub unplaced : (x : ℕ) → known x ≡ None → a.place x ≡ None
+  pub headers : AllHead blocks a.header
+  pub full : (x : ℕ) (k : Known) (fields : List ViewField) → known x ≡ Some k → k.copy ≡ Some fields → length fields ≡ k.size
+
+-- ## nothing clashes
+
+none_below : (n : ℕ) (test : ℕ → Bool) → ((j : ℕ) → j < n → test j ≡ false) → any_below n test ≡ false
+none_below zero test h = refl
+none_below (suc n) test h =
+    let here : test n ≡ false = h n (omega arith) in
+    let rest : any_below n test ≡ false = none_below n test (λ j p. h j (omega (arith, p))) in
+    (λ i. here i || rest i)
+
+not_below : (a b : ℕ) → b ≤ a → nat_lt a b ≡ false
+not_below a b h = grind (arith, nat_tests)
+
+below_is : (a b : ℕ) → nat_lt a b ≡ true → a < b
+below_is a b h = grind (arith, nat_tests)
+
+module _ (st : Setting) (w : World) (blocks : ℕ → Option Block) (are : AreBlocks st w blocks) (me : ℕ) where
+  module _ (info : Info) (told : IsTold blocks info) where
+    abbrev at : ℕ
+    at = info.place.address
+
+    its : IsBlock st w at (block_of info)
+    its = are.each at (block_of info) told
+
+    -- no header is in the way
+    no_way : (header : ℕ → Option Header) → AllHead blocks header → (j : ℕ) → j < 1024 →
+        option_map_or (is_in_the_way info.name info.size (index_of at) j) (header (address_word (home_of at) (segment_of at) j)) false ≡ false
+    no_way header heads j below = by_header (header other) refl
+      where
+        other : ℕ
+        other = address_word (home_of at) (segment_of at) j
+
+        by_header : (h : Option Header) → header (address_word (home_of at) (segment_of at) j) ≡ h → option_map_or (is_in_the_way info.name info.size (index_of at) j) h false ≡ false
+        by_header None e = refl
+        by_header (Some h) e = by_two (two j (index_of at))
+          where
+            of : Heads blocks (address_word (home_of at) (segment_of at) j) h
+            of = heads (address_word (home_of at) (segment_of at) j) h e
+
+            by_two : Two j (index_of at) → is_in_the_way info.name info.size (index_of at) j h ≡ false
+            by_two (Same s) =
+                let same : of.block ≡ block_of info = some_same (sym of.there ∙ ap blocks (ap (address_word (home_of at) (segment_of at)) s ∙ same_word at) ∙ told) in
+                let named : h.name ≡ info.name = sym of.named ∙ ap (λ (b : Block). b.name) same in
+                let sized : h.size ≡ info.size = sym of.sized ∙ ap (λ (b : Block). b.size) same in
+                (λ i. cond (eqb_of s i) (is_another info.name info.size h) (is_across info.size (index_of at) j h))
+                ∙ (λ i. not (eqb_of named i && eqb_of sized i))
+            by_two (Apart f d) =
+                let small : j < 2 ^ 32 = omega (arith, below) in
+                let home : home_of (address_word (home_of at) (segment_of at) j) ≡ home_of at = home_again (home_of at) (segment_of at) j (segment_small at) small in
+                let segment : segment_of (address_word (home_of at) (segment_of at) j) ≡ segment_of at = segment_again (home_of at) (segment_of at) j (segment_small at) small in
+                let index : index_of (address_word (home_of at) (segment_of at) j) ≡ j = index_again (home_of at) (segment_of at) j small in
+                (λ i. cond (f i) (is_another info.name info.size h) (is_across info.size (index_of at) j h))
+                ∙ (λ i. overlaps (index_of at) (4 + info.size) (sym index i) (4 + sym of.sized i))
+                ∙ are.apart at (address_word (home_of at) (segment_of at) j) (block_of info) of.block told of.there (sym home) (sym segment)
+                (λ e. d (sym index ∙ ap index_of (sym e)))
+
+    not_barred : (a : Places) → AllHead blocks a.header → ((s : ℕ) → a.handed s ≡ (w.places me).handed s) → is_barred me a info.name info.size at ≡ false
+    not_barred a heads handed =
+        let inside : nat_lt 1024 (index_of at + (4 + info.size)) ≡ false = not_below 1024 (index_of at + (4 + info.size)) its.inside in
+        let free : any_below 1024 (λ j. option_map_or (is_in_the_way info.name info.size (index_of at) j) (a.header (address_word (home_of at) (segment_of at) j)) false) ≡ false =
+        none_below 1024 (λ j. option_map_or (is_in_the_way info.name info.size (index_of at) j) (a.header (address_word (home_of at) (segment_of at) j)) false) (no_way a.header heads) in
+        (λ i. inside i || own (two (home_of at) me) i || free i)
+      where
+        own : Two (home_of at) me → (home_of at == me && nat_lt (a.handed (segment_of at)) (index_of at + (4 + info.size))) ≡ false
+        own (Same e) =
+            let within : index_of at + (4 + info.size) ≤ (w.places me).handed (segment_of at) =
+            subst (λ (h : ℕ). index_of at + (4 + info.size) ≤ (w.places h).handed (segment_of at)) e its.handed in
+            let here : index_of at + (4 + info.size) ≤ a.handed (segment_of at) = omega (arith, within, handed (segment_of at)) in
+            (λ i. eqb_of e i && not_below (a.handed (segment_of at)) (index_of at + (4 + info.size)) here i)
+        own (Apart f d) = λ i. f i && nat_lt (a.handed (segment_of at)) (index_of at + (4 + info.size))
+
+    -- what is known of it is told alike
+    pub same_shape : (place : Place) (k : Known) → blocks place.address ≡ Some (block_at info.name k place) → (k.bunch ≡ info.bunch) × (k.size ≡ info.size)
+    same_shape place k there = are.one_shape place.address at (block_at info.name k place) (block_of info) there told refl
+
+    pub no_clash : (known : ℕ → Option Known) (a : Places) → Keeps blocks known a → ((s : ℕ) → a.handed s ≡ (w.places me).handed s) → clashes me known a info ≡ false
+    no_clash known a keeps handed = by_known (known info.name) refl
+      where
+        barred : is_barred me a info.name info.size at ≡ false
+        barred = not_barred a keeps.headers handed
+
+        by_known : (k : Option Known) → known info.name ≡ k → (option_map_or (λ k. differs k info) k false || clashes_at me a info (a.place info.name)) ≡ false
+        by_known None e = ap (clashes_at me a info) (keeps.unplaced info.name e) ∙ barred
+        by_known (Some k) e =
+            let l : LiesIn blocks (a.place info.name) info.name k = keeps.entries info.name k e in
+            let shape : (k.bunch ≡ info.bunch) × (k.size ≡ info.size) = same_shape l.place k l.block in
+            (λ i. not (eqb_of shape.0 i && eqb_of shape.1 i) || clashes_at me a info (l.lies i)) ∙ by_place l.place k l.block
+          where
+            by_place : (old : Place) (k : Known) → blocks old.address ≡ Some (block_at info.name k old) → clashes_at me a info (Some old) ≡ false
+            by_place old k there = by_tests (nat_lt old.moves info.place.moves) (old.address == at) refl refl
+              where
+                by_tests : (newer same : Bool) → nat_lt old.moves info.place.moves ≡ newer → (old.address == at) ≡ same → cond newer (cond same true (is_barred me a info.name info.size at)) false ≡ false
+                by_tests false same n s = refl
+                by_tests true false n s = barred
+                by_tests true true n s =
+                    let one : block_at info.name k old ≡ block_of info = some_same (sym there ∙ ap blocks (eqb_is old.address at s) ∙ told) in
+                    let moves : old.moves ≡ info.place.moves = ap (λ (b : Block). b.moves) one in
+                    let more : old.moves < info.place.moves = below_is old.moves info.place.moves n in
+                    absurd (omega arith)
+
+-- ## learning
+
+pub at_apart : {A : Type 0} (f : ℕ → A) (x y : ℕ) (v : A) → (x == y) ≡ false → put f x v y ≡ f y
+at_apart f x y v h = λ i. cond (h i) v (f y)
+
+pub at_same : {A : Type 0} (f : ℕ → A) (x y : ℕ) (v : A) → x ≡ y → put f x v y ≡ v
+at_same f x y v e = λ i. cond (eqb_of e i) v (f y)
+
+module _ (blocks : ℕ → Option Block) where
+  put_head : (header : ℕ → Option Header) (at : ℕ) (new : Header) → AllHead blocks header → Heads blocks at new → AllHead blocks (put header at (Some new))
+  put_head header at new all here address h e = by_two (two at address)
+    where
+      by_two : Two at address → Heads blocks address h
+      by_two (Same s) = subst (λ (z : ℕ). Heads blocks z h) s (subst (Heads blocks at) (some_same (sym (at_same header at address (Some new) s) ∙ e)) here)
+      by_two (Apart f d) = all address h (sym (at_apart header at address (Some new) f) ∙ e)
+
+  -- an old header that leads on
+  went_some : (a : Places) (old new : ℕ) (g : Header) → a.header old ≡ Some g → (with_went a old new).header old ≡ Some (record g { standing = Went new })
+  went_some a old new g is = rw (is, eqb_same old) refl
+
+  went_none : (a : Places) (old new : ℕ) → a.header old ≡ None → (with_went a old new).header old ≡ None
+  went_none a old new is = rw (is, eqb_same old) refl
+
+  went_head : (a : Places) (old new : ℕ) → AllHead blocks a.header → AllHead blocks (with_went a old new).header
+  went_head a old new all address h e = by_two (two old address)
+    where
+      by_two : Two old address → Heads blocks address h
+      by_two (Apart f d) = all address h (rw f at e)
+      by_two (Same s) = subst (λ (z : ℕ). Heads blocks z h) s (by_old (a.header old) refl (subst (λ (z : ℕ). (with_went a old new).header z ≡ Some h) (sym s) e))
+        where
+          by_old : (o : Option Header) → a.header old ≡ o → (with_went a old new).header old ≡ Some h → Heads blocks old h
+          by_old None is f = none_some (sym (went_none a old new is) ∙ f)
+          by_old (Some g) is f =
+              let of : Heads blocks old g = all old g is in
+              let same : record g { standing = Went new } ≡ h = some_same (sym (went_some a old new g is) ∙ f) in
+              record { block = of.block; there = of.there; named = of.named ∙ ap (λ (k : Header). k.name) same; sized = of.sized ∙ ap (λ (k : Header). k.size) same }
+
+  went_keeps : (known : ℕ → Option Known) (a : Places) (old new : ℕ) → Keeps blocks known a → Keeps blocks known (with_went a old new)
+  went_keeps known a old new keeps = record { entries = keeps.entries; unplaced = keeps.unplaced; headers = went_head a old new keeps.headers; full = keeps.full }
+
+  -- an object comes to lie in its block, and is known
+  pub object_keeps : (known after : ℕ → Option Known) (a : Places) (name : ℕ) (k : Known) (place : Place) → after name ≡ Some k →
+      ((y : ℕ) → (name == y) ≡ false → after y ≡ known y) → ((fields : List ViewField) → k.copy ≡ Some fields → length fields ≡ k.size) →
+      blocks place.address ≡ Some (block_at name k place) → Keeps blocks known a → Keeps blocks after (with_object a name k.size place)
+  object_keeps known after a name k place is others full there keeps = record {
+    entries = λ x j e. lies x j e (two name x);
+    unplaced = λ x e. nothing x e (two name x);
+    headers = put_head a.header place.address (record { name = name; size = k.size; standing = Lives place.moves }) keeps.headers
+        (record { block = block_at name k place; there = there; named = refl; sized = refl });
+    full = λ x j fields e c. filled x j fields e c (two name x);
+  }
+    where
+      lies : (x : ℕ) (j : Known) → after x ≡ Some j → Two name x → LiesIn blocks (put a.place name (Some place) x) x j
+      lies x j e (Same s) =
+          let same : k ≡ j = some_same (sym is ∙ ap after s ∙ e) in
+          record { place = place; lies = at_same a.place name x (Some place) s; block = there ∙ (λ i. Some (block_at (s i) (same i) place)) }
+      lies x j e (Apart f d) =
+          let old : LiesIn blocks (a.place x) x j = keeps.entries x j (sym (others x f) ∙ e) in
+          record { place = old.place; lies = at_apart a.place name x (Some place) f ∙ old.lies; block = old.block }
+
+      nothing : (x : ℕ) → after x ≡ None → Two name x → put a.place name (Some place) x ≡ None
+      nothing x e (Same s) = none_some (sym e ∙ ap after (sym s) ∙ is)
+      nothing x e (Apart f d) = at_apart a.place name x (Some place) f ∙ keeps.unplaced x (sym (others x f) ∙ e)
+
+      filled : (x : ℕ) (j : Known) (fields : List ViewField) → after x ≡ Some j → j.copy ≡ Some fields → Two name x → length fields ≡ j.size
+      filled x j fields e c (Same s) =
+          let same : k ≡ j = some_same (sym is ∙ ap after s ∙ e) in
+          full fields (ap (λ (i : Known). i.copy) same ∙ c) ∙ ap (λ (i : Known). i.size) same
+      filled x j fields e c (Apart f d) = keeps.full x j fields (sym (others x f) ∙ e) c
+
+-- learning hands nothing out
+pub learnt_handed : (a : Places) (info : Info) → (with_learnt a info).handed ≡ a.handed
+learnt_handed a info = by_place (a.place info.name)
+  where
+    by_place : (p : Option Place) → (learn_at a info p).handed ≡ a.handed
+    by_place None = refl
+    by_place (Some old) = by_test (nat_lt old.moves info.place.moves)
+      where
+        by_test : (b : Bool) → (cond b (with_object (with_went a old.address info.place.address) info.name info.size info.place) a).handed ≡ a.handed
+        by_test true = refl
+        by_test false = refl
+
+module _ (st : Setting) (w : World) (blocks : ℕ → Option Block) (are : AreBlocks st w blocks) (me from : ℕ) where
+  heard_keeps : (known : ℕ → Option Known) (a : Places) (info : Info) → IsTold blocks info → Keeps blocks known a → Keeps blocks (heard from known info) (with_learnt a info)
+  heard_keeps known a info told keeps = by_known (known info.name) refl
+    where
+      by_known : (k : Option Known) → known info.name ≡ k →
+          Keeps blocks (cond (is_some k) known (put known info.name (Some (heard_of from info)))) (learn_at a info (a.place info.name))
+      by_known None e = subst (λ (p : Option Place). Keeps blocks (put known info.name (Some (heard_of from info))) (learn_at a info p)) (sym (keeps.unplaced info.name e))
+          (object_keeps blocks known (put known info.name (Some (heard_of from info))) a info.name (heard_of from info) info.place
+          (at_same known info.name info.name (Some (heard_of from info)) refl) (λ y f. at_apart known info.name y (Some (heard_of from info)) f)
+          (λ fields c. none_some c) told keeps)
+      by_known (Some k) e =
+          let l : LiesIn blocks (a.place info.name) info.name k = keeps.entries info.name k e in
+          subst (λ (p : Option Place). Keeps blocks known (learn_at a info p)) (sym l.lies)
+          (by_test l.place (same_shape st w blocks are me info told l.place k l.block) (nat_lt l.place.moves info.place.moves))
+        where
+          by_test : (old : Place) → (k.bunch ≡ info.bunch) × (k.size ≡ info.size) → (b : Bool) →
+              Keeps blocks known (cond b (with_object (with_went a old.address info.place.address) info.name info.size info.place) a)
+          by_test old shape false = keeps
+          by_test old shape true = subst (λ (size : ℕ). Keeps blocks known (with_object (with_went a old.address info.place.address) info.name size info.place)) shape.1
+              (object_keeps blocks known known (with_went a old.address info.place.address) info.name k info.place e (λ y f. refl)
+              (λ fields c. keeps.full info.name k fields e c)
+              (told ∙ (λ i. Some (record { name = info.name; bunch = sym shape.0 i; size = sym shape.1 i; moves = info.place.moves })))
+              (went_keeps blocks known a old.address info.place.address keeps))
+
+  -- Infos of blocks, one after another: none clashes
+  pub hears_all : (more : List Info) (s : NodeState) (a : Places) → Every (IsTold blocks) more → Keeps blocks s.known a → ((n : ℕ) → a.handed n ≡ (w.places me).handed n) →
+      (some_clash me from s.known a more ≡ false) × Keeps blocks (after_changes s (map (Hears from) more)).known (with_all_learnt a more)
+  hears_all [] s a told keeps handed = (refl, keeps)
+  hears_all (info ∷ more) s a told keeps handed =
+      let here : clashes me s.known a info ≡ false = no_clash st w blocks are me info told.0 s.known a keeps handed in
+      let rest : (some_clash me from (heard from s.known info) (with_learnt a info) more ≡ false)
+      × Keeps blocks (after_changes (after_change s (Hears from info)) (map (Hears from) more)).known (with_all_learnt (with_learnt a info) more) =
+      hears_all more (after_change s (Hears from info)) (with_learnt a info) told.1 (heard_keeps s.known a info told.0 keeps)
+      (λ n. ap (λ (f : ℕ → ℕ). f n) (learnt_handed a info) ∙ handed n) in
+      ((λ i. here i || rest.0 i), rest.1)

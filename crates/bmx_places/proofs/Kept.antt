@@ -1,0 +1,596 @@
+-- What is kept along a legal history: a ledger to which all belongs, and that no letter was stray.
+use Rattle.std.proofs.Common.{◌≡◌, ◌≢◌, ◌⊎◌, inl, inr, ℕ, ◌+◌, ◌*◌, ◌^◌, ◌<◌, ◌≤◌, arith, refl, ap, sym, subst, ◌∙◌, Bool, true, false, cond, List, [], ◌∷◌, ◌++◌, map, length, drop, zero, suc, length-append}
+use Rattle.std.specs.Prelude.{◌==◌, ◌&&◌, ◌||◌, not, nat_lt, nat_le, Option, Some, None, is_some, unwrap_or, replicate, slice_get, filter, count_by}
+use Rattle.std.specs.Option.{option_map, option_map_or}
+use Rattle.std.specs.List.{flat_map}
+use Rattle.std.proofs.lemmas.Bool.Decides.{nat_tests}
+use Rattle.std.proofs.lemmas.List.Sums.{sum_by-append}
+use Rattle.std.proofs.lemmas.Nat.{div-mul-add, mod-mul-add}
+use Rattle.bmx_types.specs.Words.{maker, count_of}
+use Rattle.bmx_types.specs.Openings.{IsOpening, bunches_of}
+use Rattle.bmx_types.specs.declared.addresses.Place.{Place}
+use Rattle.bmx_types.specs.declared.addresses.Info.{Info}
+use Rattle.bmx_types.specs.declared.values.Val.TheVariants as val
+use Rattle.bmx_types.specs.declared.commands.Command.{Command}
+use Rattle.bmx_types.specs.declared.commands.Command.TheVariants as command
+use Rattle.bmx_types.specs.declared.numbers.Mode.TheVariants as mode
+use Rattle.bmx_types.specs.Updates.{put}
+use Rattle.bmx_msg.specs.declared.letters.Field.{Field}
+use Rattle.bmx_msg.specs.declared.letters.Letter.{Letter}
+use Rattle.bmx_msg.specs.declared.letters.Msg.{Msg}
+use Rattle.bmx_msg.specs.declared.letters.Msg.TheVariants as msg
+use Rattle.bmx_token.specs.declared.parts.Role.TheVariants.{Owner}
+use Rattle.bmx_token.specs.Transitions.{Note, Asks, Grants, Recalls, Returns, Serves, note_transition}
+use Rattle.bmx_token_model.proofs.Sound.{IsSoundIf}
+use Rattle.bmx_token_model.proofs.Shared.{IsShared, shared_run}
+use Rattle.bmx_protocol.specs.declared.inputs.Input.{Input}
+use Rattle.bmx_protocol.specs.declared.inputs.Input.TheVariants as input
+use Rattle.bmx_protocol.specs.declared.inputs.NodeAnswer.{NodeAnswer}
+use Rattle.bmx_protocol.specs.declared.inputs.NodeAnswer.TheVariants as answer
+use Rattle.bmx_protocol.specs.declared.inputs.Sending.{Sending}
+use Rattle.bmx_protocol.specs.declared.inputs.Done.{Done}
+use Rattle.bmx_protocol.specs.declared.events.Event.{Event}
+use Rattle.bmx_protocol.specs.declared.views.ViewField.{ViewField}
+use Rattle.bmx_protocol.specs.declared.views.ViewField.TheVariants as field
+use Rattle.bmx_protocol.specs.Nodes.{Setting, NodeState, Known, share_of}
+use Rattle.bmx_protocol.specs.Places.{Places, has_room, with_made, with_object, with_went, with_learnt, learn_at, with_all_learnt}
+use Rattle.bmx_protocol.specs.Changes.{Change, Sets, Makes, Knows, Hears, Gives, Gets, Issues, Takes, heard_of, after_change, after_changes}
+use Rattle.bmx_protocol.specs.Rules.{Reaction, only, next_name, new_object, infos, name_in, note_in, heard_field, known_change, copy_after, got_change, took}
+use Rattle.bmx_protocol.specs.Strays.{some_clash}
+use Rattle.bmx_protocol.specs.Steps.{Node, letter_in, command_in, nowhere, finds_full, rule, letters_of, sent_changes, changes_of, closed, is_taken, is_nil, made_places, MovesTo, IsStep}
+use Rattle.bmx_protocol.specs.Histories.{issued, arrived, taken, in_flight, IsInputOf, IsNext, Fits, AreAfter, IsLegal}
+use Rattle.bmx_protocol.specs.Worlds.{World, world_of}
+use Rattle.bmx_protocol.proofs.Changing.{Each, each_append, after_append}
+use Rattle.bmx_store_laws.specs.Inside.Seen.{seen, seen_known, first_world}
+use Rattle.bmx_store_laws.specs.Laws.{IsCounted}
+use Rattle.bmx_store_laws.proofs.Basics.{eqb_of, Two, Same, Apart, two, at_each}
+use Rattle.bmx_store_laws.proofs.Copies.{NoGrants, GrantsNothing, note_grants}
+use Rattle.bmx_store_laws.proofs.Ruled.{FreeOf}
+use Rattle.bmx_store_laws.proofs.Channels.{slice_drop}
+use Rattle.bmx_store_laws.proofs.Histories.{Came, came_after, each_name}
+use Rattle.bmx_places.specs.Ledger.{Block, AreBlocks, block_of, LiesIn}
+use Rattle.bmx_places.proofs.Blocks.{Every, some_same, none_some, at_same, at_apart, IsTold, Keeps, hears_all, learnt_handed, same_shape}
+use Rattle.bmx_places.proofs.Making.{Grows, keeps_grown, IsLaterThan, blocks_later, IsHome, with_block, made_or_old, home_made, handed_more, made_grows, made_blocks, made_keeps}
+use Rattle.bmx_places.proofs.Plain.{AllOf, Belongs, Plain, changes_kept, IsRight, IsDraft, sent_plain, letters_sent, IsSent}
+use Rattle.bmx_places.proofs.Outcomes.{NotStray, IsPlain, Comes, Plainly, New, act_plain, command_comes, known_plain, silent_drafts}
+use Rattle.bmx_places.proofs.Next.{IsIssued, EachIssued, every_append, every_at, all_issued, IsTakeable, next_is_takeable}
+
+-- ## how many events there are
+
+abbrev pub steps_of : ℕ → List Event → ℕ
+steps_of n past = count_by (λ f. f.node == n) past
+
+steps_more : (n : ℕ) (past : List Event) (e : Event) → steps_of n (past ++ e ∷ []) ≡ steps_of n past + (0 + cond (e.node == n) 1 0)
+steps_more n past e = sum_by-append (λ (f : Event). cond (f.node == n) 1 0) past (e ∷ [])
+
+-- the events of the first nodes
+abbrev pub total : ℕ → List Event → ℕ
+total zero past = 0
+total (suc k) past = total k past + steps_of k past
+
+total_more : (k : ℕ) (past : List Event) (e : Event) → total k (past ++ e ∷ []) ≡ total k past + cond (nat_lt e.node k) 1 0
+total_more zero past e = (let none : cond {A = ℕ} (nat_lt e.node 0) 1 0 ≡ 0 = grind (arith, nat_tests) in omega (arith, none))
+total_more (suc k) past e = by_tests (nat_lt e.node k) (e.node == k) (nat_lt e.node (suc k)) (together e.node k) (total_more k past e) (steps_more k past e)
+  where
+    together : (n k : ℕ) → cond {A = ℕ} (nat_lt n (suc k)) 1 0 ≡ cond {A = ℕ} (nat_lt n k) 1 0 + cond {A = ℕ} (n == k) 1 0
+    together n k = grind (arith, nat_tests)
+
+    by_tests : (a b c : Bool) → cond {A = ℕ} c 1 0 ≡ cond {A = ℕ} a 1 0 + cond {A = ℕ} b 1 0 → total k (past ++ e ∷ []) ≡ total k past + cond a 1 0 →
+        steps_of k (past ++ e ∷ []) ≡ steps_of k past + (0 + cond b 1 0) →
+        total k (past ++ e ∷ []) + steps_of k (past ++ e ∷ []) ≡ (total k past + steps_of k past) + cond c 1 0
+    by_tests a b c h p q = omega (arith, h, p, q)
+
+total_few : (k : ℕ) (past : List Event) → ((n : ℕ) → steps_of n past ≤ 2 ^ 55) → total k past ≤ k * 2 ^ 55
+total_few zero past few = omega arith
+total_few (suc k) past few = omega (arith, total_few k past few, few k)
+
+-- ## what is kept
+
+pub record Kept (st : Setting) (past : List Event) (nodes : ℕ → Node) : Type 0 where
+  pub blocks : ℕ → Option Block
+  pub are : AreBlocks st (world_of nodes past) blocks
+  -- nothing has moved yet
+  pub still : (a : ℕ) (b : Block) → blocks a ≡ Some b → b.moves ≡ 0
+  pub homes : (n : ℕ) → IsHome (nodes n).places
+  pub keeps : (n : ℕ) → Keeps blocks (nodes n).state.known (nodes n).places
+  pub records : (n : ℕ) → AllOf blocks (nodes n).state.entering
+  pub letters : EachIssued blocks past
+  -- no letter was stray
+  pub answers : Every (λ (e : Event). NotStray e.done.answer) past
+  pub few : (n : ℕ) → steps_of n past ≤ 2 ^ 55
+  pub all : length past ≡ total st.nodes past
+
+-- nothing has happened yet
+pub none_yet : (k : ℕ) → 0 ≡ total k []
+none_yet zero = refl
+none_yet (suc k) = omega (arith, none_yet k)
+
+-- ## one more event
+
+right_grown : (blocks more : ℕ → Option Block) → Grows blocks more → (m : Msg) → IsRight blocks m → IsRight more m
+right_grown blocks more grows m r = record { told = each (infos m) r.told; full = r.full }
+  where
+    each : (list : List Info) → Every (IsTold blocks) list → Every (IsTold more) list
+    each [] h = tt
+    each (info ∷ list) h = (grows info.place.address (block_of info) h.0, each list h.1)
+
+sent_grown : (blocks more : ℕ → Option Block) → Grows blocks more → (letters : List Sending) → Every (λ (l : Sending). IsIssued blocks l.letter) letters → Every (λ (l : Sending). IsIssued more l.letter) letters
+sent_grown blocks more grows [] h = tt
+sent_grown blocks more grows (l ∷ letters) h = (record { right = right_grown blocks more grows l.letter.msg h.0.right; stamp = h.0.stamp }, sent_grown blocks more grows letters h.1)
+
+issued_grown : (blocks more : ℕ → Option Block) → Grows blocks more → (past : List Event) → EachIssued blocks past → EachIssued more past
+issued_grown blocks more grows [] h = tt
+issued_grown blocks more grows (e ∷ past) h = (sent_grown blocks more grows e.done.letters h.0, issued_grown blocks more grows past h.1)
+
+records_grown : (blocks more : ℕ → Option Block) → Grows blocks more → (entering : _) → AllOf blocks entering → AllOf more entering
+records_grown blocks more grows entering all x m r e = (let of = all x m r e in record { address = of.address; block = of.block; there = grows of.address of.block of.there; named = of.named; of = of.of })
+
+stamped : (blocks : ℕ → Option Block) (stamp : ℕ) → stamp < 2 ^ 62 → (letters : List Sending) → Every (IsSent blocks stamp) letters → Every (λ (l : Sending). IsIssued blocks l.letter) letters
+stamped blocks stamp small [] h = tt
+stamped blocks stamp small (l ∷ letters) h = (record { right = h.0.right; stamp = omega (arith, h.0.stamped, small) }, stamped blocks stamp small letters h.1)
+
+-- changes only add to the names made
+made_more : (changes : List Change) (s : NodeState) → s.made ≤ (after_changes s changes).made
+made_more [] s = omega arith
+made_more (c ∷ changes) s = omega (arith, one c, made_more changes (after_change s c))
+  where
+    one : (c : Change) → s.made ≤ (after_change s c).made
+    one (Sets register v) = omega arith
+    one Makes = omega arith
+    one (Knows name k) = omega arith
+    one (Hears from info) = omega arith
+    one (Gives name to seq) = omega arith
+    one (Gets name from seq) = omega arith
+    one (Issues to) = omega arith
+    one (Takes from) = omega arith
+
+-- hearing of objects writes no record, and what was known stays
+hears_entering : (from : ℕ) (more : List Info) (s : NodeState) → (after_changes s (map (Hears from) more)).entering ≡ s.entering
+hears_entering from [] s = refl
+hears_entering from (info ∷ more) s = hears_entering from more (after_change s (Hears from info))
+
+hears_stays : (from : ℕ) (more : List Info) (s : NodeState) (x : ℕ) (k : Known) → s.known x ≡ Some k → (after_changes s (map (Hears from) more)).known x ≡ Some k
+hears_stays from [] s x k e = e
+hears_stays from (info ∷ more) s x k e = hears_stays from more (after_change s (Hears from info)) x k (by_known (s.known info.name) refl)
+  where
+    by_known : (j : Option Known) → s.known info.name ≡ j → cond (is_some j) s.known (put s.known info.name (Some (heard_of from info))) x ≡ Some k
+    by_known (Some j) f = e
+    by_known None f = by_two (two info.name x)
+      where
+        by_two : Two info.name x → put s.known info.name (Some (heard_of from info)) x ≡ Some k
+        by_two (Same q) = none_some (sym f ∙ ap s.known q ∙ e)
+        by_two (Apart g d) = at_apart s.known info.name x (Some (heard_of from info)) g ∙ e
+
+-- without stray letters those that came were taken
+all_taken : (past : List Event) → Every (λ (e : Event). NotStray e.done.answer) past → filter (λ (e : Event). is_taken e.done.answer) past ≡ past
+all_taken [] h = refl
+all_taken (e ∷ past) h = (λ i. cond (is e.done.answer h.0 i) (e ∷ filter (λ (f : Event). is_taken f.done.answer) past) (filter (λ (f : Event). is_taken f.done.answer) past)) ∙ ap (λ (l : List Event). e ∷ l) (all_taken past h.1)
+  where
+    is : (a : NodeAnswer) → NotStray a → is_taken a ≡ true
+    is answer.Nil n = refl
+    is (answer.Value v) n = refl
+    is answer.Yes n = refl
+    is answer.No n = refl
+    is answer.Wait n = refl
+    is (answer.Refused why) n = refl
+    is answer.Idle n = refl
+    is answer.Stray n = absurd (n refl)
+
+module _ (st : Setting) (past : List Event) (nodes : ℕ → Node) (e : Event) (after : Node) (opening : IsOpening st.nodes st.limit st.births) (legal : IsLegal st past)
+    (reached : AreAfter st past nodes) (step : IsStep st e.node (nodes e.node) e.stamp e.input e.done after) (fits : Fits st past e) (kept : Kept st past nodes) where
+  abbrev me : ℕ
+  me = e.node
+
+  abbrev here : Node
+  here = nodes me
+
+  abbrev s : NodeState
+  s = here.state
+
+  abbrev w : World
+  w = world_of nodes past
+
+  abbrev v : World
+  v = world_of (put nodes me after) (past ++ e ∷ [])
+
+  came : (x : ℕ) → Came st x (seen x (first_world st)) past nodes
+  came x = came_after st past nodes opening legal reached x
+
+  small_stamp : e.stamp < 2 ^ 62
+  small_stamp =
+      let few : total st.nodes past ≤ st.nodes * 2 ^ 55 = total_few st.nodes past kept.few in
+      omega (arith, few, kept.all, fits.early, opening.few_nodes)
+
+  few_after : (n : ℕ) → steps_of n (past ++ e ∷ []) ≤ 2 ^ 55
+  few_after n = by_two (two me n)
+    where
+      by_two : Two me n → steps_of n (past ++ e ∷ []) ≤ 2 ^ 55
+      by_two (Same q) =
+          let is : steps_of n (past ++ e ∷ []) ≡ steps_of n past + (0 + 1) = steps_more n past e ∙ (λ i. steps_of n past + (0 + cond {A = ℕ} (eqb_of q i) 1 0)) in
+          let same : steps_of me past ≡ steps_of n past = ap (λ (k : ℕ). steps_of k past) q in
+          omega (arith, is, same, fits.few)
+      by_two (Apart f d) =
+          let is : steps_of n (past ++ e ∷ []) ≡ steps_of n past + (0 + 0) = steps_more n past e ∙ (λ i. steps_of n past + (0 + cond {A = ℕ} (f i) 1 0)) in
+          omega (arith, is, kept.few n)
+
+  all_after : length (past ++ e ∷ []) ≡ total st.nodes (past ++ e ∷ [])
+  all_after =
+      let below : nat_lt e.node st.nodes ≡ true = (let real : e.node < st.nodes = fits.a_node in grind (arith, nat_tests)) in
+      let more : total st.nodes (past ++ e ∷ []) ≡ total st.nodes past + 1 = total_more st.nodes past e ∙ (λ i. total st.nodes past + cond {A = ℕ} (below i) 1 0) in
+      omega (arith, more, kept.all, length-append past (e ∷ []))
+
+  -- what comes of the node, once it is shown to belong
+  pub record IsKept (more : ℕ → Option Block) : Type 0 where
+    pub grows : Grows kept.blocks more
+    pub are : AreBlocks st v more
+    pub still : (a : ℕ) (b : Block) → more a ≡ Some b → b.moves ≡ 0
+    pub home : IsHome after.places
+    pub keeps : Keeps more after.state.known after.places
+    pub records : AllOf more after.state.entering
+    pub letters : Every (IsSent more e.stamp) e.done.letters
+    pub answer : NotStray e.done.answer
+
+  kept_again : (more : ℕ → Option Block) → IsKept more → Kept st (past ++ e ∷ []) (put nodes me after)
+  kept_again more k = record {
+    blocks = more;
+    are = k.are;
+    still = k.still;
+    homes = λ n. at_each (λ (z : Node). IsHome z.places) nodes me after k.home n (kept.homes n);
+    keeps = λ n. at_each (λ (z : Node). Keeps more z.state.known z.places) nodes me after k.keeps n (keeps_grown kept.blocks more k.grows (nodes n).state.known (nodes n).places (kept.keeps n));
+    records = λ n. at_each (λ (z : Node). AllOf more z.state.entering) nodes me after k.records n (records_grown kept.blocks more k.grows (nodes n).state.entering (kept.records n));
+    letters = every_append (λ (f : Event). Every (λ (l : Sending). IsIssued more l.letter) f.done.letters) past (e ∷ []) (issued_grown kept.blocks more k.grows past kept.letters) (stamped more e.stamp small_stamp e.done.letters k.letters, tt);
+    answers = every_append (λ (f : Event). NotStray f.done.answer) past (e ∷ []) kept.answers (k.answer, tt);
+    few = few_after;
+    all = all_after;
+  }
+
+  -- ## the node's step
+
+  module _ (o : Reaction) (is : o ≡ rule st me s step.told e.input) where
+    state_is : after.state ≡ closed e.stamp s o
+    state_is = step.state ∙ ap (closed e.stamp s) (sym is)
+
+    letters_are : e.done.letters ≡ letters_of e.stamp s o
+    letters_are = ap (λ (d : Done). d.letters) step.outcome ∙ ap (letters_of e.stamp s) (sym is)
+
+    answer_is : e.done.answer ≡ o.answer
+    answer_is = ap (λ (d : Done). d.answer) step.outcome ∙ ap (λ (p : Reaction). p.answer) (sym is)
+
+    known_is : after.state.known ≡ (after_changes s (changes_of e.stamp s o)).known
+    known_is = ap (λ (t : NodeState). t.known) state_is
+
+    entering_is : after.state.entering ≡ (after_changes s (changes_of e.stamp s o)).entering
+    entering_is = ap (λ (t : NodeState). t.entering) state_is
+
+    not_less : s.made ≤ after.state.made
+    not_less = omega (arith, made_more (changes_of e.stamp s o) s, ap (λ (t : NodeState). t.made) state_is)
+
+    later : ((n : ℕ) → here.places.handed n ≤ after.places.handed n) → IsLaterThan w v
+    later handed = record { handed = λ n k. at n k (two me n); made = λ n. made n (two me n) }
+      where
+        at : (n k : ℕ) → Two me n → (nodes n).places.handed k ≤ (put nodes me after n).places.handed k
+        at n k (Same q) = omega (arith, handed k, ap (λ (z : ℕ). (nodes z).places.handed k) q, ap (λ (z : Node). z.places.handed k) (at_same nodes me n after q))
+        at n k (Apart f d) = omega (arith, ap (λ (z : Node). z.places.handed k) (at_apart nodes me n after f))
+
+        made : (n : ℕ) → Two me n → (nodes n).state.made ≤ (put nodes me after n).state.made
+        made n (Same q) = omega (arith, not_less, ap (λ (z : ℕ). (nodes z).state.made) q, ap (λ (z : Node). z.state.made) (at_same nodes me n after q))
+        made n (Apart f d) = omega (arith, ap (λ (z : Node). z.state.made) (at_apart nodes me n after f))
+
+    -- after changes that begin with hearing of objects, and then are plain
+    module _ (a : Places) (places : after.places ≡ a) (handed : (n : ℕ) → a.handed n ≡ here.places.handed n) (home : IsHome a) (t : NodeState) (rest : List Change)
+        (goes : after_changes s (changes_of e.stamp s o) ≡ after_changes t rest) (plain : Each (Plain t.known) rest) (keeps : Keeps kept.blocks t.known a) (entering : t.entering ≡ s.entering)
+        (drafts : Every (IsDraft kept.blocks t.known) o.drafts) (right : NotStray o.answer) where
+      belongs : Belongs kept.blocks a t.known (after_changes t rest)
+      belongs = changes_kept kept.blocks a t.known rest plain t (record { keeps = keeps; records = subst (AllOf kept.blocks) (sym entering) (kept.records me); shapes = λ x. refl })
+
+      handed_same : (n : ℕ) → here.places.handed n ≤ after.places.handed n
+      handed_same n = omega (arith, handed n, ap (λ (p : Places). p.handed n) places)
+
+      plainly : Kept st (past ++ e ∷ []) (put nodes me after)
+      plainly = kept_again kept.blocks (record {
+        grows = λ x b h. h;
+        are = blocks_later st w v kept.blocks (later handed_same) kept.are;
+        still = kept.still;
+        home = subst IsHome (sym places) home;
+        keeps = subst (Keeps kept.blocks after.state.known) (sym places) (subst (λ (k : ℕ → Option Known). Keeps kept.blocks k a) (sym (known_is ∙ ap (λ (u : NodeState). u.known) goes)) belongs.keeps);
+        records = subst (AllOf kept.blocks) (sym (entering_is ∙ ap (λ (u : NodeState). u.entering) goes)) belongs.records;
+        letters = subst (Every (IsSent kept.blocks e.stamp)) (sym letters_are) (letters_sent kept.blocks t.known o.drafts s.issued e.stamp drafts);
+        answer = λ stray. right (sym answer_is ∙ stray);
+      })
+
+    -- plain changes alone
+    stays : IsPlain kept.blocks s.known o → after.places ≡ here.places → Kept st (past ++ e ∷ []) (put nodes me after)
+    stays p places = plainly here.places places (λ n. refl) (kept.homes me) s (changes_of e.stamp s o) refl
+        (each_append (Plain s.known) o.changes (flat_map sent_changes (letters_of e.stamp s o)) p.changes (sent_plain kept.blocks s.known o.drafts s.issued e.stamp p.drafts))
+        (kept.keeps me) refl p.drafts p.answer
+
+  -- ## what rules are told
+
+  lies_at : (x : ℕ) (p : Place) → here.places.place x ≡ Some p → step.told.lies x ≡ p
+  lies_at x p is = step.is_told.lies x ∙ (λ i. unwrap_or (is i) nowhere)
+
+  aware : (x : ℕ) → s.known x ≡ None → FreeOf x s.known
+  aware x none = ((came x).aware me fits.a_node (ap seen_known none)).0.fields
+
+  owners : (x : ℕ) (k : Known) → s.known x ≡ Some k → k.part.role ≡ Owner → is_some k.copy ≡ true
+  owners x k is owns = (subst IsSoundIf (ap seen_known is) ((each_name IsShared shared_run st past nodes opening legal reached x).sound me)).owner_has owns
+
+  -- ## a new object
+
+  module _ (register bunch size : ℕ) (is : e.input ≡ input.Do (command.New register bunch size)) (full : step.told.full ≡ false)
+      (o : Reaction) (from_rule : o ≡ rule st me s step.told e.input)
+      (makes : o ≡ record { changes = Knows (next_name me s) (new_object bunch size) ∷ Sets register (val.Ref (next_name me s)) ∷ Makes ∷ []; drafts = []; answer = answer.Nil }) where
+    abbrev x : ℕ
+    x = next_name me s
+
+    abbrev k : Known
+    k = new_object bunch size
+
+    of_store : (register < 16) × (bunch < bunches_of st.births) × (size ≤ 32)
+    of_store = subst (IsInputOf st) is fits.an_input
+
+    enough : s.made + 1 < 2 ^ 56
+    enough =
+        let some : s.made ≤ 320000 + steps_of me past = (came x).few me in
+        omega (arith, some, fits.few)
+
+    maker_is : maker x ≡ me
+    maker_is = div-mul-add me (2 ^ 56) (s.made + 1) enough
+
+    count_is : count_of x ≡ s.made + 1
+    count_is = mod-mul-add me (2 ^ 56) (s.made + 1) enough
+
+    room : has_room here.places (here.places.opened bunch) (4 + size) ≡ false → here.places.made < 6000000
+    room none = by_test (nat_le st.limit here.places.made) refl
+      where
+        told : (nat_le st.limit here.places.made && not (has_room here.places (here.places.opened bunch) (4 + size))) ≡ false
+        told = sym (step.is_told.full ∙ ap (λ (i : Input). option_map_or (finds_full st here.places) (command_in i) false) is) ∙ full
+
+        le_else : (m n : ℕ) → nat_le m n ≡ false → n < m
+        le_else m n h = grind (arith, nat_tests)
+
+        by_test : (b : Bool) → nat_le st.limit here.places.made ≡ b → here.places.made < 6000000
+        by_test true h = (let both : true ≡ false = (λ j. sym h j && not (sym none j)) ∙ told in absurd cc)
+        by_test false h = omega (arith, le_else st.limit here.places.made h, opening.few_segments)
+
+    places_are : after.places ≡ with_made me here.places x bunch size
+    places_are = subst (λ (i : Input). MovesTo me here step.told i e.done.answer after.places) is step.places
+        ∙ ap (λ (y : NodeAnswer). cond (is_nil y) (with_made me here.places x bunch size) here.places) (answer_is o from_rule ∙ ap (λ (p : Reaction). p.answer) makes)
+
+    state_then : after.state ≡ closed e.stamp s (record { changes = Knows (next_name me s) (new_object bunch size) ∷ Sets register (val.Ref (next_name me s)) ∷ Makes ∷ []; drafts = []; answer = answer.Nil })
+    state_then = state_is o from_rule ∙ ap (closed e.stamp s) makes
+
+    made_then : after.state.made ≡ s.made + 1
+    made_then = ap (λ (t : NodeState). t.made) state_then
+
+    counted : IsCounted st v x
+    counted = record {
+      by_a_node = omega (arith, maker_is, fits.a_node);
+      from_one = omega (arith, count_is);
+      made = (let now : (put nodes me after (maker x)).state.made ≡ s.made + 1 = ap (λ (z : Node). z.state.made) (at_same nodes me (maker x) after (sym maker_is)) ∙ made_then in omega (arith, now, count_is));
+    }
+
+    unnamed : (c : ℕ) (b : Block) → kept.blocks c ≡ Some b → b.name ≢ x
+    unnamed c b there named =
+        let old : count_of b.name ≤ (nodes (maker b.name)).state.made = (kept.are.each c b there).counted.made in
+        let same : (nodes (maker b.name)).state.made ≡ s.made = ap (λ (z : ℕ). (nodes z).state.made) (ap maker named ∙ maker_is) in
+        let count : count_of b.name ≡ s.made + 1 = ap count_of named ∙ count_is in
+        absurd (omega arith)
+
+    handed_then : (n : ℕ) → here.places.handed n ≤ after.places.handed n
+    handed_then n = omega (arith, handed_more st w v kept.blocks kept.are me s.known x k (kept.homes me) of_store.2 room n, ap (λ (p : Places). p.handed n) places_are)
+
+    then_later : IsLaterThan w v
+    then_later = later o from_rule handed_then
+
+    abbrev more : ℕ → Option Block
+    more = with_block st w v kept.blocks kept.are me s.known x k (kept.homes me) of_store.2 room
+
+    handed_is : (v.places me).handed ≡ (with_made me here.places x bunch size).handed
+    handed_is = ap (λ (z : Node). z.places.handed) (at_same nodes me me after refl) ∙ ap (λ (p : Places). p.handed) places_are
+
+    replicate_full : (fields : List ViewField) → k.copy ≡ Some fields → length fields ≡ size
+    replicate_full fields c = ap length (sym (some_same c)) ∙ as_many size
+      where
+        as_many : (n : ℕ) → length (replicate n field.Null) ≡ n
+        as_many zero = refl
+        as_many (suc n) = ap suc (as_many n)
+
+    grown : Grows kept.blocks more
+    grown = made_grows st w v kept.blocks kept.are me s.known x k (kept.homes me) of_store.2 room then_later fits.a_node handed_is of_store.1 counted unnamed
+
+    pub new_kept : Kept st (past ++ e ∷ []) (put nodes me after)
+    new_kept = kept_again more (record {
+      grows = grown;
+      are = made_blocks st w v kept.blocks kept.are me s.known x k (kept.homes me) of_store.2 room then_later fits.a_node handed_is of_store.1 counted unnamed;
+      still = still;
+      home = subst IsHome (sym places_are) (home_made st w v kept.blocks kept.are me s.known x k (kept.homes me) of_store.2 room);
+      keeps = subst (Keeps more after.state.known) (sym places_are) (subst (λ (f : ℕ → Option Known). Keeps more f (with_made me here.places x bunch size)) (sym (ap (λ (t : NodeState). t.known) state_then))
+          (made_keeps st w v kept.blocks kept.are me s.known x k (kept.homes me) of_store.2 room then_later fits.a_node handed_is of_store.1 counted unnamed (kept.keeps me) replicate_full));
+      records = subst (AllOf more) (sym (ap (λ (t : NodeState). t.entering) state_then)) (records_grown kept.blocks more grown s.entering (kept.records me));
+      letters = subst (Every (IsSent more e.stamp)) (sym (letters_are o from_rule ∙ ap (letters_of e.stamp s) makes)) tt;
+      answer = λ stray. nil_is_not (sym (ap (λ (p : Reaction). p.answer) makes) ∙ sym (answer_is o from_rule) ∙ stray);
+    })
+      where
+        nil_is_not : answer.Nil ≡ answer.Stray → ⊥
+        nil_is_not h = cc
+
+        still : (c : ℕ) (b : Block) → more c ≡ Some b → b.moves ≡ 0
+        still c b there = by_which (made_or_old st w v kept.blocks kept.are me s.known x k (kept.homes me) of_store.2 room c b there)
+          where
+            by_which : ((b.name ≡ x) × (b.moves ≡ 0)) ⊎ (kept.blocks c ≡ Some b) → b.moves ≡ 0
+            by_which (inl new) = new.1
+            by_which (inr old) = kept.still c b old
+
+  -- ## a command
+
+  by_command : (c : Command) → e.input ≡ input.Do c → Comes kept.blocks me s step.told.full c (rule st me s step.told (input.Do c)) → Kept st (past ++ e ∷ []) (put nodes me after)
+  by_command c is (New register bunch size same full makes) =
+      new_kept register bunch size (is ∙ ap (λ (d : Command). input.Do d) same) full (rule st me s step.told (input.Do c)) (ap (rule st me s step.told) (sym is)) makes
+  by_command c is (Plainly p none) = stays (rule st me s step.told (input.Do c)) (ap (rule st me s step.told) (sym is)) p
+      (subst (λ (i : Input). MovesTo me here step.told i e.done.answer after.places) is step.places
+      ∙ places c none (answer_is (rule st me s step.told (input.Do c)) (ap (rule st me s step.told) (sym is))))
+    where
+      same : (b : Bool) → cond b here.places here.places ≡ here.places
+      same true = refl
+      same false = refl
+
+      not_nil : (y : NodeAnswer) → (y ≡ answer.Nil → ⊥) → is_nil y ≡ false
+      not_nil answer.Nil n = absurd (n refl)
+      not_nil (answer.Value q) n = refl
+      not_nil answer.Yes n = refl
+      not_nil answer.No n = refl
+      not_nil answer.Wait n = refl
+      not_nil (answer.Refused why) n = refl
+      not_nil answer.Idle n = refl
+      not_nil answer.Stray n = refl
+
+      places : (d : Command) → ((register bunch size : ℕ) → d ≡ command.New register bunch size → (rule st me s step.told (input.Do c)).answer ≡ answer.Nil → ⊥) →
+          e.done.answer ≡ (rule st me s step.told (input.Do c)).answer → cond (is_nil e.done.answer) (made_places me here d) here.places ≡ here.places
+      places (command.New register bunch size) never q = λ j. cond (not_nil e.done.answer (λ nil. never register bunch size refl (sym q ∙ nil)) j) (made_places me here (command.New register bunch size)) here.places
+      places (command.Copy register value) never q = same (is_nil e.done.answer)
+      places (command.Drop register) never q = same (is_nil e.done.answer)
+      places (command.Read on) never q = same (is_nil e.done.answer)
+      places (command.Write on) never q = same (is_nil e.done.answer)
+      places (command.Done on) never q = same (is_nil e.done.answer)
+      places (command.Set on index value) never q = same (is_nil e.done.answer)
+      places (command.Add on index by) never q = same (is_nil e.done.answer)
+      places (command.Get register on index) never q = same (is_nil e.done.answer)
+      places (command.Show on index) never q = same (is_nil e.done.answer)
+      places (command.Same left right) never q = same (is_nil e.done.answer)
+
+  -- ## a letter
+
+  module _ (from : ℕ) (l : Letter) (is : e.input ≡ input.Take from l) where
+    abbrev m : Msg
+    m = l.msg
+
+    abbrev rest : List Letter
+    rest = drop (suc (length (taken from me past))) (issued from me past)
+
+    first : in_flight from me past ≡ l ∷ rest
+    first = slice_drop (issued from me past) (length (taken from me past)) l
+        (subst (λ (p : List Event). slice_get (issued from me past) (length (arrived from me p)) ≡ Some l) (sym (all_taken past kept.answers)) (subst (IsNext past me) is fits.next))
+
+    takeable : IsTakeable st me from here l
+    takeable = next_is_takeable st past nodes opening legal reached kept.blocks kept.are kept.still me from (kept.keeps me) kept.letters l rest first fits.a_node (subst (IsInputOf st) is fits.an_input)
+
+    abbrev o : Reaction
+    o = took s step.told.lies from l.seq m (s.known (name_in m)) (Some takeable.turn)
+
+    calm : step.told.clash ≡ false
+    calm = step.is_told.clash ∙ ap (λ (i : Input). option_map_or (λ (y : ℕ × Letter). some_clash me y.0 s.known here.places (infos y.1.msg)) (letter_in i) false) is ∙ takeable.calm
+
+    takes : o ≡ rule st me s step.told e.input
+    takes =
+        ap (took s step.told.lies from l.seq m (s.known (name_in m))) (sym takeable.turns)
+        ∙ (λ i. cond (sym takeable.good i || sym calm i) (only answer.Stray) (took s step.told.lies from l.seq m (s.known (name_in m)) (note_transition me from (note_in m) (option_map share_of (s.known (name_in m))))))
+        ∙ ap (rule st me s step.told) (sym is)
+
+    its : IsIssued kept.blocks l
+    its = every_at (IsIssued kept.blocks) (issued from me past) (length (taken from me past)) l (all_issued (IsIssued kept.blocks) from me past kept.letters)
+        (subst (λ (p : List Event). slice_get (issued from me past) (length (arrived from me p)) ≡ Some l) (sym (all_taken past kept.answers)) (subst (IsNext past me) is fits.next))
+
+    -- once its Infos were heard
+    abbrev t : NodeState
+    t = after_changes s (map (Hears from) (infos m))
+
+    abbrev learnt : Places
+    learnt = with_all_learnt here.places (infos m)
+
+    heard : (some_clash me from s.known here.places (infos m) ≡ false) × Keeps kept.blocks t.known learnt
+    heard = hears_all st w kept.blocks kept.are me from (infos m) s here.places its.right.told (kept.keeps me) (λ n. refl)
+
+    abbrev known_changes : List Change
+    known_changes = known_change (name_in m) (s.known (name_in m)) (copy_after m (s.known (name_in m))) takeable.turn.after
+
+    abbrev got_changes : List Change
+    got_changes = got_change from l.seq (name_in m) (note_in m)
+
+    -- the copy that it brings, or that there was, is whole
+    copy_full : (m : Msg) → IsRight kept.blocks m → (k : Known) → s.known (name_in m) ≡ Some k → (fields : List ViewField) → copy_after m (Some k) ≡ Some fields → length fields ≡ k.size
+    copy_full m right k known fields c = by_msg m right known c
+      where
+        as_many : (told : List Field) → length (map heard_field told) ≡ length told
+        as_many [] = refl
+        as_many (f ∷ told) = ap suc (as_many told)
+
+        brought : (info : Info) (told : List Field) → IsTold kept.blocks info → length told ≡ info.size → s.known info.name ≡ Some k → Some (map heard_field told) ≡ Some fields → length fields ≡ k.size
+        brought info told of size known e =
+            let at : LiesIn kept.blocks (here.places.place info.name) info.name k = (kept.keeps me).entries info.name k known in
+            ap length (sym (some_same e)) ∙ as_many told ∙ size ∙ sym (same_shape st w kept.blocks kept.are me info of at.place k at.block).1
+
+        by_msg : (m : Msg) → IsRight kept.blocks m → s.known (name_in m) ≡ Some k → copy_after m (Some k) ≡ Some fields → length fields ≡ k.size
+        by_msg (msg.ReadReq name asker) right known c = (kept.keeps me).full name k fields known c
+        by_msg (msg.WriteReq name asker) right known c = (kept.keeps me).full name k fields known c
+        by_msg (msg.ReadGrant info told) right known c = brought info told right.told.0 (right.full (info, told) refl) known c
+        by_msg (msg.WriteGrant info told) right known c = brought info told right.told.0 (right.full (info, told) refl) known c
+        by_msg (msg.Inval name) right known c = (kept.keeps me).full name k fields known c
+        by_msg (msg.InvAck name) right known c = (kept.keeps me).full name k fields known c
+
+    known_plainly : (k : Option Known) → s.known (name_in m) ≡ k → Each (Plain t.known) (known_change (name_in m) k (copy_after m k) takeable.turn.after)
+    known_plainly None e = tt
+    known_plainly (Some k) e = known_plain t.known (name_in m) k (copy_after m (Some k)) takeable.turn.after (hears_stays from (infos m) s (name_in m) k e) (copy_full m its.right k e)
+
+    got_plainly : (n : Note) (k : Option Known) → s.known (name_in m) ≡ k → note_transition me from n (option_map share_of k) ≡ Some takeable.turn → Each (Plain t.known) (got_change from l.seq (name_in m) n)
+    got_plainly (Asks y asker) k e turns = tt
+    got_plainly (Grants mode.Read) k e turns = tt
+    got_plainly (Grants mode.Write) None e turns = none_some turns
+    got_plainly (Grants mode.Write) (Some k) e turns = ((k, hears_stays from (infos m) s (name_in m) k e), tt)
+    got_plainly Recalls k e turns = tt
+    got_plainly Returns k e turns = tt
+
+    silent : NoGrants takeable.turn.sends
+    silent = subst GrantsNothing takeable.turns (note_grants me from (note_in m) (option_map share_of (s.known (name_in m))))
+
+    drafts : Every (IsDraft kept.blocks t.known) o.drafts
+    drafts = silent_drafts kept.blocks t.known s step.told.lies (name_in m) takeable.turn.sends silent
+
+    abbrev others : List Change
+    others = known_changes ++ (got_changes ++ Takes from ∷ [])
+
+    learnt_all_handed : (more : List Info) (a : Places) (n : ℕ) → (with_all_learnt a more).handed n ≡ a.handed n
+    learnt_all_handed [] a n = refl
+    learnt_all_handed (info ∷ more) a n = learnt_all_handed more (with_learnt a info) n ∙ ap (λ (f : ℕ → ℕ). f n) (learnt_handed a info)
+
+    take_kept : Kept st (past ++ e ∷ []) (put nodes me after)
+    take_kept = plainly o takes learnt
+        (subst (λ (i : Input). MovesTo me here step.told i e.done.answer after.places) is step.places
+        ∙ ap (λ (y : NodeAnswer). cond (is_taken y) learnt here.places) (answer_is o takes))
+        (learnt_all_handed (infos m) here.places) home t (others ++ flat_map sent_changes (letters_of e.stamp s o))
+        (after_append s o.changes (flat_map sent_changes (letters_of e.stamp s o))
+        ∙ ap (λ (u : NodeState). after_changes u (flat_map sent_changes (letters_of e.stamp s o))) (after_append s (map (Hears from) (infos m)) others)
+        ∙ sym (after_append t others (flat_map sent_changes (letters_of e.stamp s o))))
+        (each_append (Plain t.known) others (flat_map sent_changes (letters_of e.stamp s o))
+        (each_append (Plain t.known) known_changes (got_changes ++ Takes from ∷ []) (known_plainly (s.known (name_in m)) refl)
+        (each_append (Plain t.known) got_changes (Takes from ∷ []) (got_plainly (note_in m) (s.known (name_in m)) refl takeable.turns) (tt, tt)))
+        (sent_plain kept.blocks t.known o.drafts s.issued e.stamp drafts))
+        heard.1 (hears_entering from (infos m) s) drafts (λ h. cc)
+      where
+        home : IsHome learnt
+        home = all (infos m) here.places (kept.homes me)
+          where
+            one : (a : Places) (info : Info) → IsHome a → IsHome (with_learnt a info)
+            one a info h = by_place (a.place info.name)
+              where
+                by_place : (p : Option Place) → IsHome (learn_at a info p)
+                by_place None = record { opened = h.opened; above = h.above; within = h.within; few = h.few }
+                by_place (Some old) = by_test (nat_lt old.moves info.place.moves)
+                  where
+                    by_test : (b : Bool) → IsHome (cond b (with_object (with_went a old.address info.place.address) info.name info.size info.place) a)
+                    by_test true = record { opened = h.opened; above = h.above; within = h.within; few = h.few }
+                    by_test false = h
+
+            all : (more : List Info) (a : Places) → IsHome a → IsHome (with_all_learnt a more)
+            all [] a h = h
+            all (info ∷ more) a h = all more (with_learnt a info) (one a info h)
+
+  by_input : (i : Input) → e.input ≡ i → Kept st (past ++ e ∷ []) (put nodes me after)
+  by_input (input.Do c) is = by_command c is (command_comes kept.blocks me s here.places step.told.full step.told.lies (kept.keeps me) lies_at aware owners c)
+  by_input (input.Serve name) is = stays (rule st me s step.told (input.Serve name)) (ap (rule st me s step.told) (sym is))
+      (act_plain kept.blocks me s here.places step.told.full step.told.lies (kept.keeps me) lies_at aware owners Serves answer.Idle (λ h. cc) name (s.known name) refl)
+      (subst (λ (i : Input). MovesTo me here step.told i e.done.answer after.places) is step.places)
+  by_input (input.Take from l) is = take_kept from l is
+
+  pub one_more : Kept st (past ++ e ∷ []) (put nodes me after)
+  one_more = by_input e.input refl

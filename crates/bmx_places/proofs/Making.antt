@@ -1,0 +1,319 @@
+-- An object that is made lies in a new block: words that were never handed out before.
+use Rattle.std.proofs.Common.{◌≡◌, ◌≢◌, ◌⊎◌, inl, inr, ℕ, ◌+◌, ◌^◌, ◌<◌, ◌≤◌, arith, refl, ap, sym, subst, ◌∙◌, Bool, true, false, cond, List, length}
+use Rattle.std.specs.Prelude.{nat_le, Option, Some, None}
+use Rattle.std.proofs.lemmas.Bool.Decides.{nat_tests}
+use Rattle.bmx_types.specs.Words.{maker, address_word, home_of, segment_of, index_of}
+use Rattle.bmx_types.specs.Openings.{bunches_of}
+use Rattle.bmx_types.specs.declared.addresses.Place.{Place}
+use Rattle.bmx_types.specs.Updates.{put}
+use Rattle.bmx_protocol.specs.declared.views.ViewField.{ViewField}
+use Rattle.bmx_protocol.specs.Nodes.{Setting, Known}
+use Rattle.bmx_protocol.specs.Places.{Places, has_room, with_segment, with_room, with_placed, with_made, overlaps}
+use Rattle.bmx_protocol.specs.Worlds.{World}
+use Rattle.bmx_store_laws.proofs.Basics.{Two, Same, Apart, two}
+use Rattle.bmx_store_laws.specs.Laws.{IsCounted}
+use Rattle.bmx_places.specs.Ledger.{Block, IsBlock, AreBlocks, LiesIn, Heads}
+use Rattle.bmx_places.proofs.Blocks.{some_same, at_same, at_apart, home_again, segment_again, index_again, Keeps, object_keeps}
+
+-- ## ledgers that grow
+
+-- what was a block is one
+abbrev pub Grows : (ℕ → Option Block) → (ℕ → Option Block) → Type 0
+Grows blocks more = (a : ℕ) (b : Block) → blocks a ≡ Some b → more a ≡ Some b
+
+pub lies_grown : (blocks more : ℕ → Option Block) → Grows blocks more → (at : Option Place) (x : ℕ) (k : Known) → LiesIn blocks at x k → LiesIn more at x k
+lies_grown blocks more grows at x k l = record { place = l.place; lies = l.lies; block = grows _ _ l.block }
+
+pub keeps_grown : (blocks more : ℕ → Option Block) → Grows blocks more → (known : ℕ → Option Known) (a : Places) → Keeps blocks known a → Keeps more known a
+keeps_grown blocks more grows known a keeps = record {
+  entries = λ x k e. lies_grown blocks more grows (a.place x) x k (keeps.entries x k e);
+  unplaced = keeps.unplaced;
+  headers = λ address h e. (let of : Heads blocks address h = keeps.headers address h e in record { block = of.block; there = grows _ _ of.there; named = of.named; sized = of.sized });
+  full = keeps.full;
+}
+
+-- a world in which as much was handed out and made, or more
+pub record IsLaterThan (w v : World) : Type 0 where
+  pub handed : (n s : ℕ) → (w.places n).handed s ≤ (v.places n).handed s
+  pub made : (n : ℕ) → (w.state n).made ≤ (v.state n).made
+
+pub block_later : (st : Setting) (w v : World) → IsLaterThan w v → (a : ℕ) (b : Block) → IsBlock st w a b → IsBlock st v a b
+block_later st w v later a b is = record {
+  home = is.home;
+  handed = omega (arith, is.handed, later.handed (home_of a) (segment_of a));
+  inside = is.inside;
+  counted = record { by_a_node = is.counted.by_a_node; from_one = is.counted.from_one; made = omega (arith, is.counted.made, later.made (maker b.name)) };
+  bunch = is.bunch;
+  size = is.size;
+}
+
+pub blocks_later : (st : Setting) (w v : World) (blocks : ℕ → Option Block) → IsLaterThan w v → AreBlocks st w blocks → AreBlocks st v blocks
+blocks_later st w v blocks later are = record {
+  each = λ a b e. block_later st w v later a b (are.each a b e);
+  apart = are.apart;
+  one_address = are.one_address;
+  one_shape = are.one_shape;
+}
+
+-- a block behind those of its segment
+module _ (st : Setting) (w v : World) (blocks : ℕ → Option Block) (at : ℕ) (new : Block) (later : IsLaterThan w v) (are : AreBlocks st w blocks)
+    (is : IsBlock st v at new) (behind : (w.places (home_of at)).handed (segment_of at) ≤ index_of at)
+    (unnamed : (a : ℕ) (b : Block) → blocks a ≡ Some b → b.name ≢ new.name) where
+  abbrev more : ℕ → Option Block
+  more = put blocks at (Some new)
+
+  -- those of its segment end in front of it
+  in_front : (a : ℕ) (b : Block) → blocks a ≡ Some b → home_of a ≡ home_of at → segment_of a ≡ segment_of at → index_of a + (4 + b.size) ≤ index_of at
+  in_front a b e home segment =
+      let within : index_of a + (4 + b.size) ≤ (w.places (home_of a)).handed (segment_of a) = (are.each a b e).handed in
+      let same : (w.places (home_of a)).handed (segment_of a) ≡ (w.places (home_of at)).handed (segment_of at) = (λ i. (w.places (home i)).handed (segment i)) in
+      omega (arith, within, same, behind)
+
+  pub block_added : Grows blocks more
+  block_added a b e = by_two (two at a)
+    where
+      by_two : Two at a → more a ≡ Some b
+      by_two (Same s) =
+          let front : index_of a + (4 + b.size) ≤ index_of at = in_front a b e (ap home_of (sym s)) (ap segment_of (sym s)) in
+          let same : index_of a ≡ index_of at = ap index_of (sym s) in
+          absurd (omega arith)
+      by_two (Apart f d) = at_apart blocks at a (Some new) f ∙ e
+
+  -- a block is the new one, or an old one
+  data Which (a : ℕ) (b : Block) : Type 0 where
+    New : at ≡ a → new ≡ b → Which a b
+    Old : blocks a ≡ Some b → Which a b
+
+  which : (a : ℕ) (b : Block) → more a ≡ Some b → Which a b
+  which a b e = by_two (two at a)
+    where
+      by_two : Two at a → Which a b
+      by_two (Same s) = New s (some_same (sym (at_same blocks at a (Some new) s) ∙ e))
+      by_two (Apart f d) = Old (sym (at_apart blocks at a (Some new) f) ∙ e)
+
+  overlaps_not : (i words j others : ℕ) → i + words ≤ j → (overlaps i words j others ≡ false) × (overlaps j others i words ≡ false)
+  overlaps_not i words j others h = (grind (arith, nat_tests), grind (arith, nat_tests))
+
+  pub blocks_with : AreBlocks st v more
+  blocks_with = record {
+    each = λ a b e. each a b (which a b e);
+    apart = λ a c b d e f home segment differ. apart a c b d (which a b e) (which c d f) home segment differ;
+    one_address = λ a c b d e f name moves. one_address a c b d (which a b e) (which c d f) name moves;
+    one_shape = λ a c b d e f name. one_shape a c b d (which a b e) (which c d f) name;
+  }
+    where
+      each : (a : ℕ) (b : Block) → Which a b → IsBlock st v a b
+      each a b (New s n) = subst (λ (z : ℕ). IsBlock st v z b) s (subst (IsBlock st v at) n is)
+      each a b (Old e) = block_later st w v later a b (are.each a b e)
+
+      apart : (a c : ℕ) (b d : Block) → Which a b → Which c d → home_of a ≡ home_of c → segment_of a ≡ segment_of c → a ≢ c →
+          overlaps (index_of a) (4 + b.size) (index_of c) (4 + d.size) ≡ false
+      apart a c b d (New s n) (New t m) home segment differ = absurd (differ (sym s ∙ t))
+      apart a c b d (Old e) (Old f) home segment differ = are.apart a c b d e f home segment differ
+      apart a c b d (New s n) (Old f) home segment differ =
+          let front : index_of c + (4 + d.size) ≤ index_of at = in_front c d f (sym home ∙ ap home_of (sym s)) (sym segment ∙ ap segment_of (sym s)) in
+          let same : index_of at ≡ index_of a = ap index_of s in
+          (overlaps_not (index_of c) (4 + d.size) (index_of a) (4 + b.size) (omega (arith, front, same))).1
+      apart a c b d (Old e) (New t m) home segment differ =
+          let front : index_of a + (4 + b.size) ≤ index_of at = in_front a b e (home ∙ ap home_of (sym t)) (segment ∙ ap segment_of (sym t)) in
+          let same : index_of at ≡ index_of c = ap index_of t in
+          (overlaps_not (index_of a) (4 + b.size) (index_of c) (4 + d.size) (omega (arith, front, same))).0
+
+      one_address : (a c : ℕ) (b d : Block) → Which a b → Which c d → b.name ≡ d.name → b.moves ≡ d.moves → a ≡ c
+      one_address a c b d (New s n) (New t m) name moves = sym s ∙ t
+      one_address a c b d (Old e) (Old f) name moves = are.one_address a c b d e f name moves
+      one_address a c b d (New s n) (Old f) name moves = absurd (unnamed c d f (sym name ∙ ap (λ (z : Block). z.name) (sym n)))
+      one_address a c b d (Old e) (New t m) name moves = absurd (unnamed a b e (name ∙ ap (λ (z : Block). z.name) (sym m)))
+
+      one_shape : (a c : ℕ) (b d : Block) → Which a b → Which c d → b.name ≡ d.name → (b.bunch ≡ d.bunch) × (b.size ≡ d.size)
+      one_shape a c b d (New s n) (New t m) name = (ap (λ (z : Block). z.bunch) (sym n ∙ m), ap (λ (z : Block). z.size) (sym n ∙ m))
+      one_shape a c b d (Old e) (Old f) name = are.one_shape a c b d e f name
+      one_shape a c b d (New s n) (Old f) name = absurd (unnamed c d f (sym name ∙ ap (λ (z : Block). z.name) (sym n)))
+      one_shape a c b d (Old e) (New t m) name = absurd (unnamed a b e (name ∙ ap (λ (z : Block). z.name) (sym m)))
+
+-- ## a node's own segments
+
+-- segments that are open were made, words were handed out of those alone, within each, and not too many were made
+pub record IsHome (a : Places) : Type 0 where
+  pub opened : (bunch s : ℕ) → a.opened bunch ≡ Some s → s ≤ a.made
+  pub above : (s : ℕ) → a.made < s → a.handed s ≡ 0
+  pub within : (s : ℕ) → a.handed s ≤ 1024
+  pub few : a.made ≤ 6000000
+
+-- places with a segment open for the bunch that has room for so many words
+pub record HasRoom (a b : Places) (bunch words : ℕ) : Type 0 where
+  pub segment : ℕ
+  pub open_for : b.opened bunch ≡ Some segment
+  pub home : IsHome b
+  pub fits : b.handed segment + words ≤ 1024
+  pub handed : (s : ℕ) → b.handed s ≡ a.handed s
+  pub place : b.place ≡ a.place
+  pub header : b.header ≡ a.header
+
+module _ (me : ℕ) (a : Places) (home : IsHome a) (bunch size : ℕ) where
+  with_segment_room : size ≤ 32 → a.made < 6000000 → HasRoom a (with_segment me a bunch) bunch (4 + size)
+  with_segment_room small few = record {
+    segment = a.made + 1;
+    open_for = at_same a.opened bunch bunch (Some (a.made + 1)) refl;
+    home = record {
+      opened = λ c s e. opened c s e (two bunch c);
+      above = λ s h. handed s (two (a.made + 1) s) ∙ home.above s (omega (arith, h));
+      within = λ s. (let same : put a.handed (a.made + 1) 0 s ≡ a.handed s = handed s (two (a.made + 1) s) in omega (arith, same, home.within s));
+      few = omega (arith, few);
+    };
+    fits = (let none : put a.handed (a.made + 1) 0 (a.made + 1) ≡ 0 = at_same a.handed (a.made + 1) (a.made + 1) 0 refl in omega (arith, none, small));
+    handed = λ s. handed s (two (a.made + 1) s);
+    place = refl;
+    header = refl;
+  }
+    where
+      opened : (c s : ℕ) → put a.opened bunch (Some (a.made + 1)) c ≡ Some s → Two bunch c → s ≤ a.made + 1
+      opened c s e (Same q) =
+          let same : a.made + 1 ≡ s = some_same (sym (at_same a.opened bunch c (Some (a.made + 1)) q) ∙ e) in
+          omega arith
+      opened c s e (Apart f d) = omega (arith, home.opened c s (sym (at_apart a.opened bunch c (Some (a.made + 1)) f) ∙ e))
+
+      handed : (s : ℕ) → Two (a.made + 1) s → put a.handed (a.made + 1) 0 s ≡ a.handed s
+      handed s (Same q) = at_same a.handed (a.made + 1) s 0 q ∙ sym (home.above s (omega (arith, q)))
+      handed s (Apart f d) = at_apart a.handed (a.made + 1) s 0 f
+
+  le_is : (m n : ℕ) → nat_le m n ≡ true → m ≤ n
+  le_is m n h = grind (arith, nat_tests)
+
+  finds_room : size ≤ 32 → (has_room a (a.opened bunch) (4 + size) ≡ false → a.made < 6000000) → HasRoom a (with_room me a bunch size) bunch (4 + size)
+  finds_room small few = by_opened (a.opened bunch) refl few
+    where
+      by_opened : (o : Option ℕ) → a.opened bunch ≡ o → (has_room a o (4 + size) ≡ false → a.made < 6000000) →
+          HasRoom a (cond (has_room a o (4 + size)) a (with_segment me a bunch)) bunch (4 + size)
+      by_opened None e few = with_segment_room small (few refl)
+      by_opened (Some segment) e few = by_test (nat_le (a.handed segment + (4 + size)) 1024) refl few
+        where
+          by_test : (b : Bool) → nat_le (a.handed segment + (4 + size)) 1024 ≡ b → (b ≡ false → a.made < 6000000) → HasRoom a (cond b a (with_segment me a bunch)) bunch (4 + size)
+          by_test false is few = with_segment_room small (few refl)
+          by_test true is few = record { segment = segment; open_for = e; home = home; fits = le_is _ _ is; handed = λ s. refl; place = refl; header = refl }
+
+-- ## making
+
+-- what making an object needs: the node is one of the store, its object a new one of the store
+module _ (st : Setting) (w v : World) (blocks : ℕ → Option Block) (are : AreBlocks st w blocks) (me : ℕ) (known : ℕ → Option Known) (x : ℕ) (k : Known)
+    (home : IsHome (w.places me)) (small : k.size ≤ 32)
+    (room : has_room (w.places me) ((w.places me).opened k.bunch) (4 + k.size) ≡ false → (w.places me).made < 6000000) where
+  abbrev a : Places
+  a = w.places me
+
+  pub r : HasRoom a (with_room me a k.bunch k.size) k.bunch (4 + k.size)
+  r = finds_room me a home k.bunch k.size small room
+
+  abbrev roomy : Places
+  roomy = with_room me a k.bunch k.size
+
+  abbrev word : ℕ
+  word = address_word me r.segment (roomy.handed r.segment)
+
+  abbrev its_block : Block
+  its_block = record { name = x; bunch = k.bunch; size = k.size; moves = 0 }
+
+  abbrev pub with_block : ℕ → Option Block
+  with_block = put blocks word (Some its_block)
+
+  -- a block is the new one, or one that was there
+  pub made_or_old : (c : ℕ) (b : Block) → with_block c ≡ Some b → ((b.name ≡ x) × (b.moves ≡ 0)) ⊎ (blocks c ≡ Some b)
+  made_or_old c b e = by_two (two word c)
+    where
+      by_two : Two word c → ((b.name ≡ x) × (b.moves ≡ 0)) ⊎ (blocks c ≡ Some b)
+      by_two (Same q) =
+          let same : its_block ≡ b = some_same (sym (at_same blocks word c (Some its_block) q) ∙ e) in
+          inl (sym (ap (λ (z : Block). z.name) same), sym (ap (λ (z : Block). z.moves) same))
+      by_two (Apart f d) = inr (sym (at_apart blocks word c (Some its_block) f) ∙ e)
+
+  made_is : with_made me a x k.bunch k.size ≡ with_placed me roomy x k.size (Some r.segment)
+  made_is = ap (with_placed me roomy x k.size) r.open_for
+
+  seg_small : r.segment < 2 ^ 24
+  seg_small = omega (arith, r.home.opened k.bunch r.segment r.open_for, r.home.few)
+
+  index_small : roomy.handed r.segment < 2 ^ 32
+  index_small = omega (arith, r.fits)
+
+  home_is : home_of word ≡ me
+  home_is = home_again me r.segment (roomy.handed r.segment) seg_small index_small
+
+  segment_is : segment_of word ≡ r.segment
+  segment_is = segment_again me r.segment (roomy.handed r.segment) seg_small index_small
+
+  index_is : index_of word ≡ roomy.handed r.segment
+  index_is = index_again me r.segment (roomy.handed r.segment) index_small
+
+  abbrev ends : ℕ
+  ends = roomy.handed r.segment + (4 + k.size)
+
+  -- the words handed out after it
+  handed_is : (s : ℕ) → (with_made me a x k.bunch k.size).handed s ≡ put roomy.handed r.segment (roomy.handed r.segment + (4 + k.size)) s
+  handed_is s = ap (λ (p : Places). p.handed s) made_is
+
+  pub home_made : IsHome (with_made me a x k.bunch k.size)
+  home_made = subst IsHome (sym made_is) (record {
+    opened = r.home.opened;
+    above = λ s h. above s h (two r.segment s);
+    within = λ s. within s (two r.segment s);
+    few = r.home.few;
+  })
+    where
+      above : (s : ℕ) → roomy.made < s → Two r.segment s → put roomy.handed r.segment ends s ≡ 0
+      above s h (Same e) = absurd (omega (arith, h, e, r.home.opened k.bunch r.segment r.open_for))
+      above s h (Apart f d) = at_apart roomy.handed r.segment s ends f ∙ r.home.above s h
+
+      within : (s : ℕ) → Two r.segment s → put roomy.handed r.segment ends s ≤ 1024
+      within s (Same e) = omega (arith, at_same roomy.handed r.segment s ends e, r.fits)
+      within s (Apart f d) = omega (arith, at_apart roomy.handed r.segment s ends f, r.home.within s)
+
+  pub handed_more : (s : ℕ) → a.handed s ≤ (with_made me a x k.bunch k.size).handed s
+  handed_more s = by_two (two r.segment s)
+    where
+      by_two : Two r.segment s → a.handed s ≤ (with_made me a x k.bunch k.size).handed s
+      by_two (Same e) =
+          let there : put roomy.handed r.segment (roomy.handed r.segment + (4 + k.size)) s ≡ roomy.handed r.segment + (4 + k.size) = at_same roomy.handed r.segment s _ e in
+          let old : roomy.handed r.segment ≡ a.handed s = ap roomy.handed e ∙ r.handed s in
+          omega (arith, handed_is s, there, old)
+      by_two (Apart f d) =
+          let there : put roomy.handed r.segment (roomy.handed r.segment + (4 + k.size)) s ≡ roomy.handed s = at_apart roomy.handed r.segment s _ f in
+          omega (arith, handed_is s, there, r.handed s)
+
+  module _ (later : IsLaterThan w v) (real : me < st.nodes) (places : (v.places me).handed ≡ (with_made me a x k.bunch k.size).handed) (bunch : k.bunch < bunches_of st.births) (counted : IsCounted st v x)
+      (unnamed : (c : ℕ) (b : Block) → blocks c ≡ Some b → b.name ≢ x) where
+    in_its_segment : IsBlock st v word its_block
+    in_its_segment = record {
+      home = omega (arith, home_is, real);
+      handed = (let now : (v.places (home_of word)).handed (segment_of word) ≡ roomy.handed r.segment + (4 + k.size) =
+          (λ i. (v.places (home_is i)).handed (segment_is i)) ∙ ap (λ (f : ℕ → ℕ). f r.segment) places ∙ handed_is r.segment ∙ at_same roomy.handed r.segment r.segment _ refl in
+          omega (arith, now, index_is));
+      inside = omega (arith, index_is, r.fits);
+      counted = counted;
+      bunch = bunch;
+      size = small;
+    }
+
+    behind : (w.places (home_of word)).handed (segment_of word) ≤ index_of word
+    behind =
+        let now : (w.places (home_of word)).handed (segment_of word) ≡ roomy.handed r.segment = (λ i. (w.places (home_is i)).handed (segment_is i)) ∙ sym (r.handed r.segment) in
+        omega (arith, now, index_is)
+
+    pub made_grows : Grows blocks with_block
+    made_grows = block_added st w v blocks word its_block later are in_its_segment behind unnamed
+
+    pub made_blocks : AreBlocks st v with_block
+    made_blocks = blocks_with st w v blocks word its_block later are in_its_segment behind unnamed
+
+    pub made_keeps : Keeps blocks known a → ((fields : List ViewField) → k.copy ≡ Some fields → length fields ≡ k.size) → Keeps with_block (put known x (Some k)) (with_made me a x k.bunch k.size)
+    made_keeps keeps full = subst (Keeps with_block (put known x (Some k))) (sym made_is)
+        (object_keeps with_block known (put known x (Some k)) (record roomy { handed = put roomy.handed r.segment (roomy.handed r.segment + (4 + k.size)) }) x k
+        (record { address = word; moves = 0 }) (at_same known x x (Some k) refl) (λ y f. at_apart known x y (Some k) f) full
+        (at_same blocks word word (Some its_block) refl) (moved (keeps_grown blocks with_block made_grows known a keeps)))
+      where
+        moved : Keeps with_block known a → Keeps with_block known (record roomy { handed = put roomy.handed r.segment (roomy.handed r.segment + (4 + k.size)) })
+        moved keeps = record {
+          entries = λ y j e. subst (λ (p : Option Place). LiesIn with_block p y j) (λ i. sym r.place i y) (keeps.entries y j e);
+          unplaced = λ y e. (λ i. r.place i y) ∙ keeps.unplaced y e;
+          headers = λ address h e. keeps.headers address h ((λ i. sym r.header i address) ∙ e);
+          full = keeps.full;
+        }

@@ -1,0 +1,248 @@
+-- The first letter in flight between two nodes is taken: nothing that makes a letter stray can be said of it.
+use Rattle.std.proofs.Common.{◌≡◌, ◌≢◌, ℕ, ◌+◌, ◌^◌, ◌<◌, ◌≤◌, arith, refl, ap, sym, subst, ◌∙◌, Bool, true, false, cond, List, [], ◌∷◌, ◌++◌, map, length, drop, zero, suc}
+use Rattle.std.specs.Prelude.{◌==◌, ◌&&◌, ◌||◌, not, nat_lt, nat_le, Option, Some, None, IsSome, slice_get, Contains}
+use Rattle.std.specs.Option.{option_map, option_map_or}
+use Rattle.std.specs.List.{list_any}
+use Rattle.std.proofs.lemmas.Bool.Decides.{nat_tests}
+use Rattle.std.proofs.lemmas.List.Sums.{sum_by-cons}
+use Rattle.bmx_types.specs.Words.{maker, count_of, home_of}
+use Rattle.bmx_types.specs.Openings.{IsOpening, bunches_of}
+use Rattle.bmx_types.specs.declared.numbers.Mode.{Mode}
+use Rattle.bmx_types.specs.declared.numbers.Mode.TheVariants as mode
+use Rattle.bmx_types.specs.declared.addresses.Info.{Info}
+use Rattle.bmx_msg.specs.declared.letters.Field.{Field}
+use Rattle.bmx_msg.specs.declared.letters.Letter.{Letter}
+use Rattle.bmx_msg.specs.declared.letters.Msg.{Msg}
+use Rattle.bmx_msg.specs.declared.letters.Msg.TheVariants as msg
+use Rattle.bmx_token.specs.Transitions.{Note, Asks, Transition, is_request_of, note_transition}
+use Rattle.bmx_token_model.specs.Machine.{hears, said_transition, letter_transition}
+use Rattle.bmx_token_model.specs.Laws.{NoneIsStray, IsApart}
+use Rattle.bmx_token_model.proofs.Stated.{no_letter_is_stray, nobody_asks_itself}
+use Rattle.bmx_protocol.specs.declared.inputs.Sending.{Sending}
+use Rattle.bmx_protocol.specs.declared.events.Event.{Event}
+use Rattle.bmx_protocol.specs.Nodes.{Setting, NodeState, share_of}
+use Rattle.bmx_protocol.specs.Rules.{name_in, note_in, grant_in, infos}
+use Rattle.bmx_protocol.specs.Strays.{too_large, is_no_node, is_no_name, is_bad_info, asker_in, is_bad_msg, is_bad_letter, some_clash}
+use Rattle.bmx_protocol.specs.Steps.{Node}
+use Rattle.bmx_protocol.specs.Histories.{letters_to, issued, taken, in_flight, AreAfter, IsLegal}
+use Rattle.bmx_protocol.specs.Worlds.{World, world_of, Between}
+use Rattle.bmx_store_laws.specs.Inside.Seen.{seen, seen_message, seen_known, first_world}
+use Rattle.bmx_store_laws.specs.Laws.{IsCounted, Asked, letters_about, times_at}
+use Rattle.bmx_store_laws.proofs.Basics.{eqb_of, eqb_same, eqb_apart, Two, Same, Apart, two}
+use Rattle.bmx_store_laws.proofs.Channels.{numbered_at}
+use Rattle.bmx_store_laws.proofs.Histories.{Came, came_after, each_name}
+use Rattle.bmx_store_laws.proofs.Lifted.{names_are_counted, wants_stand_once}
+use Rattle.bmx_places.specs.Ledger.{Block, IsBlock, AreBlocks, block_of}
+use Rattle.bmx_places.proofs.Blocks.{Every, some_same, none_some, IsTold, Keeps, hears_all}
+use Rattle.bmx_places.proofs.Plain.{IsRight}
+
+-- ## letters of a history
+
+-- a letter that was issued says what is right, and its stamp isn't too large
+pub record IsIssued (blocks : ℕ → Option Block) (l : Letter) : Type 0 where
+  pub right : IsRight blocks l.msg
+  pub stamp : l.stamp < 2 ^ 62
+
+abbrev pub EachIssued : (ℕ → Option Block) → List Event → Type 0
+EachIssued blocks past = Every (λ (e : Event). Every (λ (l : Sending). IsIssued blocks l.letter) e.done.letters) past
+
+pub every_append : {A : Type 0} (P : A → Type 0) (a b : List A) → Every P a → Every P b → Every P (a ++ b)
+every_append P [] b h k = k
+every_append P (x ∷ a) b h k = (h.0, every_append P a b h.1 k)
+
+pub every_at : {A : Type 0} (P : A → Type 0) (a : List A) (i : ℕ) (x : A) → Every P a → slice_get a i ≡ Some x → P x
+every_at P [] i x h e = none_some e
+every_at P (y ∷ a) zero x h e = subst P (some_same e) h.0
+every_at P (y ∷ a) (suc i) x h e = every_at P a i x h.1 e
+
+issued_to : (P : Letter → Type 0) (m : ℕ) (letters : List Sending) → Every (λ (l : Sending). P l.letter) letters → Every P (letters_to m letters)
+issued_to P m [] h = tt
+issued_to P m (l ∷ letters) h = by_test (l.to == m) (issued_to P m letters h.1)
+  where
+    by_test : (b : Bool) → Every P (letters_to m letters) → Every P (cond b (l.letter ∷ letters_to m letters) (letters_to m letters))
+    by_test true rest = (h.0, rest)
+    by_test false rest = rest
+
+pub all_issued : (P : Letter → Type 0) (n m : ℕ) (past : List Event) → Every (λ (e : Event). Every (λ (l : Sending). P l.letter) e.done.letters) past → Every P (issued n m past)
+all_issued P n m [] h = tt
+all_issued P n m (e ∷ past) h = by_test (e.node == n) (all_issued P n m past h.1)
+  where
+    by_test : (b : Bool) → Every P (issued n m past) → Every P (cond b (letters_to m e.done.letters ++ issued n m past) (issued n m past))
+    by_test true rest = every_append P (letters_to m e.done.letters) (issued n m past) (issued_to P m e.done.letters h.0) rest
+    by_test false rest = rest
+
+drop_get : {A : Type 0} (xs : List A) (i : ℕ) (x : A) (rest : List A) → drop i xs ≡ x ∷ rest → slice_get xs i ≡ Some x
+drop_get [] zero x rest e = absurd cc
+drop_get [] (suc i) x rest e = absurd cc
+drop_get (y ∷ xs) zero x rest e = (let same : y ≡ x = cc in ap (λ z. Some z) same)
+drop_get (y ∷ xs) (suc i) x rest e = drop_get xs i x rest e
+
+first_there : {A : Type 0} (xs : List A) (x : A) (rest : List A) → xs ≡ x ∷ rest → Contains xs x
+first_there xs x rest e = subst (λ ys. Contains ys x) (sym e) (0, omega arith, refl)
+
+-- ## numbers
+
+no_node : (st : Setting) (n : ℕ) → n < st.nodes → is_no_node st n ≡ false
+no_node st n h = grind (arith, nat_tests)
+
+lt_not : (a b : ℕ) → b ≤ a → nat_lt a b ≡ false
+lt_not a b h = grind (arith, nat_tests)
+
+le_not : (a b : ℕ) → b < a → nat_le a b ≡ false
+le_not a b h = grind (arith, nat_tests)
+
+lt_is : (a b : ℕ) → nat_lt a b ≡ true → a < b
+lt_is a b h = grind (arith, nat_tests)
+
+lt_else : (a b : ℕ) → nat_lt a b ≡ false → a < b → ⊥
+lt_else a b h less = (let both : true ≡ false = sym (grind (arith, nat_tests)) ∙ h in cc)
+
+-- ## the letter
+
+-- what taking a letter needs: another sender, nothing bad, no clash, and a transition
+pub record IsTakeable (st : Setting) (me from : ℕ) (n : Node) (l : Letter) : Type 0 where
+  pub good : is_bad_letter st me n.state from l ≡ false
+  pub calm : some_clash me from n.state.known n.places (infos l.msg) ≡ false
+  pub turn : Transition
+  pub turns : note_transition me from (note_in l.msg) (option_map share_of (n.state.known (name_in l.msg))) ≡ Some turn
+
+module _ (st : Setting) (past : List Event) (nodes : ℕ → Node) (opening : IsOpening st.nodes st.limit st.births) (legal : IsLegal st past) (after : AreAfter st past nodes)
+    (blocks : ℕ → Option Block) (are : AreBlocks st (world_of nodes past) blocks) (still : (a : ℕ) (b : Block) → blocks a ≡ Some b → b.moves ≡ 0)
+    (me from : ℕ) (keeps : Keeps blocks (nodes me).state.known (nodes me).places) (letters : EachIssued blocks past)
+    (l : Letter) (rest : List Letter) (first : in_flight from me past ≡ l ∷ rest) (real_me : me < st.nodes) (real : from < st.nodes) where
+  abbrev w : World
+  w = world_of nodes past
+
+  abbrev s : NodeState
+  s = (nodes me).state
+
+  abbrev x : ℕ
+  x = name_in l.msg
+
+  came : Came st x (seen x (first_world st)) past nodes
+  came = came_after st past nodes opening legal after x
+
+  its_note : (seen_message x l).note ≡ Some (note_in l.msg)
+  its_note = λ i. cond (eqb_same x i) (Some (note_in l.msg)) None
+
+  seen_first : (seen x w).channel from me ≡ seen_message x l ∷ map (seen_message x) rest
+  seen_first = ap (map (seen_message x)) first
+
+  -- its sender is another node
+  apart : from ≢ me
+  apart e =
+      let of : IsApart (seen x w) = each_name IsApart nobody_asks_itself st past nodes opening legal after x in
+      let here : (seen x w).channel me me ≡ seen_message x l ∷ map (seen_message x) rest = subst (λ (n : ℕ). (seen x w).channel n me ≡ seen_message x l ∷ map (seen_message x) rest) e seen_first in
+      none_some (sym (of.letters me (seen_message x l) (first_there _ _ _ here)) ∙ its_note)
+
+  its_place : slice_get (issued from me past) (length (taken from me past)) ≡ Some l
+  its_place = drop_get (issued from me past) (length (taken from me past)) l rest first
+
+  its_number : l.seq ≡ s.taken from + 1
+  its_number = omega (arith, numbered_at (issued from me past) 0 (length (taken from me past)) l (came.channels.numbers from me) its_place, came.channels.counts from me)
+
+  its : IsIssued blocks l
+  its = every_at (IsIssued blocks) (issued from me past) (length (taken from me past)) l (all_issued (IsIssued blocks) from me past letters) its_place
+
+  -- a name that was counted can be
+  name_not : (y : ℕ) → IsCounted st w y → is_no_name st me s y ≡ false
+  name_not y c = λ i. no_node st (maker y) c.by_a_node i || own (two (maker y) me) i
+    where
+      own : Two (maker y) me → (maker y == me && nat_lt s.made (count_of y)) ≡ false
+      own (Same e) =
+          let made : count_of y ≤ s.made = subst (λ (n : ℕ). count_of y ≤ (nodes n).state.made) e c.made in
+          (λ i. eqb_of e i && lt_not s.made (count_of y) made i)
+      own (Apart f d) = λ i. f i && nat_lt s.made (count_of y)
+
+  its_name : is_no_name st me s x ≡ false
+  its_name = name_not x (names_are_counted st past nodes opening legal after x (Between from me l real real_me (first_there _ _ _ first) (0, omega arith, refl)))
+
+  -- what it tells of can be
+  info_not : (info : Info) → IsTold blocks info → is_bad_info st me s info ≡ false
+  info_not info told =
+      let b : IsBlock st w info.place.address (block_of info) = are.each info.place.address (block_of info) told in
+      let moves : info.place.moves ≡ 0 = still info.place.address (block_of info) told in
+      let name : is_no_name st me s info.name ≡ false = name_not info.name b.counted in
+      let bunch : nat_le (bunches_of st.births) info.bunch ≡ false = le_not (bunches_of st.births) info.bunch b.bunch in
+      let home : is_no_node st (home_of info.place.address) ≡ false = no_node st (home_of info.place.address) b.home in
+      let size : nat_lt 32 info.size ≡ false = lt_not 32 info.size b.size in
+      let few : nat_le too_large info.place.moves ≡ false = le_not too_large info.place.moves (omega (arith, moves)) in
+      (λ i. name i || bunch i || home i || size i || few i)
+
+  infos_not : (more : List Info) → Every (IsTold blocks) more → list_any (is_bad_info st me s) more ≡ false
+  infos_not [] told = refl
+  infos_not (info ∷ more) told = λ i. info_not info told.0 i || infos_not more told.1 i
+
+  -- who asks is a node of the store
+  asks_not : (m : Mode) (a : ℕ) → note_in l.msg ≡ Asks m a → is_no_node st a ≡ false
+  asks_not m a e = by_test (nat_lt a st.nodes) refl
+    where
+      self : (m : Mode) → is_request_of m a (Asks m a) ≡ true
+      self mode.Read = eqb_same a
+      self mode.Write = eqb_same a
+
+      test : Letter → Bool
+      test k = (name_in k.msg == x) && is_request_of m a (note_in k.msg)
+
+      counted : letters_about x (is_request_of m a) (in_flight from me past) ≡ 1 + letters_about x (is_request_of m a) rest
+      counted =
+          ap (letters_about x (is_request_of m a)) first
+          ∙ sum_by-cons (λ (k : Letter). cond {A = ℕ} ((name_in k.msg == x) && is_request_of m a (note_in k.msg)) 1 0) l rest
+          ∙ (λ i. cond {A = ℕ} (eqb_same x i && (ap (is_request_of m a) e ∙ self m) i) 1 0 + letters_about x (is_request_of m a) rest)
+
+      by_test : (b : Bool) → nat_lt a st.nodes ≡ b → is_no_node st a ≡ false
+      by_test true h = no_node st a (lt_is a st.nodes h)
+      by_test false h =
+          let none : times_at w x m a (Asked from me) ≡ 0 = (wants_stand_once st past nodes opening legal after x).others m a
+          (λ waits. none_some (sym (came.beyond a (lt_else a st.nodes h)) ∙ ap seen_known waits.knows)) (Asked from me) in
+          absurd (omega (arith, none, counted))
+
+  asker_not : option_map_or (is_no_node st) (asker_in l.msg) false ≡ false
+  asker_not = by_msg l.msg refl
+    where
+      by_msg : (m : Msg) → l.msg ≡ m → option_map_or (is_no_node st) (asker_in m) false ≡ false
+      by_msg (msg.ReadReq name asker) e = asks_not mode.Read asker (ap note_in e)
+      by_msg (msg.WriteReq name asker) e = asks_not mode.Write asker (ap note_in e)
+      by_msg (msg.ReadGrant info fields) e = refl
+      by_msg (msg.WriteGrant info fields) e = refl
+      by_msg (msg.Inval name) e = refl
+      by_msg (msg.InvAck name) e = refl
+
+  full_not : option_map_or (λ (g : Info × List Field). not (length g.1 == g.0.size)) (grant_in l.msg) false ≡ false
+  full_not = by_grant (grant_in l.msg) refl
+    where
+      by_grant : (g : Option (Info × List Field)) → grant_in l.msg ≡ g → option_map_or (λ (g : Info × List Field). not (length g.1 == g.0.size)) g false ≡ false
+      by_grant None e = refl
+      by_grant (Some g) e = λ i. not (eqb_of (its.right.full g e) i)
+
+  msg_not : is_bad_msg st me s l.msg ≡ false
+  msg_not = λ i. its_name i || asker_not i || full_not i || infos_not (infos l.msg) its.right.told i
+
+  letter_not : is_bad_letter st me s from l ≡ false
+  letter_not =
+      let sender : (from == me) ≡ false = eqb_apart from me apart in
+      let stamp : nat_le too_large l.stamp ≡ false = le_not too_large l.stamp its.stamp in
+      (λ i. sender i || no_node st from real i || not (eqb_of its_number i) || stamp i || msg_not i)
+
+  -- it has its transition
+  its_turn : (t : Transition) × (note_transition me from (note_in l.msg) (option_map share_of (s.known x)) ≡ Some t)
+  its_turn = by_turn (note_transition me from (note_in l.msg) (option_map share_of (s.known x))) refl (subst (λ (n : Option Note). IsSome (option_map then_hears (said_transition me from n (seen_known (s.known x))))) its_note taken_there)
+    where
+      then_hears : Transition → Transition
+      then_hears t = record t { after = hears (seen_message x l).tells from t.after }
+
+      taken_there : IsSome (letter_transition me from (seen_message x l) (seen_known (s.known x)))
+      taken_there = each_name NoneIsStray no_letter_is_stray st past nodes opening legal after x from me (seen_message x l) (map (seen_message x) rest) apart seen_first
+
+      by_turn : (o : Option Transition) → note_transition me from (note_in l.msg) (option_map share_of (s.known x)) ≡ o → IsSome (option_map then_hears o) →
+          (t : Transition) × (note_transition me from (note_in l.msg) (option_map share_of (s.known x)) ≡ Some t)
+      by_turn None e h = absurd cc
+      by_turn (Some t) e h = (t, e)
+
+  pub next_is_takeable : IsTakeable st me from (nodes me) l
+  next_is_takeable = record {
+    good = letter_not;
+    calm = (hears_all st w blocks are me from (infos l.msg) s (nodes me).places its.right.told keeps (λ n. refl)).0;
+    turn = its_turn.0;
+    turns = its_turn.1;
+  }

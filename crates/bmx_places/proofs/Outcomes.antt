@@ -1,0 +1,325 @@
+-- What a rule comes to for blocks: plain changes and messages of known objects, or a new object; and that no rule
+-- but that of a letter answers that it is stray.
+use Rattle.std.proofs.Common.{◌≡◌, ◌≢◌, ℕ, refl, ap, sym, subst, ◌∙◌, Bool, true, false, cond, List, [], ◌∷◌, map, length, zero, suc}
+use Rattle.std.specs.Prelude.{Option, Some, None, is_some, unwrap_or, slice_set, filter_map}
+use Rattle.std.specs.Option.{option_map, option_map_or}
+use Rattle.bmx_types.specs.declared.values.Val.{Val}
+use Rattle.bmx_types.specs.declared.values.Val.TheVariants as val
+use Rattle.bmx_types.specs.declared.commands.Command.{Command}
+use Rattle.bmx_types.specs.declared.commands.Command.TheVariants as command
+use Rattle.bmx_types.specs.declared.commands.Refusal.TheVariants as refusal
+use Rattle.bmx_types.specs.declared.numbers.Mode.TheVariants as mode
+use Rattle.bmx_types.specs.declared.addresses.Place.{Place}
+use Rattle.bmx_types.specs.declared.addresses.Info.{Info}
+use Rattle.bmx_graph.specs.declared.answers.Answer.{Answer}
+use Rattle.bmx_graph.specs.declared.answers.Answer.TheVariants as graph
+use Rattle.bmx_graph.specs.Step.{answer_of, target_of, Effect, effect}
+use Rattle.bmx_graph.specs.Step as graph_effect
+use Rattle.bmx_msg.specs.declared.letters.Field.{Field}
+use Rattle.bmx_msg.specs.Letters.{targets}
+use Rattle.bmx_token.specs.declared.parts.Part.{Part}
+use Rattle.bmx_token.specs.declared.parts.Role.{Role}
+use Rattle.bmx_token.specs.declared.parts.Role.TheVariants.{Owner, Parent}
+use Rattle.bmx_token.specs.declared.answers.Acquire.{Acquire}
+use Rattle.bmx_token.specs.declared.answers.Acquire.TheVariants as acquire_is
+use Rattle.bmx_token.specs.declared.answers.Release.{Release}
+use Rattle.bmx_token.specs.declared.answers.Release.TheVariants as release_is
+use Rattle.bmx_token.specs.Tokens.{acquire, release, serve_by}
+use Rattle.bmx_token.specs.Transitions.{Share, Note, Asks, Grants, Recalls, Returns, Send, Transition, Operation, Acquires, Releases, Serves, acquired, released, served, transition_of, can_serve}
+use Rattle.bmx_token_model.specs.Machine.{is_grant}
+use Rattle.bmx_protocol.specs.declared.inputs.NodeAnswer.{NodeAnswer}
+use Rattle.bmx_protocol.specs.declared.inputs.NodeAnswer.TheVariants as answer
+use Rattle.bmx_protocol.specs.declared.views.ViewField.{ViewField}
+use Rattle.bmx_protocol.specs.declared.views.ViewField.TheVariants as field
+use Rattle.bmx_protocol.specs.Nodes.{NodeState, Known, seen_graph, share_of, field_of}
+use Rattle.bmx_protocol.specs.Places.{Places}
+use Rattle.bmx_protocol.specs.Changes.{Change, Sets, Makes, Knows}
+use Rattle.bmx_protocol.specs.Rules.{Reaction, only, info_of, told_field, told_fields, info_in, message, drafts_of, known_change, operation_answer, acquire_answer, release_answer, after_operation, operation_rule, about, next_name, new_object, stored, graph_changes, answered, graph_rule, token_rule, knows, command_rule}
+use Rattle.bmx_protocol.proofs.Changing.{Each}
+use Rattle.bmx_store_laws.proofs.Ruled.{HasNo, FreeOf}
+use Rattle.bmx_store_laws.proofs.Copies.{NoGrants}
+use Rattle.bmx_places.specs.Ledger.{Block, LiesIn}
+use Rattle.bmx_places.proofs.Blocks.{Every, some_same, none_some, IsTold, Keeps}
+use Rattle.bmx_places.proofs.Plain.{shape, IsKnown, Plain, IsDraft}
+
+-- ## what grants bring
+
+-- a transition grants only what it has a copy of
+abbrev MayGrant : Bool → Option Transition → Type 0
+MayGrant copy None = Unit {0}
+MayGrant copy (Some t) = Every (λ (n : Send). is_grant n.note ≡ true → copy ≡ true) t.sends
+
+with_a_copy : (copy : Bool) (t : Option Transition) → copy ≡ true → MayGrant copy t
+with_a_copy copy None has = tt
+with_a_copy copy (Some t) has = each t.sends
+  where
+    each : (sends : List Send) → Every (λ (n : Send). is_grant n.note ≡ true → copy ≡ true) sends
+    each [] = tt
+    each (n ∷ sends) = (λ _. has, each sends)
+
+act_grants : (me : ℕ) (a : Operation) (h : Share) → (h.part.role ≡ Owner → h.copy ≡ true) → MayGrant h.copy (transition_of me a h)
+act_grants me (Acquires m) h has = by_answer (acquire me h.part m h.copy).0 (acquire me h.part m h.copy).1
+  where
+    by_answer : (p : Part) (r : Acquire) → MayGrant h.copy (acquired me m h p r)
+    by_answer p acquire_is.Held = tt
+    by_answer p (acquire_is.Asks parent) = (λ g. absurd cc, tt)
+    by_answer p acquire_is.Waits = tt
+    by_answer p acquire_is.Refused = tt
+act_grants me Releases h has = by_answer (release h.part).0 (release h.part).1
+  where
+    by_answer : (p : Part) (r : Release) → MayGrant h.copy (released h p r)
+    by_answer p release_is.Free = tt
+    by_answer p (release_is.Answers owner) = (λ g. absurd cc, tt)
+    by_answer p release_is.Refused = tt
+act_grants me Serves h has = by_role h.part.role refl
+  where
+    by_role : (role : Role) → h.part.role ≡ role → MayGrant h.copy (served h (serve_by me h.part role h.part.queue).0 (serve_by me h.part role h.part.queue).1)
+    by_role (Parent parent) e = tt
+    by_role Owner e = with_a_copy h.copy _ (has e)
+
+-- ## what nodes tell
+
+no_grant : (g : Info × List Field) → None ≡ Some g → length g.1 ≡ g.0.size
+no_grant g e = none_some e
+
+-- nothing is known of what nothing refers to: so what a copy refers to is known
+module _ (blocks : ℕ → Option Block) (s : NodeState) (a : Places) (lies : ℕ → Place) (keeps : Keeps blocks s.known a)
+    (told : (x : ℕ) (p : Place) → a.place x ≡ Some p → lies x ≡ p) (aware : (x : ℕ) → s.known x ≡ None → FreeOf x s.known) where
+  info_told : (x : ℕ) (k : Known) → s.known x ≡ Some k → IsTold blocks (info_of s lies x)
+  info_told x k e =
+      let l : LiesIn blocks (a.place x) x k = keeps.entries x k e in
+      let at : lies x ≡ l.place = told x l.place l.lies in
+      (λ i. blocks (at i).address) ∙ l.block ∙ (λ i. Some (record {
+        name = x;
+        bunch = option_map_or (λ (j : Known). j.bunch) (sym e i) 0;
+        size = option_map_or (λ (j : Known). j.size) (sym e i) 0;
+        moves = (sym at i).moves;
+      }))
+
+  -- fields of a copy refer to known objects
+  abbrev Refers : List ViewField → Type 0
+  Refers fields = (x : ℕ) → s.known x ≡ None → HasNo x fields
+
+  ref_known : (y : ℕ) (fields : List ViewField) → Refers (field.Ref y ∷ fields) → IsKnown s.known y
+  ref_known y fields refers = by_known (s.known y) refl
+    where
+      by_known : (k : Option Known) → s.known y ≡ k → IsKnown s.known y
+      by_known None e = absurd ((refers y e).0 refl)
+      by_known (Some k) e = (k, e)
+
+  fields_told : (fields : List ViewField) → Refers fields → Every (IsTold blocks) (filter_map info_in (map (told_field s lies) fields))
+  fields_told [] refers = tt
+  fields_told (field.Null ∷ fields) refers = fields_told fields (λ x e. (refers x e).1)
+  fields_told (field.Int k ∷ fields) refers = fields_told fields (λ x e. (refers x e).1)
+  fields_told (field.Ref y ∷ fields) refers =
+      let k : IsKnown s.known y = ref_known y fields refers in
+      (info_told y k.0 k.1, fields_told fields (λ x e. (refers x e).1))
+
+  targets_known : (fields : List ViewField) → Refers fields → Every (IsKnown s.known) (targets (map (told_field s lies) fields))
+  targets_known [] refers = tt
+  targets_known (field.Null ∷ fields) refers = targets_known fields (λ x e. (refers x e).1)
+  targets_known (field.Int k ∷ fields) refers = targets_known fields (λ x e. (refers x e).1)
+  targets_known (field.Ref y ∷ fields) refers = (ref_known y fields refers, targets_known fields (λ x e. (refers x e).1))
+
+  length_told : (fields : List ViewField) → length (map (told_field s lies) fields) ≡ length fields
+  length_told [] = refl
+  length_told (f ∷ fields) = ap suc (length_told fields)
+
+  module _ (name : ℕ) (k : Known) (is : s.known name ≡ Some k) where
+    fields_are : told_fields s lies name ≡ map (told_field s lies) (unwrap_or k.copy [])
+    fields_are = ap (λ (j : Option Known). map (told_field s lies) (option_map_or (λ (i : Known). unwrap_or i.copy []) j [])) is
+
+    its_fields : Refers (unwrap_or k.copy [])
+    its_fields x none = aware x none name k is
+
+    all_told : Every (IsTold blocks) (filter_map info_in (told_fields s lies name))
+    all_told = subst (λ (f : List Field). Every (IsTold blocks) (filter_map info_in f)) (sym fields_are) (fields_told (unwrap_or k.copy []) its_fields)
+
+    all_known : Every (IsKnown s.known) (targets (told_fields s lies name))
+    all_known = subst (λ (f : List Field). Every (IsKnown s.known) (targets f)) (sym fields_are) (targets_known (unwrap_or k.copy []) its_fields)
+
+    all_there : is_some k.copy ≡ true → length (told_fields s lies name) ≡ (info_of s lies name).size
+    all_there has = by_copy k.copy refl has
+      where
+        by_copy : (c : Option (List ViewField)) → k.copy ≡ c → is_some c ≡ true → length (told_fields s lies name) ≡ (info_of s lies name).size
+        by_copy None e h = absurd cc
+        by_copy (Some fields) e h =
+            ap length fields_are ∙ (λ i. length (map (told_field s lies) (unwrap_or (e i) []))) ∙ length_told fields
+            ∙ keeps.full name k fields is e ∙ (λ i. option_map_or (λ (j : Known). j.size) (sym is i) 0)
+
+    -- a grant
+    abbrev its_grant : Info × List Field
+    its_grant = (info_of s lies name, told_fields s lies name)
+
+    grant_right : is_some k.copy ≡ true → (g : Info × List Field) → Some its_grant ≡ Some g → length g.1 ≡ g.0.size
+    grant_right has g e = subst (λ (h : Info × List Field). length h.1 ≡ h.0.size) (some_same e) (all_there has)
+
+    note_draft : (to : ℕ) (n : Note) → (is_grant n ≡ true → is_some k.copy ≡ true) → IsDraft blocks s.known (record { to = to; msg = message (info_of s lies name) (told_fields s lies name) n })
+    note_draft to (Asks mode.Read asker) has = record { right = record { told = tt; full = no_grant }; gives = tt }
+    note_draft to (Asks mode.Write asker) has = record { right = record { told = tt; full = no_grant }; gives = tt }
+    note_draft to (Grants mode.Read) has = record { right = record { told = (info_told name k is, all_told); full = grant_right (has refl) }; gives = ((k, is), all_known) }
+    note_draft to (Grants mode.Write) has = record { right = record { told = (info_told name k is, all_told); full = grant_right (has refl) }; gives = all_known }
+    note_draft to Recalls has = record { right = record { told = tt; full = no_grant }; gives = tt }
+    note_draft to Returns has = record { right = record { told = tt; full = no_grant }; gives = tt }
+
+    notes_drafts : (sends : List Send) → Every (λ (n : Send). is_grant n.note ≡ true → is_some k.copy ≡ true) sends → Every (IsDraft blocks s.known) (drafts_of s lies name sends)
+    notes_drafts [] has = tt
+    notes_drafts (n ∷ sends) has = (note_draft n.to n.note has.0, notes_drafts sends has.1)
+
+-- notes without a grant tell of nothing, whether the object is known or not
+pub silent_drafts : (blocks : ℕ → Option Block) (known : ℕ → Option Known) (s : NodeState) (lies : ℕ → Place) (name : ℕ) (sends : List Send) → NoGrants sends →
+    Every (IsDraft blocks known) (drafts_of s lies name sends)
+silent_drafts blocks known s lies name [] none = tt
+silent_drafts blocks known s lies name (n ∷ sends) none = (silent n.note none.0, silent_drafts blocks known s lies name sends none.1)
+  where
+    silent : (m : Note) → is_grant m ≡ false → IsDraft blocks known (record { to = n.to; msg = message (info_of s lies name) (told_fields s lies name) m })
+    silent (Asks mode.Read asker) e = record { right = record { told = tt; full = no_grant }; gives = tt }
+    silent (Asks mode.Write asker) e = record { right = record { told = tt; full = no_grant }; gives = tt }
+    silent (Grants mode.Read) e = absurd cc
+    silent (Grants mode.Write) e = absurd cc
+    silent Recalls e = record { right = record { told = tt; full = no_grant }; gives = tt }
+    silent Returns e = record { right = record { told = tt; full = no_grant }; gives = tt }
+
+-- ## outcomes
+
+abbrev pub NotStray : NodeAnswer → Type 0
+NotStray a = a ≢ answer.Stray
+
+-- plain changes and drafts
+pub record IsPlain (blocks : ℕ → Option Block) (known : ℕ → Option Known) (o : Reaction) : Type 0 where
+  pub changes : Each (Plain known) o.changes
+  pub drafts : Every (IsDraft blocks known) o.drafts
+  pub answer : NotStray o.answer
+
+nothing_plain : (blocks : ℕ → Option Block) (known : ℕ → Option Known) (a : NodeAnswer) → NotStray a → IsPlain blocks known (only a)
+nothing_plain blocks known a right = record { changes = tt; drafts = tt; answer = right }
+
+-- what a transition leaves of what was known is of its shape
+pub known_plain : (known : ℕ → Option Known) (name : ℕ) (k : Known) (fields : Option (List ViewField)) (h : Option Share) → known name ≡ Some k →
+    ((f : List ViewField) → fields ≡ Some f → length f ≡ k.size) → Each (Plain known) (known_change name (Some k) fields h)
+known_plain known name k fields None is full = tt
+known_plain known name k fields (Some h) is full = ((ap shape is, λ f e. by_copy h.copy f e), tt)
+  where
+    by_copy : (b : Bool) (f : List ViewField) → cond b fields None ≡ Some f → length f ≡ k.size
+    by_copy true f e = full f e
+    by_copy false f e = none_some e
+
+acquire_answers : (r : Acquire) → NotStray (acquire_answer r)
+acquire_answers acquire_is.Held e = cc
+acquire_answers (acquire_is.Asks parent) e = cc
+acquire_answers acquire_is.Waits e = cc
+acquire_answers acquire_is.Refused e = cc
+
+release_answers : (r : Release) → NotStray (release_answer r)
+release_answers release_is.Free e = cc
+release_answers (release_is.Answers owner) e = cc
+release_answers release_is.Refused e = cc
+
+act_answers : (me : ℕ) (a : Operation) (h : Share) → NotStray (operation_answer me a h)
+act_answers me (Acquires m) h = acquire_answers (acquire me h.part m h.copy).1
+act_answers me Releases h = release_answers (release h.part).1
+act_answers me Serves h = by_test (can_serve me h.part)
+  where
+    by_test : (b : Bool) → NotStray (cond b answer.Nil answer.Idle)
+    by_test true e = cc
+    by_test false e = cc
+
+slice_length : (fields : List ViewField) (index : ℕ) (f : ViewField) → length (slice_set fields index f) ≡ length fields
+slice_length [] index f = refl
+slice_length (g ∷ fields) zero f = refl
+slice_length (g ∷ fields) (suc index) f = ap suc (slice_length fields index f)
+
+-- what a command comes to: plain changes, or the making of a new object in a bunch
+pub data Comes (blocks : ℕ → Option Block) (me : ℕ) (s : NodeState) (full : Bool) (c : Command) (o : Reaction) : Type 0 where
+  Plainly : IsPlain blocks s.known o → ((register bunch size : ℕ) → c ≡ command.New register bunch size → o.answer ≡ answer.Nil → ⊥) → Comes blocks me s full c o
+  New : (register bunch size : ℕ) → c ≡ command.New register bunch size → full ≡ false →
+      o ≡ record { changes = Knows (next_name me s) (new_object bunch size) ∷ Sets register (val.Ref (next_name me s)) ∷ Makes ∷ []; drafts = []; answer = answer.Nil } →
+      Comes blocks me s full c o
+
+module _ (blocks : ℕ → Option Block) (me : ℕ) (s : NodeState) (a : Places) (full : Bool) (lies : ℕ → Place) (keeps : Keeps blocks s.known a)
+    (told : (x : ℕ) (p : Place) → a.place x ≡ Some p → lies x ≡ p) (aware : (x : ℕ) → s.known x ≡ None → FreeOf x s.known)
+    (owners : (x : ℕ) (k : Known) → s.known x ≡ Some k → k.part.role ≡ Owner → is_some k.copy ≡ true) where
+  pub act_plain : (act : Operation) (unknown : NodeAnswer) → NotStray unknown → (name : ℕ) (k : Option Known) → s.known name ≡ k → IsPlain blocks s.known (operation_rule me s lies act unknown name k)
+  act_plain act unknown right name None is = nothing_plain blocks s.known unknown right
+  act_plain act unknown right name (Some k) is = by_turn (transition_of me act (share_of k)) (act_grants me act (share_of k) (owners name k is))
+    where
+      by_turn : (t : Option Transition) → MayGrant (is_some k.copy) t → IsPlain blocks s.known (after_operation s lies name k (operation_answer me act (share_of k)) t)
+      by_turn None grants = nothing_plain blocks s.known _ (act_answers me act (share_of k))
+      by_turn (Some t) grants = record {
+        changes = known_plain s.known name k k.copy t.after is (λ f e. keeps.full name k f is e);
+        drafts = notes_drafts blocks s a lies keeps told aware name k is t.sends grants;
+        answer = act_answers me act (share_of k);
+      }
+
+  -- the graph's commands but `new`
+  stored_plain : (name index : ℕ) (v : Val) (k : Option Known) → s.known name ≡ k → Each (Plain s.known) (stored name k index v)
+  stored_plain name index v None is = tt
+  stored_plain name index v (Some k) is = ((ap shape is, λ f e. by_copy k.copy refl f e), tt)
+    where
+      by_copy : (c : Option (List ViewField)) → k.copy ≡ c → (f : List ViewField) → option_map (λ fields. slice_set fields index (field_of v)) c ≡ Some f → length f ≡ k.size
+      by_copy None e f g = none_some g
+      by_copy (Some fields) e f g = ap length (sym (some_same g)) ∙ slice_length fields index (field_of v) ∙ keeps.full name k fields is e
+
+  -- an effect that makes nothing
+  abbrev MakesNone : Effect → Type 0
+  MakesNone graph_effect.Nothing = Unit {0}
+  MakesNone (graph_effect.Makes register bunch size) = ⊥
+  MakesNone (graph_effect.Sets register v) = Unit {0}
+  MakesNone (graph_effect.Stores name index v) = Unit {0}
+  MakesNone (graph_effect.Holds name hold) = Unit {0}
+
+  effect_plain : (e : Effect) → MakesNone e → Each (Plain s.known) (graph_changes me s e)
+  effect_plain graph_effect.Nothing none = tt
+  effect_plain (graph_effect.Makes register bunch size) none = absurd none
+  effect_plain (graph_effect.Sets register v) none = (tt, tt)
+  effect_plain (graph_effect.Stores name index v) none = stored_plain name index v (s.known name) refl
+  effect_plain (graph_effect.Holds name hold) none = tt
+
+  storing_none : (name : Option ℕ) (index : ℕ) (v : Option Val) → MakesNone (graph_effect.storing name index v)
+  storing_none None index v = tt
+  storing_none (Some name) index None = tt
+  storing_none (Some name) index (Some v) = tt
+
+  setting_none : (register : ℕ) (v : Option Val) → MakesNone (graph_effect.setting register v)
+  setting_none register None = tt
+  setting_none register (Some v) = tt
+
+  answered_plain : (changes : List Change) → Each (Plain s.known) changes → (g : Answer) → IsPlain blocks s.known (answered changes g)
+  answered_plain changes each graph.Nil = record { changes = each; drafts = tt; answer = λ e. cc }
+  answered_plain changes each (graph.Value v) = record { changes = each; drafts = tt; answer = λ e. cc }
+  answered_plain changes each graph.Yes = record { changes = each; drafts = tt; answer = λ e. cc }
+  answered_plain changes each graph.No = record { changes = each; drafts = tt; answer = λ e. cc }
+  answered_plain changes each graph.Wait = nothing_plain blocks s.known _ (λ e. cc)
+  answered_plain changes each (graph.Refused why) = nothing_plain blocks s.known _ (λ e. cc)
+
+  graph_plain : (c : Command) → MakesNone (effect (seen_graph me s) me c) → IsPlain blocks s.known (graph_rule me s c)
+  graph_plain c none = answered_plain (graph_changes me s (effect (seen_graph me s) me c)) (effect_plain (effect (seen_graph me s) me c) none) (answer_of (seen_graph me s) me c)
+
+  fields_plain : (c : Command) (name : Option ℕ) → MakesNone (effect (seen_graph me s) me c) →
+      IsPlain blocks s.known (cond (knows s name) (graph_rule me s c) (only (answer.Refused refusal.Empty)))
+  fields_plain c name none = by_test (knows s name)
+    where
+      by_test : (b : Bool) → IsPlain blocks s.known (cond b (graph_rule me s c) (only (answer.Refused refusal.Empty)))
+      by_test true = graph_plain c none
+      by_test false = nothing_plain blocks s.known _ (λ e. cc)
+
+  token_plain : (act : Operation) (name : Option ℕ) → IsPlain blocks s.known (token_rule me s lies act name)
+  token_plain act None = nothing_plain blocks s.known _ (λ e. cc)
+  token_plain act (Some name) = act_plain act _ (λ e. cc) name (s.known name) refl
+
+  pub command_comes : (c : Command) → Comes blocks me s full c (command_rule me s full lies c (about c))
+  command_comes (command.New register bunch size) = by_full full refl
+    where
+      by_full : (b : Bool) → full ≡ b → Comes blocks me s full (command.New register bunch size) (cond b (only (answer.Refused refusal.Full)) (graph_rule me s (command.New register bunch size)))
+      by_full true is = Plainly (nothing_plain blocks s.known _ (λ e. cc)) (λ r b z same e. cc)
+      by_full false is = New register bunch size refl is refl
+  command_comes (command.Copy register value) = Plainly (graph_plain (command.Copy register value) tt) (λ r b z same e. cc)
+  command_comes (command.Drop register) = Plainly (graph_plain (command.Drop register) tt) (λ r b z same e. cc)
+  command_comes (command.Read on) = Plainly (token_plain (Acquires mode.Read) (target_of (seen_graph me s) me on)) (λ r b z same e. cc)
+  command_comes (command.Write on) = Plainly (token_plain (Acquires mode.Write) (target_of (seen_graph me s) me on)) (λ r b z same e. cc)
+  command_comes (command.Done on) = Plainly (token_plain Releases (target_of (seen_graph me s) me on)) (λ r b z same e. cc)
+  command_comes (command.Set on index value) = Plainly (fields_plain (command.Set on index value) (target_of (seen_graph me s) me on) (storing_none (target_of (seen_graph me s) me on) index _)) (λ r b z same e. cc)
+  command_comes (command.Add on index by) = Plainly (fields_plain (command.Add on index by) (target_of (seen_graph me s) me on) (storing_none (target_of (seen_graph me s) me on) index _)) (λ r b z same e. cc)
+  command_comes (command.Get register on index) = Plainly (fields_plain (command.Get register on index) (target_of (seen_graph me s) me on) (setting_none register _)) (λ r b z same e. cc)
+  command_comes (command.Show on index) = Plainly (fields_plain (command.Show on index) (target_of (seen_graph me s) me on) tt) (λ r b z same e. cc)
+  command_comes (command.Same left right) = Plainly (graph_plain (command.Same left right) tt) (λ r b z same e. cc)
