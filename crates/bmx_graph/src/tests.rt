@@ -1,9 +1,9 @@
 ghost use Rattle.std.specs.Prelude.{IsTrue, IfOk, ◌<◌};
 ghost use Rattle.bmx_graph.specs.Graphs.{IsOperand, HasRegisters};
 
-use crate::{Answer, Decision, Effect, Graph, decide, target};
+use crate::{Answer, Graph};
 use bmx_types::{
-    Birth, BunchNo, Command, Items, Mode, Name, NoMemory, NodeNo, Opening, Operand, Refusal, Val,
+    Birth, BunchNo, Command, Items, Name, NoMemory, NodeNo, Opening, Operand, Refusal, Val,
 };
 use std::alloc::Global;
 use std::process::Abort;
@@ -271,83 +271,6 @@ fn two_nodes_share_an_object_through_the_anchor(rt: HostRuntime) -> Result<(), F
             ),
         ],
     )?;
-    Ok(())
-}
-
-#[test]
-fn what_comes_of_each_command(rt: HostRuntime) -> Result<(), Fail> {
-    let graph = after(
-        &rt,
-        rt.alloc(),
-        &[
-            (0, new(0, 1), Answer::Nil),
-            (0, Command::Write { on: R0 }, Answer::Nil),
-            (0, set(R0, 0, Operand::Int(5)), Answer::Nil),
-        ],
-    )?;
-    let node = NodeNo::new(0).ok_or("node 0")?;
-    let bunch = BunchNo::new(0).ok_or("bunch 0")?;
-    let anchor = Operand::Anchor(bunch);
-    let first = Name::new(node, 1).ok_or("0.1")?;
-    let name = Name::new(node, 2).ok_or("0.2")?;
-    let (register, index) = (1, 0);
-    let add = |by| Command::Add { on: R0, index, by };
-    let stores = |value| Effect::Stores { name, index, value };
-    let sets = |value| Effect::Sets { register, value };
-    let makes = Effect::Makes {
-        register,
-        bunch,
-        size: 3,
-    };
-    let reads = Effect::Holds {
-        name: first,
-        hold: Some(Mode::Read),
-    };
-    let leaves = Effect::Holds { name, hold: None };
-    let five = Val::Int(5);
-    let get = Command::Get {
-        register,
-        on: R0,
-        index,
-    };
-    let copy = Command::Copy {
-        register,
-        value: R0,
-    };
-    let same = Command::Same {
-        left: R0,
-        right: anchor,
-    };
-    let table = [
-        (new(register, 3), Answer::Nil, makes),
-        (copy, Answer::Nil, sets(Val::Ref(name))),
-        (Command::Drop { register }, Answer::Nil, sets(Val::Null)),
-        (Command::Read { on: anchor }, Answer::Nil, reads),
-        (
-            Command::Write { on: R0 },
-            refused(Refusal::Held),
-            Effect::Nothing,
-        ),
-        (Command::Done { on: R0 }, Answer::Nil, leaves),
-        (set(R0, 0, anchor), Answer::Nil, stores(Val::Ref(first))),
-        (set(R0, 1, R0), refused(Refusal::Index), Effect::Nothing),
-        (add(-7), Answer::Nil, stores(Val::Int(-2))),
-        (add(i64::MAX), refused(Refusal::Number), Effect::Nothing),
-        (get, Answer::Value(five), sets(five)),
-        (
-            Command::Show { on: R0, index },
-            Answer::Value(five),
-            Effect::Nothing,
-        ),
-        (same, Answer::No, Effect::Nothing),
-    ];
-    for (command, answer, effect) in table {
-        assert!(rt; has_registers(&command));
-        let decision = Decision { answer, effect };
-        assert_eq!(rt; decide(&graph, node, &command), decision, "{command:?}");
-    }
-    assert_eq!(rt; target(&graph, node, R0), Some(name));
-    assert_eq!(rt; target(&graph, node, Operand::Null), None);
     Ok(())
 }
 
