@@ -47,19 +47,6 @@ fn write(replica: &mut Replica, name: Name, i: u8, number: i64) -> bool {
     true
 }
 
-/// Writes a number into the first field of an object where it stands, and tells the field before that.
-fn write_there(replica: &mut Replica, name: Name, number: i64) -> Option<Val> {
-    let object = replica.object(name)?;
-    if !replica.has_copy(object.header.name) || object.header.size == 0 {
-        return None;
-    }
-    let word = replica.field_word(&object, 0)?;
-    let before = replica.value(word);
-    let held = replica.held(Val::Int(number));
-    replica.write_at(&object, 0, held);
-    Some(before)
-}
-
 /// Reserves segments while they are lent.
 fn reserve_lent(replica: &mut Replica, n: u32) -> Result<(), NoMemory> {
     let mut lent = replica.lend();
@@ -177,8 +164,6 @@ fn a_moved_object_is_reached_by_its_old_address(rt: HostRuntime) -> Result<(), F
     assert_eq!(rt; replica.field(name, 0), Some(Val::Int(-5)));
     let object = replica.object_at(from.word()).ok_or("object")?;
     assert_eq!(rt; (object.address, object.header.name), (to, name));
-    assert_eq!(rt; write_there(&mut replica, name, 6), Some(Val::Int(-5)));
-    assert_eq!(rt; replica.field(name, 0), Some(Val::Int(6)));
     replica.forget(name);
     assert!(rt; replica.object_at(from.word()).is_none());
     assert_eq!(rt; replica.meaning(from.word()), Some(name));
