@@ -1,0 +1,4 @@
+pub mod Rising
+pub mod Map
+pub mod Index
+pub mod Names
