@@ -46,7 +46,7 @@ copied_at r name (Some e) at there = copied_in r name e e.copy at refl there
 pub has_copy : (r : Holding) (name : ℕ) → IsSome (copy_of r name) → HasCopy r name
 has_copy r name there = copied_at r name (entry_of r name) refl there
 
-pub from_field : (o : Option (List Val)) (i : ℕ) → IsSome (option_and_then (λ fields. slice_get fields i) o) → IsSome o
+from_field : (o : Option (List Val)) (i : ℕ) → IsSome (option_and_then (λ fields. slice_get fields i) o) → IsSome o
 from_field None i h = h
 from_field (Some fields) i h = refl
 

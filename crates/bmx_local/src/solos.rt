@@ -1,10 +1,10 @@
-ghost use Rattle.std.specs.Prelude.{◌≡◌, ◌+◌, ◌-◌, ◌^◌, ◌<◌, ◌≤◌, [], ◌∷◌, replicate, Some, None, OnOk, OnErr, IfOk, IfErr, IfSome, IsSome, slice_get};
+ghost use Rattle.std.specs.Prelude.{◌≡◌, ◌+◌, ◌-◌, ◌^◌, ◌<◌, ◌≤◌, [], ◌∷◌, replicate, Some, None, OnOk, OnErr, IfOk, IfErr, IfSome, IsSome, option_and_then, slice_get};
 ghost use Rattle.bmx_types.specs.Words.{anchor_of};
 ghost use Rattle.bmx_types.specs.declared.commands.Command.TheVariants as command;
 
 use crate::locals::Local;
 use bmx_graph::{Answer, permits, sum};
-use bmx_replica::{Held, Object, Replica, Words};
+use bmx_replica::{Replica, Words};
 use bmx_segment::PlaceError;
 use bmx_types::{BunchNo, Command, Mode, Name, NoMemory, NodeNo, Operand, Refusal, Val};
 use std::alloc::Global;
@@ -22,19 +22,18 @@ pub struct Solo {
     made: u64,
 }
 
-/// A field that a command may use: its object, and what it holds.
+/// A field that a command may use: its object, and what stands in it.
 #[derive(Clone, Copy)]
 struct Found {
-    object: Object,
-    held: Held,
+    name: Name,
+    value: Val,
 }
 
 impl Solo {
     ghost use Rattle.bmx_graph.specs.State.{opening_state, fields_of};
-    ghost use Rattle.bmx_graph.specs.Step.{with_register, with_held, with_field, with_new, value_of, reference, target_of, answer_of, state_after};
-    ghost use Rattle.bmx_graph.specs.Inside.Parts.{IsStep, taking, field_refusal, FindsField, permits as is_permitted};
-    ghost use Rattle.std.specs.Option.{option_map};
-    ghost use Rattle.bmx_replica.specs.Replicas.{HasTarget, StandsAt, IsHolding};
+    ghost use Rattle.bmx_graph.specs.Step.{with_register, with_held, with_field, with_new, value_of, target_of, answer_of, state_after};
+    ghost use Rattle.bmx_graph.specs.Inside.Parts.{IsStep, taking, field_refusal, FindsField};
+    ghost use Rattle.bmx_replica.specs.Replicas.{HasTarget};
     ghost use Rattle.bmx_local.specs.Locals.{MeansGraph};
     ghost use Rattle.bmx_local.specs.Rooms.{answer_in, first_rooms, rooms_after, rooms_of};
     ghost use Rattle.bmx_local.specs.Solos.{graph_of, IsSolo, FitsOperand, FitsCommand, answer_at};
@@ -86,13 +85,12 @@ impl Solo {
                 size,
             } => self.make(register, bunch, size),
             Command::Copy { register, value } => {
-                let held = self.held(value);
-                self.set_register(register, held);
+                let value = self.meaning(value);
+                self.set_register(register, value);
                 Ok(Answer::Nil)
             }
             Command::Drop { register } => {
-                let held = self.local.replica.held(Val::Null);
-                self.set_register(register, held);
+                self.set_register(register, Val::Null);
                 Ok(Answer::Nil)
             }
             Command::Read { on } => self.acquire(on, Mode::Read),
@@ -172,109 +170,30 @@ impl Solo {
         self.held.get(&name).copied()
     }
 
-    /// The object that an operand refers to.
-    fn object(&self, on: Operand) -> Option<Object>
-        requires operand { FitsOperand on }
-        requires node { IsSolo self.now }
-        ensures target { option_map (λ o. o.header.name) result ≡ target_of (graph_of self.now) 0 on }
-        ensures stands { IfSome result (λ o. StandsAt self.now.local.replica o) }
-    {
-        match on {
-            Operand::Register(register) => self.referred(register),
-            Operand::Anchor(_) => self.anchor_object(),
-            Operand::Int(_) => None,
-            Operand::Null => None,
-        }
-    }
-
-    /// The anchor's object.
-    fn anchor_object(&self) -> Option<Object>
+    /// A field of an object, None where there is no object of that name or it has no such field.
+    fn field(&self, name: Name, index: u8) -> Option<Val>
         requires { IsSolo self.now }
-        ensures named { option_map (λ o. o.header.name) result ≡ Some (anchor_of 0) }
-        ensures stands { IfSome result (λ o. StandsAt self.now.local.replica o) }
+        ensures value { result ≡ option_and_then (λ fields. slice_get fields index) ((graph_of self.now).object name) }
+        ensures target { IfSome result (λ v. HasTarget self.now.local.replica v) }
     {
-        self.local.replica.object(anchor())
+        self.local.replica.field(name, index)
     }
 
-    /// The object that a register refers to.
-    fn referred(&self, register: u8) -> Option<Object>
-        requires register { register < 16 }
-        requires node { IsSolo self.now }
-        ensures target { option_map (λ o. o.header.name) result ≡ reference ((graph_of self.now).register 0 register) }
-        ensures stands { IfSome result (λ o. StandsAt self.now.local.replica o) }
-    {
-        self.local
-            .replica
-            .object_of(self.local.registers.at(register))
-    }
-
-    /// What an operand stands for, with its word.
-    fn held(&self, operand: Operand) -> Held
-        requires operand { FitsOperand operand }
-        requires node { IsSolo self.now }
-        ensures value { result.value ≡ value_of (graph_of self.now) 0 operand }
-        ensures target { HasTarget self.now.local.replica result.value }
-        ensures held { IsHolding self.now.local.replica result }
-    {
-        match operand {
-            Operand::Register(register) => self.held_in(register),
-            _ => self.local.replica.held(self.meaning(operand)),
-        }
-    }
-
-    /// What a register holds, with its word.
-    fn held_in(&self, register: u8) -> Held
-        requires register { register < 16 }
-        requires node { IsSolo self.now }
-        ensures value { result.value ≡ (graph_of self.now).register 0 register }
-        ensures target { HasTarget self.now.local.replica result.value }
-        ensures held { IsHolding self.now.local.replica result }
-    {
-        self.local
-            .replica
-            .held_by(self.local.registers.at(register))
-    }
-
-    /// What a field of an object holds, None where it has no such field.
-    fn field(&self, object: &Object, index: u8) -> Option<Held>
-        requires node { IsSolo self.now }
-        requires stands { StandsAt self.now.local.replica object.now }
-        ensures value { option_map (λ h. h.value) result ≡ slice_get (fields_of (graph_of self.now) object.now.header.name) index }
-        ensures target { IfSome result (λ h. HasTarget self.now.local.replica h.value) }
-        ensures held { IfSome result (λ h. IsHolding self.now.local.replica h) }
-        ensures within { IfSome result (λ _. index < object.now.header.size) }
-    {
-        match self.local.replica.field_word(object, index) {
-            Some(word) => Some(self.local.replica.held_by(word)),
-            None => None,
-        }
-    }
-
-    /// Whether the node holds the token of an object so.
-    fn permits(&self, object: &Object, use_as: Mode) -> bool
-        ensures { result ≡ is_permitted use_as ((graph_of self.now).held 0 object.now.header.name) }
-    {
-        permits(self.hold(object.header.name), use_as)
-    }
-
-    /// What a command on a field may use: the object that the operand refers to, and what the field
-    /// holds. The error says why it may not.
+    /// What a command on a field may use: the name that the operand refers to, and what stands in the
+    /// field. The error says why it may not.
     fn find_field(&self, on: Operand, index: u8, use_as: Mode) -> Result<Found, Refusal>
         requires operand { FitsOperand on }
         requires node { IsSolo self.now }
-        ensures ok { let s = graph_of self.now in IfOk result (λ f. FindsField use_as s 0 (target_of s 0 on) index f.object.header.name f.held.value) }
+        ensures ok { let s = graph_of self.now in IfOk result (λ f. FindsField use_as s 0 (target_of s 0 on) index f.name f.value) }
         ensures err { let s = graph_of self.now in IfErr result (λ why. field_refusal use_as s 0 (target_of s 0 on) index ≡ Some why) }
-        ensures target { IfOk result (λ f. HasTarget self.now.local.replica f.held.value) }
-        ensures stands { IfOk result (λ f. StandsAt self.now.local.replica f.object) }
-        ensures held { IfOk result (λ f. IsHolding self.now.local.replica f.held) }
-        ensures within { IfOk result (λ f. index < f.object.header.size) }
+        ensures target { IfOk result (λ f. HasTarget self.now.local.replica f.value) }
     {
-        let object = self.object(on).ok_or(Refusal::Empty)?;
-        if !self.permits(&object, use_as) {
+        let name = self.target(on).ok_or(Refusal::Empty)?;
+        if !permits(self.hold(name), use_as) {
             return Err(Refusal::NoToken);
         }
-        let held = self.field(&object, index).ok_or(Refusal::Index)?;
-        Ok(Found { object, held })
+        let value = self.field(name, index).ok_or(Refusal::Index)?;
+        Ok(Found { name, value })
     }
 
     /// A read or a write.
@@ -322,9 +241,9 @@ impl Solo {
         ensures heap { self.new.local.replica.heap ≡ record self.old.local.replica.heap { blocks = self.new.local.replica.heap.blocks } }
     {
         match self.find_field(on, index, Mode::Write) {
-            Ok(Found { object, .. }) => {
-                let held = self.held(value);
-                self.set_field(&object, index, held);
+            Ok(found) => {
+                let value = self.meaning(value);
+                self.set_field(found.name, index, value);
                 Answer::Nil
             }
             Err(why) => Answer::Refused(why),
@@ -339,10 +258,9 @@ impl Solo {
         ensures heap { self.new.local.replica.heap ≡ record self.old.local.replica.heap { blocks = self.new.local.replica.heap.blocks } }
     {
         match self.find_field(on, index, Mode::Write) {
-            Ok(Found { object, held }) => match sum(held.value, by) {
+            Ok(found) => match sum(found.value, by) {
                 Some(sum) => {
-                    let held = self.local.replica.held(Val::Int(sum));
-                    self.set_field(&object, index, held);
+                    self.set_field(found.name, index, Val::Int(sum));
                     Answer::Nil
                 }
                 None => Answer::Refused(Refusal::Number),
@@ -360,10 +278,9 @@ impl Solo {
         ensures heap { self.new.local.replica.heap ≡ self.old.local.replica.heap }
     {
         match self.find_field(on, index, Mode::Read) {
-            Ok(Found { held, .. }) => {
-                let value = held.value;
-                self.set_register(register, held);
-                Answer::Value(value)
+            Ok(found) => {
+                self.set_register(register, found.value);
+                Answer::Value(found.value)
             }
             Err(why) => Answer::Refused(why),
         }
@@ -375,7 +292,7 @@ impl Solo {
         ensures { let s = graph_of self.now in IsStep s 0 (command.Show on index) result s }
     {
         match self.find_field(on, index, Mode::Read) {
-            Ok(Found { held, .. }) => Answer::Value(held.value),
+            Ok(found) => Answer::Value(found.value),
             Err(why) => Answer::Refused(why),
         }
     }
@@ -415,7 +332,7 @@ impl Solo {
         match self.local.replica.make(name, bunch, size) {
             Ok(()) => {
                 self.made = count;
-                self.refer(register, name);
+                self.set_register(register, Val::Ref(name));
                 Ok(Answer::Nil)
             }
             Err(PlaceError::Full) => Ok(Answer::Refused(Refusal::Full)),
@@ -424,29 +341,16 @@ impl Solo {
     }
 
     /// A register becomes the value.
-    fn set_register(&mut self, register: u8, held: Held)
+    fn set_register(&mut self, register: u8, value: Val)
         requires register { register < 16 }
-        requires target { HasTarget self.old.local.replica held.value }
-        requires held { IsHolding self.old.local.replica held }
+        requires target { HasTarget self.old.local.replica value }
         requires node { IsSolo self.old }
-        ensures graph { graph_of self.new ≡ with_register (graph_of self.old) 0 register held.value }
+        ensures graph { graph_of self.new ≡ with_register (graph_of self.old) 0 register value }
         ensures node { IsSolo self.new }
         ensures heap { self.new.local.replica.heap ≡ self.old.local.replica.heap }
     {
-        self.local.registers.set(register, held.word);
-    }
-
-    /// A register refers to a name.
-    fn refer(&mut self, register: u8, name: Name)
-        requires register { register < 16 }
-        requires target { HasTarget self.old.local.replica (Val.Ref name) }
-        requires node { IsSolo self.old }
-        ensures graph { graph_of self.new ≡ with_register (graph_of self.old) 0 register (Val.Ref name) }
-        ensures node { IsSolo self.new }
-        ensures heap { self.new.local.replica.heap ≡ self.old.local.replica.heap }
-    {
-        let held = self.local.replica.held(Val::Ref(name));
-        self.set_register(register, held);
+        let word = self.local.replica.word(value);
+        self.local.registers.set(register, word);
     }
 
     /// The node holds a name so.
@@ -472,18 +376,15 @@ impl Solo {
     }
 
     /// A field that is there becomes the value.
-    fn set_field(&mut self, object: &Object, index: u8, held: Held)
-        requires field { IsSome (slice_get (fields_of (graph_of self.old) object.now.header.name) index) }
-        requires stands { StandsAt self.old.local.replica object.now }
-        requires within { index < object.now.header.size }
-        requires target { HasTarget self.old.local.replica held.value }
-        requires held { IsHolding self.old.local.replica held }
+    fn set_field(&mut self, name: Name, index: u8, value: Val)
+        requires field { IsSome (slice_get (fields_of (graph_of self.old) name) index) }
+        requires target { HasTarget self.old.local.replica value }
         requires node { IsSolo self.old }
-        ensures graph { graph_of self.new ≡ with_field (graph_of self.old) object.now.header.name index held.value }
+        ensures graph { graph_of self.new ≡ with_field (graph_of self.old) name index value }
         ensures node { IsSolo self.new }
         ensures heap { self.new.local.replica.heap ≡ record self.old.local.replica.heap { blocks = self.new.local.replica.heap.blocks } }
     {
-        self.local.replica.write_at(object, index, held);
+        self.local.replica.write_field(name, index, value);
     }
 }
 

@@ -26,9 +26,9 @@ make-requires-clause-absent c =
     let name : c.unwrap-name.result ≡ name_word 0 (n.made + 1) = MatchOption-at_some _ _ c.unwrap-name.result c.unwrap-name.ensures c.new.ensures.value ∙ ap (λ k. name_word k (n.made + 1)) c.node.ensures in
     ap (entry_of n.local.replica) name ∙ c.requires.node.fresh (n.made + 1) (omega arith)
 
-pub refer-requires-clause-node : goal.refer-requires-clause-node
+pub set_register-requires-clause-node : goal.set_register-requires-clause-node
 unfolding IsSolo
-refer-requires-clause-node c =
+set_register-requires-clause-node c =
     let n = c.args.self.now in
     let made = c.in-Ok.ensures.made in
     let name : c.unwrap-name.result ≡ name_word 0 (n.made + 1) = MatchOption-at_some _ _ c.unwrap-name.result c.unwrap-name.ensures c.new.ensures.value ∙ ap (λ k. name_word k (n.made + 1)) c.node.ensures in
@@ -55,20 +55,20 @@ returns-in-Ok-clause-ok c =
     (object_put r new name (blank_entry c.args.bunch c.args.size made.at) fields made.entry refl)
     (λ m q. let w : Word = word_of n.local.registers q in ap (λ v. cond (m == 0) v val.Null) (value_kept r new (kind_number w.kind) w.word made.keeps.names (c.requires.node.fields q)))
     (λ m q. refl) (made_put n.made (n.made + 1)) in
-    c.refer.ensures.graph ∙ ap (λ (t : State). with_register t 0 c.args.register (val.Ref name)) changed
+    c.set_register.ensures.graph ∙ ap (λ (t : State). with_register t 0 c.args.register (val.Ref name)) changed
     ∙ with_new-from s 0 c.args.register c.args.size 0 name (n.made + 1) fields refl named refl refl
 
 pub returns-in-Ok-clause-rooms : goal.returns-in-Ok-clause-rooms
 unfolding IsSolo
 returns-in-Ok-clause-rooms c =
     let n = c.args.self.now in
-    ap rooms_of c.refer.ensures.heap
+    ap rooms_of c.set_register.ensures.heap
     ∙ made_rooms n.local.replica c.make.new.self c.unwrap-name.result c.args.bunch c.args.size c.requires.bunch (omega (arith, c.requires.node.bunches)) c.in-Ok.ensures.made
 
 pub returns-in-Ok-clause-limit : goal.returns-in-Ok-clause-limit
 returns-in-Ok-clause-limit c =
     let n = c.args.self.now in
-    ap (λ (h : Heap). h.limit) c.refer.ensures.heap
+    ap (λ (h : Heap). h.limit) c.set_register.ensures.heap
     ∙ made_limit n.local.replica c.make.new.self c.unwrap-name.result c.args.bunch c.args.size c.in-Ok.ensures.made
 
 pub returns-in-Err-Full-clause-ok : goal.returns-in-Err-Full-clause-ok

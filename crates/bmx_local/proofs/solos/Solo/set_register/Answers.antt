@@ -14,10 +14,10 @@ returns-clause-graph c =
     let r = n.local.replica in
     let words = n.local.registers in
     let there : c.args.register < length words = omega (arith, c.requires.node.few, c.requires.register) in
-    let put : (q : ℕ) → value_at r (word_of c.set.new.self q) ≡ cond (c.args.register == q) c.args.held.value (value_at r (word_of words q)) =
-    λ q. ap (λ (ws : List Word). value_at r (word_of ws q)) c.set.ensures ∙ register_put r words c.args.register c.args.held.word c.args.held.value there c.requires.held.holds q in
+    let put : (q : ℕ) → value_at r (word_of c.set.new.self q) ≡ cond (c.args.register == q) c.args.value (value_at r (word_of words q)) =
+    λ q. ap (λ (ws : List Word). value_at r (word_of ws q)) c.set.ensures ∙ register_put r words c.args.register c.word-word.result c.args.value there c.word-word.ensures.holds q in
     graph_of-from (record n { local = record n.local { registers = c.set.new.self } }) _ (λ q. refl)
-    (alone_put (λ q. value_at r (word_of words q)) (λ q. value_at r (word_of c.set.new.self q)) val.Null c.args.register c.args.held.value put)
+    (alone_put (λ q. value_at r (word_of words q)) (λ q. value_at r (word_of c.set.new.self q)) val.Null c.args.register c.args.value put)
     (λ m q. refl) (λ m. refl)
 
 pub returns-clause-node : goal.returns-clause-node
@@ -25,6 +25,6 @@ unfolding IsSolo
 returns-clause-node c =
     let n = c.args.self.now in
     let r = n.local.replica in
-    let h = c.requires.held in
-    set_solo n.local n.made c.args.register c.args.held.word c.args.held.value c.set.new.self c.requires.node c.requires.register c.set.ensures h.field h.holds
-    (holds_word r c.args.held.value c.args.held.word h.word h.reach h.holds) c.requires.target
+    let w = c.word-word in
+    set_solo n.local n.made c.args.register w.result c.args.value c.set.new.self c.requires.node c.requires.register c.set.ensures w.ensures.field w.ensures.holds
+    (holds_word r c.args.value w.result w.ensures.word w.ensures.reach w.ensures.holds) c.requires.target
