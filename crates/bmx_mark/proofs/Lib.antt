@@ -1,0 +1,5 @@
+pub mod Targets
+pub mod Named
+pub mod Kept
+pub mod Scanning
+pub mod Reaching

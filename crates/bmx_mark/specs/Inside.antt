@@ -1,0 +1,3 @@
+-- For private functions and proofs alone.
+pub mod Marks
+pub mod Targets

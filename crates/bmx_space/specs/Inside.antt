@@ -1,0 +1,2 @@
+-- For private functions and proofs alone.
+pub mod Sweeping
