@@ -1,12 +1,8 @@
-ghost use Rattle.std.specs.Prelude.{◌≡◌, ◌≤◌, All, IfOk, IfSome};
-ghost use Rattle.bmx_types.specs.declared.addresses.Info.{Info as InfoOf};
-ghost use Rattle.bmx_replica.specs.Letters.{infos_in};
+ghost use Rattle.std.specs.Prelude.{◌≡◌, ◌≤◌, IfSome};
 
 use crate::{LearnError, Replica, Word, Words};
-use bmx_msg::{Field, Msg};
 use bmx_segment::{Kind, PlaceError};
-use bmx_types::{Address, BunchNo, Info, Items, Name, NoMemory, NodeNo, Place, Val};
-use std::alloc::Global;
+use bmx_types::{Address, BunchNo, Info, Name, NoMemory, NodeNo, Place, Val};
 use std::test::Fail;
 
 /// How many names the test of many has.
@@ -53,66 +49,6 @@ fn reserve_lent(replica: &mut Replica, n: u32) -> Result<(), NoMemory> {
     let reserved = lent.segments.reserve(n);
     replica.give_back(lent);
     reserved
-}
-
-/// What node 1 tells of an object of bunch 2: which of its names it is, its word in the first segment, and
-/// how often it has moved.
-fn object(of: (u64, u32, u64)) -> Option<Info>
-    ensures { IfSome result (λ i. i.size ≡ 1) }
-{
-    let (count, word, moves) = of;
-    let home = NodeNo::new(1)?;
-    let name = Name::new(home, count)?;
-    let address = Address::new(home, 1, word)?;
-    Some(told(name, BunchNo::new(2)?, address, moves))
-}
-
-/// A grant of an object with two references.
-fn grant(alloc: Global, info: Info, first: Info, second: Info) -> Result<Msg, NoMemory>
-    requires first { first.size ≤ 32 }
-    requires second { second.size ≤ 32 }
-    requires object { info.size ≤ 32 }
-    ensures { IfOk result (λ msg. All (λ (i : InfoOf). i.size ≤ 32) (infos_in msg)) }
-{
-    let mut fields = Items::new(alloc);
-    fields.push(Field::Ref(first))?;
-    fields.push(Field::Ref(second))?;
-    Ok(Msg::ReadGrant { info, fields })
-}
-
-/// Whether a grant of an object with two references clashes.
-fn clashes(
-    alloc: Global,
-    replica: &Replica,
-    told: ((u64, u32, u64), (u64, u32, u64), (u64, u32, u64)),
-) -> Result<bool, Fail> {
-    let (granted, first, second) = told;
-    let granted = object(granted).ok_or("granted")?;
-    let first = object(first).ok_or("first")?;
-    let second = object(second).ok_or("second")?;
-    let msg = grant(alloc, granted, first, second)?;
-    Ok(replica.clashes(&msg))
-}
-
-/// Installs two fields where there are such objects: a number, and a reference.
-fn install(
-    alloc: Global,
-    replica: &mut Replica,
-    name: Name,
-    number: i64,
-    target: Info,
-) -> Result<bool, NoMemory> {
-    let Some(info) = replica.info(name) else {
-        return Ok(false);
-    };
-    if info.size != 2 || replica.info(target.name).is_none() {
-        return Ok(false);
-    }
-    let mut fields = Items::new(alloc);
-    fields.push(Field::Int(number))?;
-    fields.push(Field::Ref(target))?;
-    replica.install(name, &fields);
-    Ok(true)
 }
 
 #[test]
@@ -162,10 +98,7 @@ fn a_moved_object_is_reached_by_its_old_address(rt: HostRuntime) -> Result<(), F
     assert_eq!(rt; replica.meaning(from.word()), Some(name));
     assert!(rt; replica.same(from.word(), to.word()));
     assert_eq!(rt; replica.field(name, 0), Some(Val::Int(-5)));
-    let object = replica.object_at(from.word()).ok_or("object")?;
-    assert_eq!(rt; (object.address, object.header.name), (to, name));
     replica.forget(name);
-    assert!(rt; replica.object_at(from.word()).is_none());
     assert_eq!(rt; replica.meaning(from.word()), Some(name));
     assert_eq!(rt; replica.info(name), None);
     Ok(())
@@ -217,75 +150,4 @@ fn registers(rt: HostRuntime) {
     words.set(15, word);
     assert_eq!(rt; words.at(15), word);
     assert_eq!(rt; words.at(0).kind, Kind::Null);
-}
-
-#[test]
-fn a_letter_clashes_with_what_is_known_and_with_itself(rt: HostRuntime) -> Result<(), Fail> {
-    let node = NodeNo::new(0).ok_or("node")?;
-    let known = object((5, 0, 2)).ok_or("known")?;
-    let mut replica = Replica::new(rt.alloc(), node, 4);
-    replica.learn(&known)?;
-    let grants = [
-        // What is told of the known object, and of two of its targets; whether it clashes.
-        (((5, 100, 1), (6, 200, 0), (7, 205, 0)), false),
-        (((5, 0, 3), (6, 200, 0), (7, 205, 0)), true),
-        (((5, 100, 1), (6, 200, 0), (7, 204, 0)), true),
-        (((5, 100, 1), (6, 200, 0), (7, 200, 0)), true),
-        (((5, 100, 1), (6, 200, 0), (6, 300, 1)), false),
-        (((5, 100, 1), (6, 200, 0), (6, 200, 1)), true),
-        (((5, 100, 1), (6, 100, 0), (7, 200, 0)), false),
-        (((5, 100, 3), (6, 100, 0), (7, 200, 0)), true),
-        (((5, 100, 1), (6, 2, 0), (7, 200, 0)), true),
-        (((5, 100, 3), (6, 2, 0), (7, 200, 0)), true),
-        (((5, 100, 3), (5, 0, 3), (7, 200, 0)), false),
-        (((5, 100, 3), (5, 0, 4), (7, 200, 0)), false),
-        (((5, 100, 1), (6, 1020, 0), (7, 200, 0)), true),
-    ];
-    for (told, clash) in grants {
-        assert_eq!(rt; clashes(rt.alloc(), &replica, told)?, clash);
-    }
-    Ok(())
-}
-
-#[test]
-fn a_letter_clashes_by_its_size(rt: HostRuntime) -> Result<(), Fail> {
-    let node = NodeNo::new(0).ok_or("node")?;
-    let known = object((5, 0, 2)).ok_or("known")?;
-    let mut replica = Replica::new(rt.alloc(), node, 4);
-    replica.learn(&known)?;
-    let larger = Info { size: 2, ..known };
-    assert!(rt; replica.clashes(&grant(rt.alloc(), larger, known, known)?));
-    assert!(rt; replica.clashes(&grant(rt.alloc(), known, known, larger)?));
-    let name = known.name;
-    let asker = node;
-    assert!(rt; !replica.clashes(&Msg::ReadReq { name, asker }));
-    assert_eq!(rt; replica.info(name), Some(known));
-    Ok(())
-}
-
-#[test]
-fn a_copy_is_installed(rt: HostRuntime) -> Result<(), Fail> {
-    let node = NodeNo::new(0).ok_or("node")?;
-    let other = NodeNo::new(1).ok_or("other")?;
-    let bunch = BunchNo::new(2).ok_or("bunch")?;
-    let name = Name::new(other, 5).ok_or("name")?;
-    let second = Name::new(other, 6).ok_or("second")?;
-    let mut replica = Replica::new(rt.alloc(), node, 4);
-    replica.reserve(2)?;
-    let at = Address::new(other, 1, 0).ok_or("address")?;
-    replica.learn(&Info {
-        size: 2,
-        ..told(name, bunch, at, 0)
-    })?;
-    let at = Address::new(other, 1, 6).ok_or("address")?;
-    let target = told(second, bunch, at, 0);
-    replica.learn(&target)?;
-    for number in [-7, 8] {
-        assert!(rt; install(rt.alloc(), &mut replica, name, number, target)?);
-        assert!(rt; replica.has_copy(name) && !replica.has_copy(second));
-        assert_eq!(rt; replica.field(name, 0), Some(Val::Int(number)));
-        assert_eq!(rt; replica.field(name, 1), Some(Val::Ref(second)));
-        assert_eq!(rt; replica.field(name, 2), None);
-    }
-    Ok(())
 }
