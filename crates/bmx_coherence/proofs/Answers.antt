@@ -13,7 +13,9 @@ use Rattle.bmx_types.specs.declared.commands.Command.TheVariants as command
 use Rattle.bmx_types.specs.declared.commands.Refusal.{Refusal}
 use Rattle.bmx_types.specs.declared.commands.Refusal.TheVariants as refusal
 use Rattle.bmx_graph.specs.State.{State, fields_of}
-use Rattle.bmx_graph.specs.Step.{value_of, reference, target_of, same_value, is_writer, read_answer, write_answer, done_answer, set_at, set_answer, add_at, add_answer, get_at, get_answer, answer_of, field_at, Effect, Nothing, Makes as MakesOne, Sets as SetsOne, Stores, Holds, holding, storing, setting, raised_by, effect, changed, state_after, MayAnswer, IsAnswer}
+use Rattle.bmx_graph.specs.Step.{value_of, reference, target_of, same_value, is_writer, read_answer, write_answer, done_answer, set_at, set_answer, add_at, add_answer, get_at, get_answer, answer_of, field_at, holding, storing, setting, raised_by, effect, changed, state_after, MayAnswer, IsAnswer}
+use Rattle.bmx_graph.specs.declared.effects.Effect.{Effect}
+use Rattle.bmx_graph.specs.declared.effects.Effect.TheVariants.{Nothing, Makes as MakesOne, Sets as SetsOne, Stores, Holds}
 use Rattle.bmx_graph.specs.declared.answers.Answer.{Answer}
 use Rattle.bmx_graph.specs.declared.answers.Answer.TheVariants as graph
 use Rattle.bmx_graph.specs.Inside.Parts.{is_excluded}

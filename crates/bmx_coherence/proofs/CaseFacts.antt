@@ -17,7 +17,6 @@ use Rattle.bmx_coherence.specs.Waits.{WaitsFor, WantsAreWaitedFor}
 use Rattle.bmx_coherence.specs.Copies.{AreCurrent, TargetsAreKnown}
 use Rattle.bmx_coherence.specs.Laws.{IsGraphRun, HasGraph}
 use Rattle.bmx_coherence.specs.Cases.{store, old_fields, read_while_written, never_made, granted, granted_of_old}
-
 use Rattle.bmx_coherence.specs.Telling.{LawsTell, WrongRulesBreak}
 use Rattle.bmx_coherence.specs.Wrong.{three, hastily_granted, deafly_taken, rashly_dropped}
 

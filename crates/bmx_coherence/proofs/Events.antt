@@ -17,7 +17,9 @@ use Rattle.bmx_types.specs.declared.commands.Command.{Command}
 use Rattle.bmx_types.specs.declared.commands.Command.TheVariants as command
 use Rattle.bmx_graph.specs.State.{State, opening_state}
 use Rattle.bmx_types.specs.Updates.{put}
-use Rattle.bmx_graph.specs.Step.{target_of, is_writer, Effect, Nothing, Makes as MakesOne, Sets as SetsOne, Stores, Holds, changed, state_after, state_after_all, Act, IsAnswer, IsRun}
+use Rattle.bmx_graph.specs.Step.{target_of, is_writer, changed, state_after, state_after_all, Act, IsAnswer, IsRun}
+use Rattle.bmx_graph.specs.declared.effects.Effect.{Effect}
+use Rattle.bmx_graph.specs.declared.effects.Effect.TheVariants.{Nothing, Makes as MakesOne, Sets as SetsOne, Stores, Holds}
 use Rattle.bmx_graph.specs.Inside.Parts.{excludes, is_excluded}
 use Rattle.bmx_graph.proofs.Excluded.{is_excluded-none}
 use Rattle.bmx_graph.specs.declared.answers.Answer.{Answer}

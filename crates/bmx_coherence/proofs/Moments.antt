@@ -15,7 +15,9 @@ use Rattle.bmx_types.specs.declared.commands.Operand.TheVariants as operand
 use Rattle.bmx_types.specs.declared.numbers.Mode.{Mode}
 use Rattle.bmx_types.specs.declared.numbers.Mode.TheVariants as mode
 use Rattle.bmx_graph.specs.State.{State}
-use Rattle.bmx_graph.specs.Step.{reference, target_of, Effect, Nothing, Makes, Sets, Stores, Holds}
+use Rattle.bmx_graph.specs.Step.{reference, target_of}
+use Rattle.bmx_graph.specs.declared.effects.Effect.{Effect}
+use Rattle.bmx_graph.specs.declared.effects.Effect.TheVariants.{Nothing, Makes, Sets, Stores, Holds}
 use Rattle.bmx_graph.specs.Step as graph_step
 use Rattle.bmx_msg.specs.declared.letters.Field.{Field}
 use Rattle.bmx_msg.specs.declared.letters.Letter.{Letter}

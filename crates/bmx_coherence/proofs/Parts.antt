@@ -11,7 +11,9 @@ use Rattle.bmx_types.specs.declared.numbers.Mode.{Mode}
 use Rattle.bmx_types.specs.declared.addresses.Info.{Info}
 use Rattle.bmx_graph.specs.State.{State, fields_of}
 use Rattle.bmx_types.specs.Updates.{put, put_at}
-use Rattle.bmx_graph.specs.Step.{Effect, Nothing, Makes as MakesOne, Sets as SetsOne, Stores, Holds, changed}
+use Rattle.bmx_graph.specs.Step.{changed}
+use Rattle.bmx_graph.specs.declared.effects.Effect.{Effect}
+use Rattle.bmx_graph.specs.declared.effects.Effect.TheVariants.{Nothing, Makes as MakesOne, Sets as SetsOne, Stores, Holds}
 use Rattle.bmx_graph.specs.Step as graph_step
 use Rattle.bmx_protocol.specs.declared.views.ViewField.{ViewField}
 use Rattle.bmx_protocol.specs.declared.views.ViewField.TheVariants as field

@@ -15,7 +15,9 @@ use Rattle.bmx_types.specs.declared.commands.Command.TheVariants as command
 use Rattle.bmx_types.specs.declared.commands.Refusal.TheVariants as refusal
 use Rattle.bmx_graph.specs.State.{State, fields_of}
 use Rattle.bmx_types.specs.Updates.{put}
-use Rattle.bmx_graph.specs.Step.{value_of, reference, target_of, same_value, is_writer, add_at, sum_of, answer_of, Effect, Nothing, Makes as MakesOne, Sets as SetsOne, Stores, Holds, effect}
+use Rattle.bmx_graph.specs.Step.{value_of, reference, target_of, same_value, is_writer, add_at, sum_of, answer_of, effect}
+use Rattle.bmx_graph.specs.declared.effects.Effect.{Effect}
+use Rattle.bmx_graph.specs.declared.effects.Effect.TheVariants.{Nothing, Makes as MakesOne, Sets as SetsOne, Stores, Holds}
 use Rattle.bmx_graph.specs.Step as step
 use Rattle.bmx_graph.specs.declared.answers.Answer.{Answer}
 use Rattle.bmx_graph.specs.declared.answers.Answer.TheVariants as graph

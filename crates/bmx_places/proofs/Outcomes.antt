@@ -13,8 +13,9 @@ use Rattle.bmx_types.specs.declared.addresses.Place.{Place}
 use Rattle.bmx_types.specs.declared.addresses.Info.{Info}
 use Rattle.bmx_graph.specs.declared.answers.Answer.{Answer}
 use Rattle.bmx_graph.specs.declared.answers.Answer.TheVariants as graph
-use Rattle.bmx_graph.specs.Step.{answer_of, target_of, Effect, effect}
-use Rattle.bmx_graph.specs.Step as graph_effect
+use Rattle.bmx_graph.specs.Step.{answer_of, target_of, effect}
+use Rattle.bmx_graph.specs.declared.effects.Effect.{Effect}
+use Rattle.bmx_graph.specs.declared.effects.Effect.TheVariants as graph_effect
 use Rattle.bmx_msg.specs.declared.letters.Field.{Field}
 use Rattle.bmx_msg.specs.Letters.{targets}
 use Rattle.bmx_token.specs.declared.parts.Part.{Part}
