@@ -13,7 +13,7 @@ use Rattle.bmx_types.specs.declared.addresses.Place.{Place}
 use Rattle.bmx_types.specs.declared.addresses.Info.{Info}
 use Rattle.bmx_graph.specs.declared.answers.Answer.{Answer}
 use Rattle.bmx_graph.specs.declared.answers.Answer.TheVariants as graph
-use Rattle.bmx_graph.specs.Step.{answer_of, target_of, effect}
+use Rattle.bmx_graph.specs.Step.{answer_of, target_of, effect, setting, storing}
 use Rattle.bmx_graph.specs.declared.effects.Effect.{Effect}
 use Rattle.bmx_graph.specs.declared.effects.Effect.TheVariants as graph_effect
 use Rattle.bmx_msg.specs.declared.letters.Field.{Field}
@@ -276,12 +276,12 @@ module _ (blocks : ℕ → Option Block) (me : ℕ) (s : NodeState) (a : Places)
   effect_plain (graph_effect.Stores name index v) none = stored_plain name index v (s.known name) refl
   effect_plain (graph_effect.Holds name hold) none = tt
 
-  storing_none : (name : Option ℕ) (index : ℕ) (v : Option Val) → MakesNone (graph_effect.storing name index v)
+  storing_none : (name : Option ℕ) (index : ℕ) (v : Option Val) → MakesNone (storing name index v)
   storing_none None index v = tt
   storing_none (Some name) index None = tt
   storing_none (Some name) index (Some v) = tt
 
-  setting_none : (register : ℕ) (v : Option Val) → MakesNone (graph_effect.setting register v)
+  setting_none : (register : ℕ) (v : Option Val) → MakesNone (setting register v)
   setting_none register None = tt
   setting_none register (Some v) = tt
 
