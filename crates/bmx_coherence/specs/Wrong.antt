@@ -33,8 +33,8 @@ reacts st p me stamp i wrong = with_outcome p me stamp i (wrong (p.nodes me).sta
 
 -- the head of the queue is served as where nobody reads
 abbrev hasty_head : ℕ → Part → List Ask → Option Transition → Option Transition
-hasty_head me p [] none = none
-hasty_head me p (head ∷ rest) none = served (record { copy = true; part = p }) (serve_alone me p head.asker rest).0 (serve_alone me p head.asker rest).1
+hasty_head me p [] otherwise = otherwise
+hasty_head me p (head ∷ rest) otherwise = served (record { copy = true; part = p }) (serve_alone me p head.asker rest).0 (serve_alone me p head.asker rest).1
 
 abbrev hasty_serve : ℕ → NodeState → (ℕ → Place) → Reaction
 hasty_serve me s lies = option_map_or (λ k. after_operation s lies 1 k answer.Nil (hasty_head me k.part k.part.queue None)) (s.known 1) (only answer.Idle)

@@ -6,6 +6,3 @@ mod servable;
 mod tokens;
 
 pub use tokens::Tokens;
-
-#[cfg(test)]
-mod tests;
