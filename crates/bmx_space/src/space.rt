@@ -157,3 +157,6 @@ fn open_last(segments: &mut Segments, bunch: BunchNo, number: u32)
         segments.set_open(number);
     }
 }
+
+#[cfg(test)]
+mod tests;

@@ -6,3 +6,6 @@ mod servable;
 mod tokens;
 
 pub use tokens::Tokens;
+
+#[cfg(test)]
+mod tests;
