@@ -1,5 +1,16 @@
 # A newcomer's two commands are `make run` and `make test`.
 
+# Lists what can be made.
+help:
+	@echo 'make run            proves, builds and runs the first example; leaves bin/bmx'
+	@echo 'make test           the gate: proofs, must-fail edits, tests, programs, runs, claims'
+	@echo 'make try SCRIPT=F   runs a script before any proof, in seconds'
+	@echo 'make examples       runs each example and compares what it prints'
+	@echo 'make runs           runs the program by a table of words, streams and want of memory'
+	@echo 'make claims         counts what one has to believe of each claim'
+	@echo 'make bench          times scripts and cleanings; YARDSTICK=F compares with plain Rust'
+	@echo 'make check          proves every crate over what earlier checks kept'
+
 # Proves and builds the program, runs the first example, and leaves the program as bin/bmx.
 run: build
 	./bin/bmx run < examples/first.bmx
@@ -16,6 +27,7 @@ test:
 
 # Runs a script before any proof, in seconds: make try SCRIPT=examples/first.bmx
 try:
+	@test -f "$(SCRIPT)" || { echo 'make try: SCRIPT="$(SCRIPT)" is no file; try SCRIPT=examples/first.bmx' >&2; exit 2; }
 	cd crates/bmx_cli && rt try -- run < $(abspath $(SCRIPT))
 
 # Runs each example and compares what it prints with the file beside it.
@@ -26,7 +38,7 @@ examples: build
 runs: build
 	python3 tools/runs.py bin/bmx
 
-# Counts what a reader has to believe of each claim of the README.
+# Counts what a reader has to believe of each claim of docs/PROVED.md.
 claims:
 	python3 tools/claims.py
 
@@ -44,4 +56,4 @@ endif
 check:
 	rt all check
 
-.PHONY: run build test try examples runs claims bench check
+.PHONY: help run build test try examples runs claims bench check

@@ -1,9 +1,9 @@
 #!/usr/bin/env python3
-"""Tells what a reader has to believe: how much the words of each claim of the README reach.
+"""Tells what a reader has to believe: how much the words of each claim of docs/PROVED.md reach.
 
   tools/claims.py [-v]   -v lists the definitions of each claim
 
-A claim is the contract of `bmx`, or a law: a function with an empty body that the README's table names. From the words
+A claim is the contract of `bmx`, or a law: a function with an empty body that its table names. From the words
 of its clauses the names are followed through the `use` lines of specs/, and for each type of src/ through its `Model`.
 Lines are those of the definitions reached, without comments. It fails where one of them stands under specs/Inside/,
 which is for proofs and private functions alone, and where a law isn't a public function that its crate hands up.
@@ -204,9 +204,9 @@ def is_handed_up(crate, file, name):
     return bool(re.search(rf"\b{name}\b", listed)) or f"\npub mod {module};" in text
 
 
-def named_by_readme():
-    """The functions that the README's table names, by crate: those in the last column of a crate's row."""
-    for row in re.findall(r"^\| `(\w+)` \|.*\| (.*?) \|$", text_of(f"{TOP}/README.md"), re.M):
+def named_by_page():
+    """The functions that the page's table names, by crate: those in the last column of a crate's row."""
+    for row in re.findall(r"^\| `(\w+)` \|.*\| (.*?) \|$", text_of(f"{TOP}/docs/PROVED.md"), re.M):
         for name in re.findall(r"`([a-z_]\w*)`", row[1]):
             if not name.startswith("bmx_"):
                 yield row[0], name
@@ -219,18 +219,18 @@ def size(found):
 
 def main():
     faults, by_crate = [], {}
-    for crate, name in named_by_readme():
+    for crate, name in named_by_page():
         contract = contract_of(crate, name)
         if contract is None:
             # (a type's function, or none)
             if not any(re.search(rf"\bfn {name}\b", text) for text in sources(crate).values()):
-                faults.append(f"README names {name}, and {crate} has no such function")
+                faults.append(f"docs/PROVED.md names {name}, and {crate} has no such function")
             continue
         words, is_law, is_public = contract
         if not is_law and (crate, name) != PROGRAM:
             continue
         if not is_public:
-            faults.append(f"README names {name}, and {crate} doesn't hand it up as a public function")
+            faults.append(f"docs/PROVED.md names {name}, and {crate} doesn't hand it up as a public function")
         found = reach(*words)
         by_crate.setdefault(crate, {}).update(found)
         print(f"{crate} {name}: {size(found)}")
