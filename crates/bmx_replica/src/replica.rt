@@ -4,7 +4,7 @@ ghost use Rattle.bmx_types.specs.Words.{home_of, segment_of, index_of};
 ghost use Rattle.bmx_replica.specs.declared.replica.LearnError.TheVariants.{NoMemory as out_of_memory, Clash as no_fit};
 ghost use Rattle.bmx_segment.specs.Headers.{kind_number};
 ghost use Rattle.bmx_segment.specs.Stores.{AreApart, Lays};
-ghost use Rattle.bmx_segment.specs.Heaps.{CanSet, made_of, room_of, handed_of};
+ghost use Rattle.bmx_segment.specs.Heaps.{CanSet, IsHeap, made_of, room_of, handed_of};
 ghost use Rattle.bmx_segment.specs.declared.segments.PlaceError.TheVariants.{Full};
 ghost use Rattle.bmx_replica.specs.Slots.{slot_of};
 ghost use Rattle.bmx_replica.specs.Chains.{Means, name_at};
@@ -149,7 +149,14 @@ impl Replica {
     pub fn segments(&self) -> &Segments
         ensures heap { result.now ≡ self.now.heap }
         ensures replica { IsReplica self.now.slots self.now.heap.blocks }
+        ensures kept { IsHeap self.now.heap }
+        ensures apart { AreApart self.now.heap.blocks }
     {
+        let _made = self.segments.made();
+        let Some(first) = Address::from_word(1 << 32) else {
+            unreachable!()
+        };
+        let _header = self.segments.header(first);
         &self.segments
     }
 
@@ -452,6 +459,29 @@ impl Replica {
     {
         self.directory.reserve(1)?;
         let address = self.segments.place(bunch, size)?;
+        let place = Place { address, moves: 0 };
+        let info = Info {
+            name,
+            bunch,
+            size,
+            place,
+        };
+        let Ok(()) = add_object(&mut self.directory, &mut self.segments, &info, true) else {
+            unreachable!()
+        };
+        Ok(())
+    }
+
+    /// The same for an object that the store opens with, without a limit on segments.
+    pub fn make_birth(&mut self, name: Name, bunch: BunchNo, size: u8) -> Result<(), NoMemory>
+        requires absent { entry_of self.old name ≡ None }
+        requires few { size ≤ 32 }
+        requires more { made_of self.old.heap < 65535 }
+        ensures made { OnOk result (MakesObject self.old self.new name bunch size) }
+        ensures err { OnErr result (Same self.old self.new) }
+    {
+        self.directory.reserve(1)?;
+        let address = self.segments.place_birth(bunch, size)?;
         let place = Place { address, moves: 0 };
         let info = Info {
             name,
