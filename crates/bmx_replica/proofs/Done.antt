@@ -1,10 +1,9 @@
 -- What each call does, from what its parts did.
-use Rattle.std.proofs.Common.{◌≡◌, ◌≢◌, ℕ, ◌+◌, ◌*◌, ◌^◌, ◌<◌, ◌≤◌, Bool, true, false, List, Option, Some, None, IsSome, IsSomeAnd, min, get_or, replicate, refl, sym, ap, subst, ◌∙◌, inl, inr, arith}
+use Rattle.std.proofs.Common.{◌≡◌, ◌≢◌, ℕ, ◌+◌, ◌*◌, ◌<◌, ◌≤◌, Bool, true, false, List, Option, Some, None, IsSome, IsSomeAnd, min, get_or, replicate, refl, sym, ap, subst, ◌∙◌, inl, inr, arith}
 use Rattle.std.specs.Option.{option_map}
 use Rattle.std.proofs.lemmas.Option.{same_Some}
 use Rattle.std.proofs.lemmas.Nat.{pow_pos}
 use Rattle.bmx_types.specs.declared.values.Val.{Val}
-use Rattle.bmx_types.specs.declared.values.Val.TheVariants as val
 use Rattle.bmx_types.specs.declared.addresses.Place.{Place}
 use Rattle.bmx_types.specs.declared.addresses.Info.{Info}
 use Rattle.bmx_segment.specs.Headers.{kind_of, kind_number, with_kind}
@@ -14,11 +13,10 @@ use Rattle.bmx_segment.specs.Heaps.{Heap, CanSet}
 use Rattle.bmx_segment.specs.declared.headers.Header.{Header}
 use Rattle.bmx_segment.specs.declared.headers.State.TheVariants.{Live, Dead}
 use Rattle.bmx_replica.specs.Slots.{slot_of, address_of}
-use Rattle.bmx_replica.specs.Chains.{is_live}
 use Rattle.bmx_replica.specs.Layouts.{Moves, MapsThen, CanLie, kinds_in, moves_in, with_kinds, blank_header}
 use Rattle.bmx_replica.specs.Replicas.{Holding, Entry, entry_of, entry_in, field_of, value_in, word_in, with_value, without_copy, at_place, blank_entry, IsReplica, IsField, HandsOut, WritesField, ClearsCopy, MakesObject, MovesObject, Forgets, Learns, Accepts, Places, learned, IsObject}
 use Rattle.bmx_replica.specs.Inside.Layouts.{Readies}
-use Rattle.std.specs.Prelude.{nat_lt, ◌==◌, if◌then◌else◌}
+use Rattle.std.specs.Prelude.{nat_lt, if◌then◌else◌}
 use Rattle.std.specs.Bool.{MatchBool}
 use Rattle.std.proofs.lemmas.Bool.{lt-ltb, le-ltb, cases_eq, eq-eqb, ne_eqb}
 use Rattle.bmx_replica.specs.Inside.Slots.{PutsSlot}

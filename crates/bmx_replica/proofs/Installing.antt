@@ -1,5 +1,5 @@
 -- A copy that is installed.
-use Rattle.std.proofs.Common.{zero, suc, get_or, take, ◌≡◌, ℕ, ◌+◌, ◌*◌, ◌/◌, ◌%◌, ◌^◌, ◌<◌, ◌≤◌, true, false, List, [], ◌∷◌, ◌++◌, length, map, Option, Some, None, slice_get, refl, sym, ap, subst, ◌∙◌, arith}
+use Rattle.std.proofs.Common.{zero, suc, get_or, take, ◌≡◌, ℕ, ◌+◌, ◌*◌, ◌/◌, ◌%◌, ◌^◌, ◌<◌, ◌≤◌, true, List, [], ◌∷◌, ◌++◌, length, map, Some, slice_get, refl, sym, ap, subst, ◌∙◌, arith}
 use Rattle.std.specs.Prelude.{slice_index, All}
 use Rattle.std.proofs.lemmas.List.{take_more, length-take-le, map-append}
 use Rattle.bmx_msg.specs.declared.letters.Field.{Field}
@@ -9,21 +9,20 @@ use Rattle.bmx_replica.proofs.Telling.{All-tail}
 use Rattle.std.specs.Option.{option_map}
 use Rattle.std.proofs.lemmas.Bool.{false≢true}
 use Rattle.std.proofs.lemmas.Option.{none-some, same_Some}
-use Rattle.std.proofs.lemmas.Nat.{pow_pos, pow-add, shr-shr}
+use Rattle.std.proofs.lemmas.Nat.{pow-add, shr-shr}
 use Rattle.bmx_types.specs.declared.values.Val.{Val}
 use Rattle.bmx_segment.specs.Headers.{kind_of, kind_number}
-use Rattle.bmx_segment.specs.Stores.{header_at, word_at, AreApart, Lays}
+use Rattle.bmx_segment.specs.Stores.{AreApart, Lays}
 use Rattle.bmx_segment.specs.declared.headers.Header.{Header}
 use Rattle.bmx_segment.proofs.FieldKinds.{kind_number-lt}
-use Rattle.bmx_replica.specs.Slots.{slot_of, address_of}
-use Rattle.bmx_replica.specs.Layouts.{kinds_in, moves_in, with_kinds, kinds_of}
+use Rattle.bmx_replica.specs.Layouts.{moves_in, with_kinds, kinds_of}
 use Rattle.bmx_replica.specs.Replicas.{Holding, Entry, entry_of, entry_in, field_at, value_in, values_of, word_in, with_copy, IsReplica, IsField, Installs}
 use Rattle.bmx_replica.specs.Inside.Slots.{PutsSlot}
-use Rattle.bmx_replica.specs.Inside.Replicas.{IsFound, IsHeld, AreHeld}
+use Rattle.bmx_replica.specs.Inside.Replicas.{IsFound, AreHeld}
 use Rattle.bmx_replica.specs.declared.directory.Slot.{Slot}
 use Rattle.bmx_replica.specs.declared.words.Word.{Word}
 use Rattle.bmx_replica.proofs.Laid.{Laid-from, Lays-words}
-use Rattle.bmx_replica.proofs.Standing.{Stands, IsReplica-stands, Puts-stands, Keeps-stands, names_kept, value_in-same, of_object}
+use Rattle.bmx_replica.proofs.Standing.{Stands, Puts-stands, Keeps-stands, names_kept, value_in-same, of_object}
 use Rattle.bmx_replica.proofs.Fielded.{entry_at-found}
 use Rattle.bmx_replica.proofs.Changing.{Stands-laid}
 

@@ -8,7 +8,7 @@ use Rattle.std.proofs.lemmas.Bool.Decides.{nat_tests}
 use Rattle.std.proofs.lemmas.Option.{none-some}
 use Rattle.bmx_types.specs.Words.{home_of, segment_of, index_of}
 use Rattle.bmx_segment.specs.Blocks.{Block, CanStand, header_in, blank_block}
-use Rattle.bmx_segment.specs.Stores.{is_between, segment_key, block_at, header_at, key_at, Maps}
+use Rattle.bmx_segment.specs.Stores.{is_between, segment_key, block_at, header_at, key_at}
 use Rattle.bmx_segment.specs.Heaps.{Heap, CanSet, handed_of, handed_in, own_at}
 use Rattle.bmx_segment.specs.declared.segments.Own.{Own}
 use Rattle.bmx_replica.specs.Layouts.{CanLie, MapsFor}

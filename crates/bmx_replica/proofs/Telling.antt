@@ -1,5 +1,5 @@
 -- Infos that are learned one after another.
-use Rattle.std.proofs.Common.{◌≡◌, ◌≢◌, ◌⊎◌, ℕ, ◌+◌, ◌<◌, ◌≤◌, zero, suc, length, take, drop, get_or, append_assoc, ◌&&◌, Bool, true, false, List, [], ◌∷◌, ◌++◌, Option, Some, None, refl, sym, ap, subst, ◌∙◌, inl, inr, arith}
+use Rattle.std.proofs.Common.{◌≡◌, ◌≢◌, ◌⊎◌, ℕ, ◌+◌, ◌<◌, ◌≤◌, suc, length, take, drop, get_or, append_assoc, ◌&&◌, Bool, true, false, List, [], ◌∷◌, ◌++◌, Option, Some, None, refl, sym, ap, subst, ◌∙◌, inl, inr, arith}
 use Rattle.std.specs.Prelude.{◌==◌, ◌↔◌, nat_lt, not, if◌then◌else◌, filter_map, All}
 use Rattle.std.proofs.lemmas.List.{take_more, take-append-drop}
 use Rattle.std.proofs.lemmas.List.Elements.{filter_map-append}
@@ -8,7 +8,7 @@ use Rattle.bmx_msg.specs.declared.letters.Field.TheVariants as msg_field
 use Rattle.bmx_msg.specs.declared.letters.Field.TheVariants.{Ref}
 use Rattle.std.specs.Option.{option_map}
 use Rattle.std.proofs.lemmas.Bool.{cases_eq, cases_lt, false≢true, eq-eqb, ne_eqb, eqb-true, lt-ltb, le-ltb, and_from, and_parts}
-use Rattle.std.proofs.lemmas.Option.{none-some, same_Some}
+use Rattle.std.proofs.lemmas.Option.{same_Some}
 use Rattle.bmx_types.specs.Words.{index_of}
 use Rattle.bmx_types.specs.declared.addresses.Info.{Info}
 use Rattle.bmx_segment.specs.declared.headers.Header.{Header}
@@ -17,7 +17,6 @@ use Rattle.bmx_replica.specs.Layouts.{Ground, LiesOn, blank_header}
 use Rattle.bmx_replica.specs.Replicas.{Entry, info_in, learned, at_place, AcceptsOn}
 use Rattle.bmx_replica.specs.Letters.{Sketch, info_told, is_newer, with_object, with_learned, CanLearn}
 use Rattle.bmx_replica.specs.Inside.Letters.{after, brings_place, known_with, known_after, told_beside, Admits, Clears}
-use Rattle.bmx_replica.specs.declared.letters.News.{News}
 use Rattle.bmx_replica.specs.declared.letters.News.TheVariants.{Clash, Old, New}
 
 -- ---- more of them

@@ -1,6 +1,5 @@
 -- How a heap gets ready for an object.
 use Rattle.std.specs.Prelude.{◌≡◌, ℕ}
-use Rattle.bmx_segment.specs.Stores.{header_at, word_at}
 use Rattle.bmx_segment.specs.Heaps.{Heap, CanSet}
 use Rattle.bmx_replica.specs.Layouts.{CanLie, MapsFor}
 

@@ -1,7 +1,6 @@
-use Rattle.std.proofs.Common.{◌≡◌, ℕ, ◌+◌, ◌*◌, ◌%◌, ◌^◌, ◌≤◌, ◌<◌, ap, ◌∙◌, arith}
+use Rattle.std.proofs.Common.{◌≡◌, ℕ, ◌*◌, ◌%◌, ◌^◌, ◌≤◌, ◌<◌, ap, ◌∙◌, arith}
 use Rattle.std.proofs.Math.Nat.{mul-le-mul}
 use Rattle.bmx_segment.proofs.Starts.{pow_le}
-use Rattle.bmx_segment.specs.Headers.{kind_number}
 use Rattle.bmx_replica.proofs.layout.kind_bits.Goals as goal
 
 whole : (n p : ℕ) → n < 4 → p ≤ 2 ^ 62 → n * p % 2 ^ 64 ≡ n * p

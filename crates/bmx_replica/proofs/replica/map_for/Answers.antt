@@ -1,4 +1,4 @@
-use Rattle.std.proofs.Common.{◌≡◌, ℕ, ◌≤◌, ◌+◌, true, IsSome, is_some, sym, ap, ◌∙◌, subst, rules}
+use Rattle.std.proofs.Common.{◌≡◌, ℕ, true, IsSome, sym, ap, ◌∙◌, subst, rules}
 use Rattle.bmx_types.specs.Words.{home_of}
 use Rattle.std.proofs.lemmas.Bool.{false≢true}
 use Rattle.bmx_segment.specs.Stores.{segment_key, block_at, key_at}

@@ -1,7 +1,5 @@
-use Rattle.std.proofs.Common.{◌≡◌, List, Option, sym, ap, ◌∙◌}
-use Rattle.std.specs.Option.{option_map}
+use Rattle.std.proofs.Common.{List, Option, sym, ap, ◌∙◌}
 use Rattle.bmx_types.specs.declared.addresses.Info.{Info}
-use Rattle.bmx_replica.specs.Replicas.{info_in}
 use Rattle.bmx_replica.specs.Letters.{Sketch, sketch_of, infos_told}
 use Rattle.bmx_replica.specs.Inside.Letters.{after, brings_place, known_after}
 use Rattle.bmx_replica.proofs.Telling.{known_after-is, brings_place-is}

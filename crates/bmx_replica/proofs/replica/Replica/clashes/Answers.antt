@@ -1,4 +1,4 @@
-use Rattle.std.proofs.Common.{◌≡◌, ℕ, ◌≤◌, List, arith, subst, sym}
+use Rattle.std.proofs.Common.{◌≤◌, List, subst, sym}
 use Rattle.std.specs.Prelude.{All}
 use Rattle.bmx_types.specs.declared.addresses.Info.{Info}
 use Rattle.bmx_msg.specs.declared.letters.Msg.{Msg}

@@ -1,4 +1,4 @@
-use Rattle.std.proofs.Common.{◌≡◌, ◌+◌, Some, sym, ap, ◌∙◌, arith}
+use Rattle.std.proofs.Common.{◌≡◌, ◌+◌, Some, sym, ap, ◌∙◌}
 use Rattle.bmx_segment.specs.Headers.{kind_of, kind_number}
 use Rattle.bmx_segment.specs.Stores.{header_at, word_at}
 use Rattle.bmx_segment.specs.declared.headers.Header.{Header}

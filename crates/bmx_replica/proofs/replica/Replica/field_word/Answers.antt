@@ -1,7 +1,6 @@
-use Rattle.std.proofs.Common.{◌≡◌, ℕ, ◌+◌, ◌<◌, ◌≤◌, None, Some, IsSome, sym, ap, ◌∙◌, arith}
+use Rattle.std.proofs.Common.{◌≡◌, ◌<◌, ◌≤◌, None, Some, IsSome, sym, ap, ◌∙◌, arith}
 use Rattle.bmx_segment.specs.Headers.{kind_of, kind_number}
-use Rattle.bmx_segment.specs.Stores.{header_at, word_at}
-use Rattle.bmx_segment.specs.declared.headers.Header.{Header}
+use Rattle.bmx_segment.specs.Stores.{header_at}
 use Rattle.bmx_replica.specs.Layouts.{kinds_in}
 use Rattle.bmx_replica.specs.Replicas.{Holding, StandsAt, entry_of, copy_of, field_of, value_in}
 use Rattle.bmx_replica.specs.declared.objects.Object.{Object}

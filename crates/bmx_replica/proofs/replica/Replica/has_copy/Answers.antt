@@ -1,4 +1,4 @@
-use Rattle.std.proofs.Common.{◌≡◌, Bool, true, false, IsSome, List, Some, None, Option, sym, ap, subst, refl}
+use Rattle.std.proofs.Common.{◌≡◌, Bool, true, false, IsSome, Some, None, Option, sym, subst, refl}
 use Rattle.std.specs.Prelude.{IsTrue, if◌then◌else◌}
 use Rattle.std.proofs.lemmas.Bool.{false≢true}
 use Rattle.bmx_replica.specs.contracts.replica.Replica.{the_view}

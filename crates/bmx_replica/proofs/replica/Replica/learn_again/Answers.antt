@@ -1,4 +1,4 @@
-use Rattle.std.proofs.Common.{◌≡◌, ◌≢◌, ℕ, ◌<◌, ◌≤◌, ◌+◌, min, false, List, Some, None, Option, sym, ap, ◌∙◌, refl, subst, arith}
+use Rattle.std.proofs.Common.{◌≡◌, ◌≢◌, ℕ, ◌<◌, min, List, Some, sym, ap, ◌∙◌, refl, subst, arith}
 use Rattle.std.proofs.lemmas.Bool.{false≢true}
 use Rattle.bmx_types.specs.declared.addresses.Info.{Info}
 use Rattle.bmx_types.specs.declared.addresses.Place.{Place}
@@ -6,17 +6,16 @@ use Rattle.bmx_segment.specs.Heaps.{Heap, CanSet}
 use Rattle.bmx_segment.specs.declared.headers.Header.{Header}
 use Rattle.bmx_replica.specs.declared.directory.Slot.{Slot}
 use Rattle.bmx_replica.specs.Slots.{slot_of}
-use Rattle.bmx_replica.specs.Layouts.{moves_in, Moves}
+use Rattle.bmx_replica.specs.Layouts.{moves_in}
 use Rattle.bmx_replica.specs.Replicas.{Holding, IsReplica}
 use Rattle.bmx_replica.specs.Inside.Slots.{Listing, PutsSlot}
 use Rattle.bmx_replica.specs.Inside.Layouts.{Readies}
 use Rattle.bmx_replica.specs.Inside.Replicas.{IsFound}
 use Rattle.bmx_replica.specs.contracts.replica.Replica.{the_view}
-use Rattle.bmx_replica.proofs.Standing.{Stands, IsReplica-stands}
+use Rattle.bmx_replica.proofs.Standing.{IsReplica-stands}
 use Rattle.bmx_replica.proofs.Slotted.{same_address, equal_from}
-use Rattle.bmx_replica.proofs.Laid.{AreApart-kept}
 use Rattle.bmx_replica.proofs.Lying.{spare_after}
-use Rattle.bmx_replica.proofs.Done.{spare_both, Stands-learned, Learns-new, Stands-again, Learns-again, Learns-old}
+use Rattle.bmx_replica.proofs.Done.{spare_both, Stands-again, Learns-again}
 use Rattle.bmx_replica.proofs.replica.Replica.learn_again.Goals as goal
 
 pub re_place-requires-clause-found : goal.re_place-requires-clause-found

@@ -1,23 +1,18 @@
-use Rattle.std.proofs.Common.{◌≡◌, ◌≢◌, ℕ, ◌<◌, ◌≤◌, ◌+◌, min, false, List, Result, Ok, Err, Some, None, Option, sym, ap, ◌∙◌, refl, subst, arith}
+use Rattle.std.proofs.Common.{◌≡◌, ℕ, min, false, List, Result, Ok, Err, Some, None, Option, sym, ap, ◌∙◌, refl, subst, arith}
 use Rattle.std.proofs.lemmas.Bool.{false≢true}
 use Rattle.bmx_types.specs.declared.addresses.Info.{Info}
-use Rattle.bmx_types.specs.declared.addresses.Place.{Place}
 use Rattle.bmx_segment.specs.Heaps.{Heap, CanSet}
-use Rattle.bmx_segment.specs.declared.headers.Header.{Header}
 use Rattle.bmx_replica.specs.declared.directory.Slot.{Slot}
 use Rattle.bmx_replica.specs.Slots.{slot_of}
-use Rattle.bmx_replica.specs.Layouts.{moves_in, Moves, CanLie}
+use Rattle.bmx_replica.specs.Layouts.{CanLie}
 use Rattle.bmx_replica.specs.Replicas.{Holding, Entry, IsReplica, Accepts, Same, entry_of}
 use Rattle.std.specs.Prelude.{OnErr}
 use Rattle.bmx_replica.specs.Inside.Slots.{Listing, PutsSlot}
 use Rattle.bmx_replica.specs.Inside.Layouts.{Readies}
-use Rattle.bmx_replica.specs.Inside.Replicas.{IsFound}
 use Rattle.bmx_replica.specs.contracts.replica.Replica.{the_view}
-use Rattle.bmx_replica.proofs.Standing.{Stands, IsReplica-stands, entry_none}
-use Rattle.bmx_replica.proofs.Slotted.{same_address, equal_from}
-use Rattle.bmx_replica.proofs.Laid.{AreApart-kept}
+use Rattle.bmx_replica.proofs.Standing.{IsReplica-stands, entry_none}
 use Rattle.bmx_replica.proofs.Lying.{spare_after}
-use Rattle.bmx_replica.proofs.Done.{spare_both, spare_more, Stands-learned, Learns-new, Stands-again, Learns-again, Learns-old}
+use Rattle.bmx_replica.proofs.Done.{spare_both, spare_more, Stands-learned, Learns-new}
 use Rattle.bmx_replica.proofs.replica.Replica.learn_new.Goals as goal
 
 pub invariant_of-self-in_err-add_object : goal.invariant_of-self-in_err-add_object

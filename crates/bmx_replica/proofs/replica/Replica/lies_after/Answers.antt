@@ -1,12 +1,11 @@
-use Rattle.std.proofs.Common.{◌≡◌, ℕ, true, List, Option, sym, ap, ◌∙◌, subst}
-use Rattle.std.specs.Option.{option_map}
+use Rattle.std.proofs.Common.{◌≡◌, ℕ, true, List, sym, ap, ◌∙◌, subst}
 use Rattle.std.proofs.lemmas.Bool.{false≢true}
 use Rattle.bmx_types.specs.declared.addresses.Info.{Info}
 use Rattle.bmx_msg.specs.declared.letters.Field.{Field}
 use Rattle.bmx_replica.specs.Layouts.{LiesOn}
 use Rattle.bmx_replica.specs.Letters.{Sketch, sketch_of, infos_told, with_learned, is_newer}
-use Rattle.bmx_replica.specs.Inside.Letters.{after, brings_place, known_after}
-use Rattle.bmx_replica.proofs.Telling.{LiesOn-first, LiesOn-back, Clears-learned, LiesOn-learned, Clears-at, LiesOn-one, after_none, brings_place-is}
+use Rattle.bmx_replica.specs.Inside.Letters.{after, brings_place}
+use Rattle.bmx_replica.proofs.Telling.{LiesOn-first, Clears-learned, LiesOn-learned, Clears-at, LiesOn-one, after_none, brings_place-is}
 use Rattle.bmx_replica.proofs.replica.Replica.lies_after.Goals as goal
 use Rattle.bmx_replica.proofs.replica.Replica.lies_after.Goals.{else-not-clears-via-then-not-clears+else-brings_place, else-not-clears-via-else-not-clears, in-Ref+else-not-clears-2, else-not-clears-2-via-then-not-clears-2+else-brings_after, else-not-clears-2-via-else-not-clears-2, in_default}
 

@@ -1,27 +1,16 @@
-use Rattle.std.proofs.Common.{◌≡◌, ◌≢◌, ℕ, ◌+◌, ◌<◌, ◌≤◌, true, false, List, Option, Some, None, IsSome, IsSomeAnd, min, get_or, replicate, refl, sym, ap, subst, ◌∙◌, arith}
-use Rattle.std.specs.Option.{option_map}
-use Rattle.std.proofs.lemmas.Bool.{false≢true}
-use Rattle.bmx_types.specs.declared.addresses.Place.{Place}
-use Rattle.bmx_segment.specs.Headers.{kind_number, kind_of, IsLive}
-use Rattle.bmx_segment.specs.Blocks.{Block}
-use Rattle.bmx_segment.specs.Stores.{header_at, word_at, AreApart, Sets, Lays}
-use Rattle.bmx_segment.specs.Heaps.{Heap, CanSet}
-use Rattle.bmx_segment.specs.declared.headers.Header.{Header}
-use Rattle.bmx_segment.specs.declared.headers.State.TheVariants.{Live, Dead}
+use Rattle.std.proofs.Common.{◌≡◌, Some, IsSome, min, sym, ap, subst, ◌∙◌}
+use Rattle.bmx_segment.specs.Headers.{kind_number}
+use Rattle.bmx_segment.specs.Stores.{header_at}
+use Rattle.bmx_segment.specs.Heaps.{Heap}
 use Rattle.bmx_replica.specs.Slots.{slot_of}
-use Rattle.bmx_replica.specs.Layouts.{Moves, kinds_in, moves_in, with_kinds, blank_header}
-use Rattle.bmx_replica.specs.Replicas.{Holding, Entry, IsReplica, IsField, HandsOut, CanMove, WritesField, entry_of, entry_in, field_of, value_in}
-use Rattle.bmx_replica.specs.Inside.Slots.{PutsSlot}
-use Rattle.bmx_replica.specs.Inside.Replicas.{IsFound, OthersStay}
-use Rattle.bmx_replica.specs.declared.directory.Slot.{Slot}
+use Rattle.bmx_replica.specs.Replicas.{Holding, IsField, WritesField, field_of, value_in}
+use Rattle.bmx_replica.specs.Inside.Replicas.{OthersStay}
 use Rattle.bmx_replica.specs.declared.words.Word.{Word}
 use Rattle.bmx_replica.specs.contracts.replica.Replica.{the_view}
 use Rattle.bmx_replica.proofs.Laid.{IsLive-from}
-use Rattle.bmx_replica.proofs.Standing.{Stands, IsReplica-stands, found_at, if_none, entry_none}
-use Rattle.bmx_replica.proofs.Fielded.{field_of-there, field_of-found, entry_at-found}
-use Rattle.bmx_replica.proofs.Changing.{CanSet-same}
-use Rattle.bmx_replica.proofs.Making.{HandsOut-me}
-use Rattle.bmx_replica.proofs.Done.{IsReplica-written, WritesField-done, OthersStay-done, Stands-cleared, ClearsCopy-done, Stands-made, MakesObject-done, Stands-relocated, MovesObject-done, Forgets-done}
+use Rattle.bmx_replica.proofs.Standing.{found_at}
+use Rattle.bmx_replica.proofs.Fielded.{field_of-there}
+use Rattle.bmx_replica.proofs.Done.{IsReplica-written, WritesField-done, OthersStay-done}
 use Rattle.bmx_replica.proofs.replica.Replica.put_field.Goals as goal
 
 pub set_word-requires : goal.set_word-requires

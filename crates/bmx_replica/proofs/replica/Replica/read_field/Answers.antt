@@ -1,4 +1,4 @@
-use Rattle.std.proofs.Common.{◌≡◌, ℕ, Some, sym, subst}
+use Rattle.std.proofs.Common.{◌≡◌, ℕ, Some, subst}
 use Rattle.bmx_replica.specs.Replicas.{field_of}
 use Rattle.bmx_replica.proofs.Standing.{IsFound-named}
 use Rattle.bmx_replica.proofs.Fielded.{field_of-there}

@@ -1,9 +1,8 @@
-use Rattle.std.proofs.Common.{◌≡◌, ℕ, true, List, Some, IsSome, min, sym, ap, subst, ◌∙◌}
+use Rattle.std.proofs.Common.{◌≡◌, ℕ, Some, IsSome, min, sym, ap, subst, ◌∙◌}
 use Rattle.bmx_segment.specs.Headers.{kind_number}
-use Rattle.bmx_segment.specs.Blocks.{Block}
 use Rattle.bmx_segment.specs.Stores.{header_at, Writes}
 use Rattle.bmx_segment.specs.Heaps.{Heap}
-use Rattle.bmx_replica.specs.Replicas.{Holding, IsReplica, IsField, IsHolding, StandsAt, WritesField, copy_of, field_of}
+use Rattle.bmx_replica.specs.Replicas.{Holding, IsHolding, StandsAt, WritesField, copy_of, field_of}
 use Rattle.bmx_replica.specs.declared.objects.Object.{Object}
 use Rattle.bmx_replica.specs.declared.objects.Held.{Held}
 use Rattle.bmx_replica.specs.contracts.replica.Replica.{the_view}
