@@ -1,8 +1,8 @@
 -- The names of records on the shelves of their nodes: what a new record, a table and more room make of
 -- them.
-use Rattle.std.proofs.Common.{◌≡◌, ◌≢◌, ℕ, zero, suc, ◌+◌, ◌-◌, ◌<◌, ◌≤◌, Bool, true, false, cond, not, ◌&&◌, ◌==◌, List, [], ◌∷◌, ◌++◌, length, get_or, set, insert, Option, Some, None, refl, sym, ap, ◌∙◌, subst, arith, filter, All, count_by, add-zero, inl, inr}
+use Rattle.std.proofs.Common.{◌≡◌, ℕ, ◌+◌, ◌-◌, ◌<◌, ◌≤◌, Bool, true, false, cond, not, ◌&&◌, ◌==◌, List, [], ◌∷◌, ◌++◌, length, get_or, set, insert, Option, Some, None, refl, sym, ap, ◌∙◌, subst, arith, filter, All, count_by, add-zero, inl, inr}
 use Rattle.std.specs.Option.{option_map_or}
-use Rattle.std.proofs.lemmas.Bool.{cases_eq, cases_Bool, and_left, and_right, eqb-true, eq-eqb, ne_eqb}
+use Rattle.std.proofs.lemmas.Bool.{cases_eq, and_left, and_right, eqb-true, eq-eqb, ne_eqb}
 use Rattle.std.proofs.lemmas.List.{get_or_default}
 use Rattle.bmx_shelves.specs.Shelves.{Shelved, on_shelf}
 use Rattle.bmx_owner.specs.declared.entering.Record.{Record}

@@ -1,5 +1,5 @@
 -- A walk over the names of a shelf, first to last.
-use Rattle.std.proofs.Common.{◌≡◌, ℕ, zero, suc, ◌+◌, ◌<◌, Bool, true, false, cond, not, List, [], ◌∷◌, ◌++◌, length, take, drop, slice_get, is_some, Some, None, refl, sym, ap, ◌∙◌, arith, filter, count_by}
+use Rattle.std.proofs.Common.{◌≡◌, ℕ, suc, ◌+◌, ◌<◌, Bool, true, false, cond, not, List, [], ◌∷◌, ◌++◌, length, take, drop, slice_get, is_some, Some, None, refl, sym, ap, ◌∙◌, arith, filter, count_by}
 use Rattle.std.proofs.lemmas.Bool.{cond-true, cond-false}
 use Rattle.std.proofs.lemmas.List.{append_assoc}
 use Rattle.bmx_owner.proofs.Counts.{count_by-cons}

@@ -1,6 +1,6 @@
 -- Entering records: which names were given to which node, and up to which letter. Lists alone, so
 -- that the rules of a node's step can cite them.
-use Rattle.std.specs.Prelude.{◌≡◌, ℕ, Bool, ◌&&◌, ◌||◌, not, nat_lt, nat_le, ◌==◌, List, [], ◌∷◌, ◌++◌, Option, Some, unwrap_or, max, filter, find, count_by, AllPairs, IsTrue, refl}
+use Rattle.std.specs.Prelude.{◌≡◌, ℕ, Bool, ◌&&◌, ◌||◌, not, nat_lt, nat_le, ◌==◌, List, [], ◌∷◌, ◌++◌, Option, unwrap_or, max, filter, find, count_by, AllPairs, IsTrue, refl}
 use Rattle.std.specs.List.{list_any}
 use Rattle.bmx_owner.specs.declared.entering.Record.{Record}
 
@@ -40,11 +40,6 @@ has_record records name = list_any (λ r. r.name == name) records
 -- the records with this one in its place, instead of the one of the same name and node
 abbrev pub with_record : Record → List Record → List Record
 with_record r records = filter (is_ahead r.name r.from) records ++ r ∷ filter (is_behind r.name r.from) records
-
--- the record of the name and the node is this, and every other is as it was
-pub record ChangesOne (old new : List Record) (name node : ℕ) (r : Record) : Type 0 where
-  pub changed : find_record new name node ≡ Some r
-  pub others : (q m : ℕ) → (q ≡ name → m ≡ node → ⊥) → find_record new q m ≡ find_record old q m
 
 -- a record of which no letter speaks yet
 abbrev pub blank : ℕ → ℕ → ℕ → Record

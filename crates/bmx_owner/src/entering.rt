@@ -86,7 +86,8 @@ impl Model for Records {
 }
 
 impl Records {
-    ghost use Rattle.bmx_owner.specs.Records.{IsInOrder, find_record, has_record, with_record, given, taken_over, cleaned, stale_count, sent_by, got_by, record_or_blank, ChangesOne};
+    ghost use Rattle.bmx_owner.specs.Records.{IsInOrder, find_record, has_record, with_record, given, taken_over, cleaned, stale_count, sent_by, got_by, record_or_blank};
+    ghost use Rattle.bmx_types.specs.Updates.{put_at};
     ghost use Rattle.bmx_owner.specs.Inside.Search.{StandsAt, FitsAt};
 
     /// No record, and no memory taken.
@@ -155,7 +156,7 @@ impl Records {
     pub fn give(&mut self, name: Name, bunch: BunchNo, to: NodeNo, seq: u64)
         requires { 0 < self.old.spare }
         ensures list { self.new.list ≡ given self.old.list name bunch to seq }
-        ensures change { ChangesOne self.old.list self.new.list name to (sent_by seq (record_or_blank self.old.list name bunch to)) }
+        ensures change { find_record self.new.list ≡ put_at (find_record self.old.list) name to (Some (sent_by seq (record_or_blank self.old.list name bunch to))) }
         ensures spare { self.old.spare ≤ self.new.spare + 1 }
     {
         let mut record = self.find_or_blank(name, bunch, to);
@@ -169,7 +170,7 @@ impl Records {
     pub fn take_over(&mut self, name: Name, bunch: BunchNo, from: NodeNo, seq: u64)
         requires { 0 < self.old.spare }
         ensures list { self.new.list ≡ taken_over self.old.list name bunch from seq }
-        ensures change { ChangesOne self.old.list self.new.list name from (got_by seq (record_or_blank self.old.list name bunch from)) }
+        ensures change { find_record self.new.list ≡ put_at (find_record self.old.list) name from (Some (got_by seq (record_or_blank self.old.list name bunch from))) }
         ensures spare { self.old.spare ≤ self.new.spare + 1 }
     {
         let mut record = self.find_or_blank(name, bunch, from);

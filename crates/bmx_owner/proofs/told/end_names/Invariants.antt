@@ -1,6 +1,6 @@
 use Rattle.std.proofs.Common.{◌≡◌, ◌≢◌, ℕ, ◌+◌, Bool, false, not, ◌++◌, length, filter, count_by}
 use Rattle.bmx_shelves.specs.Shelves.{on_shelf}
-use Rattle.bmx_owner.specs.Inside.Named.{ends_name, AreElsewhere}
+use Rattle.bmx_owner.specs.Inside.Named.{ends_name}
 use Rattle.bmx_owner.proofs.told.end_names.Given as goal
 
 abbrev pub invariant-walk : goal.invariant-walk

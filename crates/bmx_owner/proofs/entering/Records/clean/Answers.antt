@@ -1,4 +1,4 @@
-use Rattle.std.proofs.Common.{◌≡◌, ◌+◌, ◌≤◌, not, filter, count_by, vec_len, vec_capacity, sym, subst, ap, ◌∙◌, rules, arith, length}
+use Rattle.std.proofs.Common.{◌≡◌, ◌+◌, not, filter, count_by, vec_len, vec_capacity, sym, subst, ap, ◌∙◌, rules, arith, length}
 use Rattle.std.proofs.lemmas.Fn.{filter_same}
 use Rattle.bmx_owner.specs.declared.entering.Record.{Record}
 use Rattle.bmx_owner.specs.Records.{Entering, is_stale, cleaned}
