@@ -1,5 +1,5 @@
 -- Pairs, a source and a target, in order, and lists with at most one element for each pair.
-use Rattle.std.specs.Prelude.{◌≡◌, ◌≢◌, Bool, ◌&&◌, ◌||◌, nat_lt, ◌==◌, List, ◌∷◌, ◌++◌, Option, Some, filter, find, AllPairs, IsTrue}
+use Rattle.std.specs.Prelude.{ℕ, Bool, ◌&&◌, ◌||◌, nat_lt, ◌==◌, List, ◌∷◌, ◌++◌, Option, filter, find, AllPairs, IsTrue}
 use Rattle.std.specs.List.{list_any}
 use Rattle.bmx_types.specs.declared.names.Pair.{Pair}
 
@@ -19,15 +19,10 @@ is_listed pairs p = list_any (λ q. is_same q p) pairs
 abbrev pub IsInOrder : {X : Type 0} → (X → Pair) → List X → Type 0
 IsInOrder pair_of xs = AllPairs (λ x y. IsTrue (is_ahead (pair_of x) (pair_of y))) xs
 
--- the element for a pair, None where there is none
-abbrev pub find_one : {X : Type 0} → (X → Pair) → List X → Pair → Option X
-find_one pair_of xs p = find (λ x. is_same (pair_of x) p) xs
+-- the element for a source and a target, None where there is none
+abbrev pub find_one : {X : Type 0} → (X → Pair) → List X → ℕ → ℕ → Option X
+find_one pair_of xs source target = find (λ x. is_same (pair_of x) (record { source = source; target = target })) xs
 
 -- the list with this element in its place, instead of the one for the same pair
 abbrev pub with_one : {X : Type 0} → (X → Pair) → X → List X → List X
 with_one pair_of x xs = filter (λ y. is_ahead (pair_of y) (pair_of x)) xs ++ x ∷ filter (λ y. is_ahead (pair_of x) (pair_of y)) xs
-
--- the element for its pair is this, and that for every other pair is as it was
-pub record ChangesOne {X : Type 0} (pair_of : X → Pair) (old new : List X) (x : X) : Type 0 where
-  pub changed : find_one pair_of new (pair_of x) ≡ Some x
-  pub others : (p : Pair) → p ≢ pair_of x → find_one pair_of new p ≡ find_one pair_of old p

@@ -1,4 +1,4 @@
-ghost use Rattle.std.specs.Prelude.{◌≡◌, ℕ, ◌+◌, ◌^◌, ◌≤◌, ◌<◌, Bool, [], slice_get, OnOk, OnErr};
+ghost use Rattle.std.specs.Prelude.{◌≡◌, ℕ, ◌+◌, ◌^◌, ◌≤◌, ◌<◌, Bool, [], slice_get, Some, OnOk, OnErr};
 
 use crate::order::{OfPair, is_listed, is_rising, put};
 use bmx_types::{BunchNo, Name, NoMemory, Pair, Pairs};
@@ -115,7 +115,8 @@ impl Model for Inter {
 }
 
 impl Inter {
-    ghost use Rattle.bmx_inter.specs.Order.{IsInOrder, ChangesOne};
+    ghost use Rattle.bmx_inter.specs.Order.{IsInOrder, find_one};
+    ghost use Rattle.bmx_types.specs.Updates.{put_at};
     ghost use Rattle.bmx_inter.specs.Inter.{stub_pair, scion_pair, stub_of, scion_of, stubs_with, scions_with, stubs_kept, scions_cleaned, stale_count};
 
     /// Neither stub nor scion, and no memory taken.
@@ -151,8 +152,8 @@ impl Inter {
         requires { 0 < self.old.spare }
         ensures stubs { self.new.stubs ≡ stubs_with source bunch target self.old.stubs }
         ensures scions { self.new.scions ≡ scions_with source bunch target clock self.old.scions }
-        ensures stub { ChangesOne stub_pair self.old.stubs self.new.stubs (stub_of source bunch target) }
-        ensures scion { ChangesOne scion_pair self.old.scions self.new.scions (scion_of source bunch target clock) }
+        ensures stub { find_one stub_pair self.new.stubs ≡ put_at (find_one stub_pair self.old.stubs) source target (Some (stub_of source bunch target)) }
+        ensures scion { find_one scion_pair self.new.scions ≡ put_at (find_one scion_pair self.old.scions) source target (Some (scion_of source bunch target clock)) }
         ensures spare { self.old.spare ≤ self.new.spare + 1 }
     {
         let stub = Stub {

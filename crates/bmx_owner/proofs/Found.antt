@@ -1,12 +1,12 @@
 -- What is found in the records after a letter gave a name, after one handed an object over, and after
 -- a table ended records; and that the records stay in order.
 use Rattle.std.proofs.Common.{◌≡◌, ℕ, ◌+◌, Bool, true, false, cond, not, ◌||◌, ◌==◌, List, [], ◌∷◌, length, Option, Some, None, refl, sym, ap, ◌∙◌, subst, arith, filter, find, All, AllPairs, option_and_then, unwrap_or, ⊎_elim, ◌&&◌}
-use Rattle.std.proofs.Math.Path.{fun_ext}
-use Rattle.std.proofs.lemmas.Bool.{cases_eq, cond_both, cond-true, cond-false, cases_Bool, or_cases, or_left, or_right, and_left, and_right, eqb-true, eq-eqb, ne_eqb}
+use Rattle.std.proofs.lemmas.Bool.{cond_both, cond-true, cond-false, cases_Bool, or_cases, or_left, or_right, and_left, and_right, eqb-true, eq-eqb, ne_eqb}
 use Rattle.std.proofs.lemmas.Bool.Decides.{nat_tests, same_from_decides}
 use Rattle.std.proofs.lemmas.List.Elements.{filter_passes, All-cons, All-weaker, AllWithin-from_all}
 use Rattle.std.proofs.lemmas.List.Kept.{AllPairs-cons, AllPairs-filter}
-use Rattle.bmx_types.specs.Updates.{put, put_at}
+use Rattle.bmx_types.specs.Updates.{put_at}
+use Rattle.bmx_shelves.proofs.Updates.{put_at-from}
 use Rattle.bmx_owner.specs.declared.entering.Record.{Record}
 use Rattle.bmx_owner.specs.Records.{is_of, is_ahead, is_behind, IsBefore, IsInOrder, find_record, has_record, with_record, blank, record_or_blank, sent_by, got_by, given, taken_over, is_listed, is_under, is_settled, is_stale, cleaned, stale_count}
 use Rattle.bmx_owner.proofs.Keys.{is_of-name, is_of-itself, key_cases, is_ahead-of, is_ahead-trans, is_ahead-crossed, is_behind-crossed, is_ahead-turned, is_behind-turned, is_of-later}
@@ -79,45 +79,11 @@ is_of-other name node r q m key other =
     (λ no_match. no_match)
     (cases_Bool (is_of q m r))
 
--- an update at two keys, at these and at others
-put_at-here : {A : Type 0} (f : ℕ → ℕ → A) (n m : ℕ) (v : A) → put_at f n m v n m ≡ v
-put_at-here f n m v =
-    ap (λ b. cond b (put (f n) m v) (f n) m) (eq-eqb n n refl) ∙ cond-true (m == m) v (f n m) (eq-eqb m m refl)
-
-put_at-other : {A : Type 0} (f : ℕ → ℕ → A) (n m : ℕ) (v : A) (q k : ℕ) → (q ≡ n → k ≡ m → ⊥) → put_at f n m v q k ≡ f q k
-put_at-other f n m v q k other =
-    ⊎_elim
-    (λ (e : n ≡ q).
-    ap (λ b. cond b (put (f n) m v) (f q) k) (eq-eqb n q e)
-    ∙ cond-false (m == k) v (f n k) (ne_eqb m k (λ h. other (sym e) (sym h)))
-    ∙ ap (λ x. f x k) e)
-    (λ ne. ap (λ b. cond b (put (f n) m v) (f q) k) (ne_eqb n q ne))
-    (cases_eq n q)
-
--- what is found is updated where it is new at these keys and as before at others
-find_record-put : (old new : List Record) (name node : ℕ) (r : Record) → find_record new name node ≡ Some r → ((q m : ℕ) → (q ≡ name → m ≡ node → ⊥) → find_record new q m ≡ find_record old q m) → find_record new ≡ put_at (find_record old) name node (Some r)
-find_record-put old new name node r here others = fun_ext (λ q. fun_ext (λ m. at q m))
-  where
-    apart : (q m : ℕ) → (q ≡ name → m ≡ node → ⊥) → find_record new q m ≡ put_at (find_record old) name node (Some r) q m
-    apart q m other = others q m other ∙ sym (put_at-other (find_record old) name node (Some r) q m other)
-
-    at : (q m : ℕ) → find_record new q m ≡ put_at (find_record old) name node (Some r) q m
-    at q m = ⊎_elim
-        (λ (e : q ≡ name). ⊎_elim
-        (λ (h : m ≡ node).
-        subst (λ x. find_record new x m ≡ put_at (find_record old) name node (Some r) x m) (sym e)
-        (subst (λ y. find_record new name y ≡ put_at (find_record old) name node (Some r) name y) (sym h)
-        (here ∙ sym (put_at-here (find_record old) name node (Some r)))))
-        (λ nm. apart q m (λ _ h. nm h))
-        (cases_eq m node))
-        (λ nq. apart q m (λ e _. nq e))
-        (cases_eq q name)
-
 -- with the record of a name and a node in its place that one is found, and all others as before
 pub find_record-with_key : (records : List Record) (name node : ℕ) (r : Record) → (r.name ≡ name) × (r.from ≡ node) → find_record (with_record r records) ≡ put_at (find_record records) name node (Some r)
 find_record-with_key records name node r key =
     let F : ℕ → ℕ → Type 0 = λ q m. find_record (with_record r records) q m ≡ Some r in
-    find_record-put records (with_record r records) name node r
+    put_at-from (find_record records) (find_record (with_record r records)) name node (Some r)
     (subst (λ q. F q node) key.0 (subst (λ m. F r.name m) key.1 (find_record-with_record r records)))
     (λ q m other. find_record-with_other r records q m (is_of-other name node r q m key other))
 

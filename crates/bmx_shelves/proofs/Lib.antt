@@ -2,3 +2,4 @@ pub mod Parts
 pub mod Items
 pub mod Steps
 pub mod Calls
+pub mod Updates
