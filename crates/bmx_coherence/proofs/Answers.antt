@@ -27,7 +27,7 @@ use Rattle.bmx_protocol.specs.Changes.{Change, Knows, after_changes}
 use Rattle.bmx_protocol.specs.Rules.{Draft, Reaction, only, refused, message, drafts_of, info_of, told_fields, grant_in, with_share, operation_answer, after_operation, operation_rule, next_name, new_object, graph_changes, answered, graph_rule, token_rule, knows, command_rule, about}
 use Rattle.bmx_msg.specs.declared.letters.Field.{Field}
 use Rattle.bmx_types.specs.declared.addresses.Info.{Info}
-use Rattle.bmx_store_laws.proofs.Basics.{eqb_same, put_same}
+use Rattle.bmx_protocol.proofs.Basics.{eqb_same, put_same}
 use Rattle.bmx_store_laws.proofs.Copies.{NoGrants}
 use Rattle.bmx_token_model.specs.Machine.{is_grant}
 use Rattle.bmx_coherence.specs.Graphs.{graph_answer}

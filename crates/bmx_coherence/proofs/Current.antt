@@ -34,7 +34,7 @@ use Rattle.bmx_protocol.specs.Worlds.{World, world_of, Kept, Sent, IsCurrent, na
 use Rattle.bmx_store_laws.specs.Laws.{IsSeated}
 use Rattle.bmx_store_laws.specs.Laws as seated
 use Rattle.bmx_store_laws.specs.Inside.Seen.{has_name, seen, seen_known, seen_record, seen_message, seen_note, tells_of}
-use Rattle.bmx_store_laws.proofs.Basics.{eqb_of}
+use Rattle.bmx_protocol.proofs.Basics.{eqb_of}
 use Rattle.bmx_store_laws.proofs.Sends.{notes_give}
 use Rattle.bmx_store_laws.proofs.Ruled.{HasNo}
 use Rattle.bmx_store_laws.proofs.Histories.{each_name}

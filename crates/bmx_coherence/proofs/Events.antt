@@ -45,7 +45,7 @@ use Rattle.bmx_protocol.specs.Histories.{letters_to, issued, arrived, in_flight,
 use Rattle.bmx_protocol.specs.Worlds.{world_of}
 use Rattle.bmx_protocol.proofs.Changing.{after_append, Each}
 use Rattle.bmx_store_laws.specs.Inside.Seen.{seen_known}
-use Rattle.bmx_store_laws.proofs.Basics.{eqb_is, eqb_not, eqb_of, eqb_apart, Two, Same, Apart, two, put_same}
+use Rattle.bmx_protocol.proofs.Basics.{eqb_is, eqb_not, eqb_of, eqb_apart, Two, Same, Apart, two, put_same}
 use Rattle.bmx_store_laws.proofs.Copies.{NoGrants, GrantsNothing, note_grants}
 use Rattle.bmx_store_laws.proofs.Sends.{IsLeft, letters_left}
 use Rattle.bmx_store_laws.proofs.Shares.{shares_changed, all_spared}

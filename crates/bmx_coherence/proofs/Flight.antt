@@ -8,7 +8,7 @@ use Rattle.bmx_msg.specs.declared.letters.Letter.{Letter}
 use Rattle.bmx_protocol.specs.declared.events.Event.{Event}
 use Rattle.bmx_protocol.specs.Steps.{Node, is_taken}
 use Rattle.bmx_protocol.specs.Histories.{letters_to, issued, letter_from, arrived, taken, in_flight}
-use Rattle.bmx_store_laws.proofs.Basics.{eqb_is}
+use Rattle.bmx_protocol.proofs.Basics.{eqb_is}
 use Rattle.bmx_store_laws.proofs.Channels.{Channels, numbered_at, slice_drop, letters_by}
 
 -- ## lists

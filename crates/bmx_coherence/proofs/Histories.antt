@@ -16,7 +16,7 @@ use Rattle.bmx_protocol.specs.Nodes.{Setting, Known, fields_known, value_in, fie
 use Rattle.bmx_protocol.specs.Steps.{Node, first_node, IsStep}
 use Rattle.bmx_protocol.specs.Histories.{Replays, AreAfter, IsLegal}
 use Rattle.bmx_protocol.proofs.Prefixes.{joined, empty_is_legal, prefix_is_legal}
-use Rattle.bmx_store_laws.proofs.Basics.{eqb_is, eqb_of}
+use Rattle.bmx_protocol.proofs.Basics.{eqb_is, eqb_of}
 use Rattle.bmx_coherence.proofs.Parts.{held_of, want_of, IsPart, values_again}
 use Rattle.bmx_coherence.proofs.Waits.{nothing_waits}
 use Rattle.bmx_coherence.proofs.Moments.{IsMoment}

@@ -40,7 +40,7 @@ use Rattle.bmx_protocol.specs.Worlds.{world_of, HasOwned, IsMoving, HasParent, I
 use Rattle.bmx_store_laws.specs.Laws.{IsSeated, HasReader, IsCounted, handovers_of}
 use Rattle.bmx_store_laws.specs.Laws as seated
 use Rattle.bmx_store_laws.specs.Inside.Seen.{seen, seen_known, seen_message, seen_note, first_world}
-use Rattle.bmx_store_laws.proofs.Basics.{eqb_of, eqb_is}
+use Rattle.bmx_protocol.proofs.Basics.{eqb_of, eqb_is}
 use Rattle.bmx_store_laws.proofs.Openings.{IsAware}
 use Rattle.bmx_store_laws.proofs.Histories.{Came, came_after, each_name}
 use Rattle.bmx_store_laws.proofs.Owners.{moving_counted}

@@ -21,7 +21,7 @@ use Rattle.bmx_protocol.specs.Nodes.{NodeState, Known, fields_known, field_of, v
 use Rattle.bmx_protocol.specs.Changes.{Change, Sets, Makes, Knows, Hears, Gives, Gets, Issues, Takes, heard_of, heard, after_change, after_changes}
 use Rattle.bmx_protocol.specs.Rules.{with_share, next_name, new_object, stored, graph_changes}
 use Rattle.bmx_protocol.proofs.Changing.{Each, kept_by_each}
-use Rattle.bmx_store_laws.proofs.Basics.{eqb_apart, Two, Same, Apart, two, put_same, put_apart, put_at_row, put_at_else}
+use Rattle.bmx_protocol.proofs.Basics.{eqb_apart, Two, Same, Apart, two, put_same, put_apart, put_at_row, put_at_else}
 
 -- how a node holds an object, and in which mode it wants it
 abbrev pub held_of : Option Known → Option Mode

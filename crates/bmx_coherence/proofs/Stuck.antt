@@ -29,7 +29,7 @@ use Rattle.bmx_protocol.specs.Worlds.{World, world_of}
 use Rattle.bmx_protocol.specs.Runs.Turns.{ready_at, is_ready}
 use Rattle.bmx_store_laws.specs.Laws.{Spot, Asked, Queued, Granted, letters_about, times_at, IsWaiting, StandsOnce}
 use Rattle.bmx_store_laws.specs.Inside.Seen.{seen, seen_known, seen_message}
-use Rattle.bmx_store_laws.proofs.Basics.{eqb_is, eqb_same}
+use Rattle.bmx_protocol.proofs.Basics.{eqb_is, eqb_same}
 use Rattle.bmx_store_laws.proofs.Histories.{each_name}
 use Rattle.bmx_store_laws.proofs.Owners.{one_if}
 use Rattle.bmx_store_laws.proofs.Lifted.{wants_stand_once}

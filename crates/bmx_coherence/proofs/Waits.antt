@@ -29,7 +29,7 @@ use Rattle.bmx_protocol.specs.Changes.{Change, Sets, Makes, Knows, Hears, Gives,
 use Rattle.bmx_protocol.specs.Rules.{Reaction, only, refused, with_share, operation_answer, after_operation, operation_rule, stored, graph_changes, answered, graph_rule, token_rule, knows, command_rule, about}
 use Rattle.bmx_protocol.specs.Histories.{is_wait}
 use Rattle.bmx_protocol.proofs.Changing.{Each, kept_by_each}
-use Rattle.bmx_store_laws.proofs.Basics.{eqb_of, eqb_same, Two, Same, Apart, two, put_same, put_apart}
+use Rattle.bmx_protocol.proofs.Basics.{eqb_of, eqb_same, Two, Same, Apart, two, put_same, put_apart}
 use Rattle.bmx_coherence.specs.Waits.{taking}
 use Rattle.bmx_coherence.proofs.Tokens.{Acquired, Holds as TakesIt, Waits, Bars, Crosses, acquiring, Released, Frees, Lacks, releasing}
 use Rattle.bmx_coherence.proofs.Parts.{held_of, want_of}

@@ -27,10 +27,11 @@ use Rattle.bmx_store_laws.proofs.Histories as names
 use Rattle.bmx_places.specs.Ledger.{Block, block_at, block_of, LiesIn, IsOf, HasLedger}
 use Rattle.bmx_places.specs.Laws.{BlocksAreKept, HasShape, KnownAt, ToldIn, OneShape, HasPlace, At, Between, OnePlace, NoInfoClashes, NextIsTaken, NoLetterIsStray}
 use Rattle.bmx_places.specs.Laws as law
-use Rattle.bmx_places.proofs.Blocks.{Every, some_same, none_some, IsTold, hears_all}
+use Rattle.bmx_places.proofs.Blocks.{IsTold, hears_all}
 use Rattle.bmx_places.proofs.Next.{IsIssued, all_issued, IsTakeable, next_is_takeable}
 use Rattle.bmx_places.proofs.Kept.{Kept, one_more}
 use Rattle.bmx_places.proofs.Opened.{first_kept}
+use Rattle.bmx_protocol.proofs.Basics.{Every, none_some, some_same}
 
 -- ## along a history
 

@@ -14,7 +14,7 @@ use Rattle.bmx_store_laws.proofs.Applied.{laws_apply}
 use Rattle.bmx_places.specs.Ledger.{HasLedger, LiesIn, block_at, block_of}
 use Rattle.bmx_places.specs.Laws.{KnownAt, ToldIn, At, Between}
 use Rattle.bmx_places.specs.Cases.{granted, LawsApply, mistold, mistold_anchor, mistold_grant, strayed, world_in, LawsFail, LawsTell}
-use Rattle.bmx_places.proofs.Blocks.{some_same}
+use Rattle.bmx_protocol.proofs.Basics.{some_same}
 use Rattle.bmx_places.proofs.Always.{no_letter_is_stray}
 
 -- event k of a run, from 0

@@ -13,7 +13,7 @@ use Rattle.bmx_protocol.specs.Places.{Lives, Went, Header, Places, with_object, 
 use Rattle.bmx_protocol.specs.Changes.{Hears, heard_of, heard, after_change, after_changes}
 use Rattle.bmx_protocol.specs.Strays.{clashes, some_clash}
 use Rattle.bmx_protocol.specs.Worlds.{World}
-use Rattle.bmx_store_laws.proofs.Basics.{eqb_is, eqb_of, eqb_same, Two, Same, Apart, two}
+use Rattle.bmx_protocol.proofs.Basics.{eqb_is, eqb_of, eqb_same, Two, Same, Apart, two, Every, none_some, some_same}
 use Rattle.bmx_places.specs.Ledger.{Block, IsBlock, AreBlocks, block_at, block_of, LiesIn, Heads}
 
 -- ## addresses
@@ -32,19 +32,6 @@ index_again h s i q = omega arith
 
 segment_small : (a : ℕ) → segment_of a < 2 ^ 24
 segment_small a = omega arith
-
--- ## lists and options
-
--- each of a list
-abbrev pub Every : {A : Type 0} → (A → Type 0) → List A → Type 0
-Every P [] = Unit {0}
-Every P (x ∷ xs) = P x × Every P xs
-
-pub some_same : {A : Type 0} {x y : A} → Some x ≡ Some y → x ≡ y
-some_same e = cc
-
-pub none_some : {A B : Type 0} {x : A} → None ≡ Some x → B
-none_some e = absurd (cc)
 
 -- ## a node
 

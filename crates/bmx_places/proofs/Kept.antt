@@ -43,17 +43,17 @@ use Rattle.bmx_protocol.specs.Worlds.{World, world_of}
 use Rattle.bmx_protocol.proofs.Changing.{Each, each_append, after_append}
 use Rattle.bmx_store_laws.specs.Inside.Seen.{seen, seen_known, first_world}
 use Rattle.bmx_store_laws.specs.Laws.{IsCounted}
-use Rattle.bmx_store_laws.proofs.Basics.{eqb_of, Two, Same, Apart, two, at_each}
+use Rattle.bmx_protocol.proofs.Basics.{eqb_of, Two, Same, Apart, two, at_each, Every, every_append, none_some, some_same}
 use Rattle.bmx_store_laws.proofs.Copies.{NoGrants, GrantsNothing, note_grants}
 use Rattle.bmx_store_laws.proofs.Ruled.{FreeOf}
 use Rattle.bmx_store_laws.proofs.Channels.{slice_drop}
 use Rattle.bmx_store_laws.proofs.Histories.{Came, came_after, each_name}
 use Rattle.bmx_places.specs.Ledger.{Block, AreBlocks, block_of, LiesIn}
-use Rattle.bmx_places.proofs.Blocks.{Every, some_same, none_some, at_same, at_apart, IsTold, Keeps, hears_all, learnt_handed, same_shape}
+use Rattle.bmx_places.proofs.Blocks.{at_same, at_apart, IsTold, Keeps, hears_all, learnt_handed, same_shape}
 use Rattle.bmx_places.proofs.Making.{Grows, keeps_grown, IsLaterThan, blocks_later, IsHome, with_block, made_or_old, home_made, handed_more, made_grows, made_blocks, made_keeps}
 use Rattle.bmx_places.proofs.Plain.{AllOf, Belongs, Plain, changes_kept, IsRight, IsDraft, sent_plain, letters_sent, IsSent}
 use Rattle.bmx_places.proofs.Outcomes.{NotStray, IsPlain, Comes, Plainly, New, act_plain, command_comes, known_plain, silent_drafts}
-use Rattle.bmx_places.proofs.Next.{IsIssued, EachIssued, every_append, every_at, all_issued, IsTakeable, next_is_takeable}
+use Rattle.bmx_places.proofs.Next.{IsIssued, EachIssued, every_at, all_issued, IsTakeable, next_is_takeable}
 
 -- ## how many events there are
 

@@ -10,10 +10,10 @@ use Rattle.bmx_protocol.specs.declared.views.ViewField.{ViewField}
 use Rattle.bmx_protocol.specs.Nodes.{Setting, Known}
 use Rattle.bmx_protocol.specs.Places.{Places, has_room, with_segment, with_room, with_placed, with_made, overlaps}
 use Rattle.bmx_protocol.specs.Worlds.{World}
-use Rattle.bmx_store_laws.proofs.Basics.{Two, Same, Apart, two}
+use Rattle.bmx_protocol.proofs.Basics.{Two, Same, Apart, two, some_same}
 use Rattle.bmx_store_laws.specs.Laws.{IsCounted}
 use Rattle.bmx_places.specs.Ledger.{Block, IsBlock, AreBlocks, LiesIn, Heads}
-use Rattle.bmx_places.proofs.Blocks.{some_same, at_same, at_apart, home_again, segment_again, index_again, Keeps, object_keeps}
+use Rattle.bmx_places.proofs.Blocks.{at_same, at_apart, home_again, segment_again, index_again, Keeps, object_keeps}
 
 -- ## ledgers that grow
 

@@ -28,12 +28,12 @@ use Rattle.bmx_protocol.specs.Histories.{letters_to, issued, taken, in_flight, A
 use Rattle.bmx_protocol.specs.Worlds.{World, world_of, Between}
 use Rattle.bmx_store_laws.specs.Inside.Seen.{seen, seen_message, seen_known, first_world}
 use Rattle.bmx_store_laws.specs.Laws.{IsCounted, Asked, letters_about, times_at}
-use Rattle.bmx_store_laws.proofs.Basics.{eqb_of, eqb_same, eqb_apart, Two, Same, Apart, two}
+use Rattle.bmx_protocol.proofs.Basics.{eqb_of, eqb_same, eqb_apart, Two, Same, Apart, two, Every, every_append, none_some, some_same}
 use Rattle.bmx_store_laws.proofs.Channels.{numbered_at}
 use Rattle.bmx_store_laws.proofs.Histories.{Came, came_after, each_name}
 use Rattle.bmx_store_laws.proofs.Lifted.{names_are_counted, wants_stand_once}
 use Rattle.bmx_places.specs.Ledger.{Block, IsBlock, AreBlocks, block_of}
-use Rattle.bmx_places.proofs.Blocks.{Every, some_same, none_some, IsTold, Keeps, hears_all}
+use Rattle.bmx_places.proofs.Blocks.{IsTold, Keeps, hears_all}
 use Rattle.bmx_places.proofs.Plain.{IsRight}
 
 -- ## letters of a history
@@ -45,10 +45,6 @@ pub record IsIssued (blocks : ℕ → Option Block) (l : Letter) : Type 0 where
 
 abbrev pub EachIssued : (ℕ → Option Block) → List Event → Type 0
 EachIssued blocks past = Every (λ (e : Event). Every (λ (l : Sending). IsIssued blocks l.letter) e.done.letters) past
-
-pub every_append : {A : Type 0} (P : A → Type 0) (a b : List A) → Every P a → Every P b → Every P (a ++ b)
-every_append P [] b h k = k
-every_append P (x ∷ a) b h k = (h.0, every_append P a b h.1 k)
 
 pub every_at : {A : Type 0} (P : A → Type 0) (a : List A) (i : ℕ) (x : A) → Every P a → slice_get a i ≡ Some x → P x
 every_at P [] i x h e = none_some e

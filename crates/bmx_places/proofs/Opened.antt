@@ -14,194 +14,14 @@ use Rattle.bmx_protocol.specs.Nodes.{Setting, Known, field_of, is_anchor, birth_
 use Rattle.bmx_protocol.specs.Places.{Places, has_room, with_segment, with_made, with_placed, no_places, with_births, by_bunch, owner_places, told_place, with_told}
 use Rattle.bmx_protocol.specs.Steps.{first_node}
 use Rattle.bmx_protocol.specs.Worlds.{World, world_of}
+use Rattle.bmx_protocol.proofs.Births.{In, Distinct, every_in, every_of, in_contains, found, numbered_above, in_bunches, of_bunches, all_bunches, distinct_bunches, learns, learns_in, distinct, ordered, known_first, anchors, anchors_of, known_told}
 use Rattle.bmx_store_laws.specs.Laws.{IsCounted}
-use Rattle.bmx_store_laws.proofs.Basics.{eqb_is, eqb_of, Two, Same, Apart, two}
+use Rattle.bmx_protocol.proofs.Basics.{eqb_is, eqb_of, Two, Same, Apart, two, Every, every_append, none_some, some_same}
 use Rattle.bmx_places.specs.Ledger.{Block, AreBlocks, block_at, LiesIn, IsOf}
-use Rattle.bmx_places.proofs.Blocks.{Every, some_same, none_some, at_same, at_apart, Keeps, object_keeps}
+use Rattle.bmx_places.proofs.Blocks.{at_same, at_apart, Keeps, object_keeps}
 use Rattle.bmx_places.proofs.Making.{IsLaterThan, blocks_later, IsHome, with_block, made_or_old, home_made, handed_more, made_blocks, made_keeps}
 use Rattle.bmx_places.proofs.Plain.{AllOf}
-use Rattle.bmx_places.proofs.Next.{every_append}
 use Rattle.bmx_places.proofs.Kept.{Kept, none_yet}
-
--- ## births
-
--- a birth is of a list
-abbrev In : Birth → List Birth → Type 0
-In b [] = ⊥
-In b (c ∷ bs) = (c ≡ b) ⊎ In b bs
-
--- no two of a list have one name
-abbrev Distinct : List Birth → Type 0
-Distinct [] = Unit {0}
-Distinct (b ∷ bs) = Every (λ (c : Birth). b.name ≢ c.name) bs × Distinct bs
-
-every_in : (P : Birth → Type 0) (bs : List Birth) (b : Birth) → Every P bs → In b bs → P b
-every_in P [] b h there = absurd there
-every_in P (c ∷ bs) b h (inl e) = subst P e h.0
-every_in P (c ∷ bs) b h (inr there) = every_in P bs b h.1 there
-
-every_of : (P : Birth → Type 0) (bs : List Birth) → ((b : Birth) → In b bs → P b) → Every P bs
-every_of P [] h = tt
-every_of P (c ∷ bs) h = (h c (inl refl), every_of P bs (λ b there. h b (inr there)))
-
-in_contains : (bs : List Birth) (b : Birth) → In b bs → Contains bs b
-in_contains [] b there = absurd there
-in_contains (c ∷ bs) b (inl e) = (0, omega arith, e)
-in_contains (c ∷ bs) b (inr there) = (let rest : Contains bs b = in_contains bs b there in (suc rest.0, omega (arith, rest.1), rest.2))
-
-in_append : (a bs : List Birth) (b : Birth) → In b a ⊎ In b bs → In b (a ++ bs)
-in_append [] bs b (inl there) = absurd there
-in_append [] bs b (inr there) = there
-in_append (c ∷ a) bs b (inl (inl e)) = inl e
-in_append (c ∷ a) bs b (inl (inr there)) = inr (in_append a bs b (inl there))
-in_append (c ∷ a) bs b (inr there) = inr (in_append a bs b (inr there))
-
-in_filter : (t : Birth → Bool) (bs : List Birth) (b : Birth) → In b bs → t b ≡ true → In b (filter t bs)
-in_filter t [] b there is = absurd there
-in_filter t (c ∷ bs) b (inl e) is =
-    let same : t c ≡ true = ap t e ∙ is in
-    subst (λ (z : Bool). In b (cond z (c ∷ filter t bs) (filter t bs))) (sym same) (inl e)
-in_filter t (c ∷ bs) b (inr there) is = by_test (t c) (in_filter t bs b there is)
-  where
-    by_test : (z : Bool) → In b (filter t bs) → In b (cond z (c ∷ filter t bs) (filter t bs))
-    by_test true rest = inr rest
-    by_test false rest = rest
-
-filtered : (t : Birth → Bool) (bs : List Birth) (b : Birth) → In b (filter t bs) → In b bs × (t b ≡ true)
-filtered t [] b there = absurd there
-filtered t (c ∷ bs) b there = by_test (t c) refl there (filtered t bs b)
-  where
-    by_test : (z : Bool) → t c ≡ z → In b (cond z (c ∷ filter t bs) (filter t bs)) → (In b (filter t bs) → In b bs × (t b ≡ true)) → In b (c ∷ bs) × (t b ≡ true)
-    by_test true is (inl e) rest = (inl e, ap t (sym e) ∙ is)
-    by_test true is (inr there) rest = (let r : In b bs × (t b ≡ true) = rest there in (inr r.0, r.1))
-    by_test false is there rest = (let r : In b bs × (t b ≡ true) = rest there in (inr r.0, r.1))
-
-distinct_filter : (t : Birth → Bool) (bs : List Birth) → Distinct bs → Distinct (filter t bs)
-distinct_filter t [] h = tt
-distinct_filter t (c ∷ bs) h = by_test (t c) (distinct_filter t bs h.1)
-  where
-    by_test : (z : Bool) → Distinct (filter t bs) → Distinct (cond z (c ∷ filter t bs) (filter t bs))
-    by_test true rest = (every_of (λ (d : Birth). c.name ≢ d.name) (filter t bs) (λ d there. every_in (λ (d : Birth). c.name ≢ d.name) bs d h.0 (filtered t bs d there).0), rest)
-    by_test false rest = rest
-
-distinct_append : (a bs : List Birth) → Distinct a → Distinct bs → ((x y : Birth) → In x a → In y bs → x.name ≢ y.name) → Distinct (a ++ bs)
-distinct_append [] bs h k apart = k
-distinct_append (c ∷ a) bs h k apart = (
-  every_append (λ (d : Birth). c.name ≢ d.name) a bs h.0 (every_of (λ (d : Birth). c.name ≢ d.name) bs (λ d there. apart c d (inl refl) there)),
-  distinct_append a bs h.1 k (λ x y p q. apart x y (inr p) q),
-)
-
-one_name : (bs : List Birth) (x y : Birth) → Distinct bs → In x bs → In y bs → x.name ≡ y.name → x ≡ y
-one_name [] x y h p q e = absurd p
-one_name (c ∷ bs) x y h (inl a) (inl b) e = sym a ∙ b
-one_name (c ∷ bs) x y h (inl a) (inr q) e = absurd (every_in (λ (d : Birth). c.name ≢ d.name) bs y h.0 q (ap (λ (z : Birth). z.name) a ∙ e))
-one_name (c ∷ bs) x y h (inr p) (inl b) e = absurd (every_in (λ (d : Birth). c.name ≢ d.name) bs x h.0 p (ap (λ (z : Birth). z.name) b ∙ sym e))
-one_name (c ∷ bs) x y h (inr p) (inr q) e = one_name bs x y h.1 p q e
-
-found : (bs : List Birth) (x : ℕ) (b : Birth) → find (λ b. b.name == x) bs ≡ Some b → In b bs × (b.name ≡ x)
-found [] x b h = none_some h
-found (c ∷ bs) x b h = by_test (c.name == x) refl h (found bs x b)
-  where
-    by_test : (t : Bool) → (c.name == x) ≡ t → cond t (Some c) (find (λ b. b.name == x) bs) ≡ Some b →
-        (find (λ b. b.name == x) bs ≡ Some b → In b bs × (b.name ≡ x)) → In b (c ∷ bs) × (b.name ≡ x)
-    by_test true is e rest = (let same : c ≡ b = some_same e in (inl same, ap (λ (z : Birth). z.name) (sym same) ∙ eqb_is c.name x is))
-    by_test false is e rest = (let r : In b bs × (b.name ≡ x) = rest e in (inr r.0, r.1))
-
-not_found : (bs : List Birth) (x : ℕ) → find (λ b. b.name == x) bs ≡ None → Every (λ (b : Birth). b.name ≢ x) bs
-not_found [] x h = tt
-not_found (c ∷ bs) x h = by_two (two c.name x) h (not_found bs x)
-  where
-    by_two : Two c.name x → cond (c.name == x) (Some c) (find (λ b. b.name == x) bs) ≡ None → (find (λ b. b.name == x) bs ≡ None → Every (λ (b : Birth). b.name ≢ x) bs) → Every (λ (b : Birth). b.name ≢ x) (c ∷ bs)
-    by_two (Same e) g rest = none_some (sym g ∙ (λ i. cond (eqb_of e i) (Some c) (find (λ b. b.name == x) bs)))
-    by_two (Apart f d) g rest = (d, rest ((λ i. cond (sym f i) (Some c) (find (λ b. b.name == x) bs)) ∙ g))
-
--- names count up
-numbered_above : (bs : List Birth) (k : ℕ) → ((i : ℕ) (b : Birth) → slice_get bs i ≡ Some b → b.name ≡ k + i + 1) → Every (λ (b : Birth). k < b.name) bs
-numbered_above [] k h = tt
-numbered_above (c ∷ bs) k h = (
-  (let first : c.name ≡ k + 0 + 1 = h 0 c refl in omega arith),
-  later bs (numbered_above bs (k + 1) (λ i b e. (let is : b.name ≡ k + suc i + 1 = h (suc i) b e in omega arith))),
-)
-  where
-    later : (bs : List Birth) → Every (λ (b : Birth). k + 1 < b.name) bs → Every (λ (b : Birth). k < b.name) bs
-    later [] h = tt
-    later (b ∷ bs) h = ((let more : k + 1 < b.name = h.0 in omega arith), later bs h.1)
-
-numbered_distinct : (bs : List Birth) (k : ℕ) → ((i : ℕ) (b : Birth) → slice_get bs i ≡ Some b → b.name ≡ k + i + 1) → Distinct bs
-numbered_distinct [] k h = tt
-numbered_distinct (c ∷ bs) k h = (
-  apart bs (numbered_above bs (k + 1) rest),
-  numbered_distinct bs (k + 1) rest,
-)
-  where
-    rest : (i : ℕ) (b : Birth) → slice_get bs i ≡ Some b → b.name ≡ k + 1 + i + 1
-    rest i b e = (let is : b.name ≡ k + suc i + 1 = h (suc i) b e in omega arith)
-
-    apart : (bs : List Birth) → Every (λ (b : Birth). k + 1 < b.name) bs → Every (λ (b : Birth). c.name ≢ b.name) bs
-    apart [] h = tt
-    apart (b ∷ bs) more = ((λ e. (let first : c.name ≡ k + 0 + 1 = h 0 c refl in let above : k + 1 < b.name = more.0 in absurd (omega (arith, e)))), apart bs more.1)
-
-in_bunches : (bs : List Birth) (b : Birth) → In b bs → b.bunch < bunches_of bs
-in_bunches [] b there = absurd there
-in_bunches (c ∷ bs) b (inl e) = omega (arith, ap (λ (z : Birth). z.bunch) e)
-in_bunches (c ∷ bs) b (inr there) = omega (arith, in_bunches bs b there)
-
--- births by bunch are the births of those bunches
-of_bunches : (births : List Birth) (n : ℕ) (b : Birth) → In b (by_bunch births n) → In b births × (b.bunch < n)
-of_bunches births zero b there = absurd there
-of_bunches births (suc n) b there = by_part (split (by_bunch births n) (filter (λ b. b.bunch == n) births) there) (of_bunches births n b)
-  where
-    split : (a bs : List Birth) → In b (a ++ bs) → In b a ⊎ In b bs
-    split [] bs p = inr p
-    split (c ∷ a) bs (inl e) = inl (inl e)
-    split (c ∷ a) bs (inr p) = by_rest (split a bs p)
-      where
-        by_rest : In b a ⊎ In b bs → In b (c ∷ a) ⊎ In b bs
-        by_rest (inl q) = inl (inr q)
-        by_rest (inr q) = inr q
-
-    by_part : In b (by_bunch births n) ⊎ In b (filter (λ b. b.bunch == n) births) → (In b (by_bunch births n) → In b births × (b.bunch < n)) → In b births × (b.bunch < suc n)
-    by_part (inl p) rest = (let r : In b births × (b.bunch < n) = rest p in (r.0, omega (arith, r.1)))
-    by_part (inr p) rest =
-        let f : In b births × ((b.bunch == n) ≡ true) = filtered (λ b. b.bunch == n) births b p in
-        (f.0, omega (arith, eqb_is b.bunch n f.1))
-
-all_bunches : (births : List Birth) (n : ℕ) (b : Birth) → In b births → b.bunch < n → In b (by_bunch births n)
-all_bunches births zero b there below = absurd (omega arith)
-all_bunches births (suc n) b there below = by_two (two b.bunch n) (all_bunches births n b there)
-  where
-    by_two : Two b.bunch n → (b.bunch < n → In b (by_bunch births n)) → In b (by_bunch births n ++ filter (λ b. b.bunch == n) births)
-    by_two (Same e) rest = in_append (by_bunch births n) (filter (λ b. b.bunch == n) births) b (inr (in_filter (λ b. b.bunch == n) births b there (eqb_of e)))
-    by_two (Apart f d) rest = in_append (by_bunch births n) (filter (λ b. b.bunch == n) births) b (inl (rest (omega (arith, below, d))))
-
-distinct_bunches : (births : List Birth) → Distinct births → (n : ℕ) → Distinct (by_bunch births n)
-distinct_bunches births h zero = tt
-distinct_bunches births h (suc n) = distinct_append (by_bunch births n) (filter (λ b. b.bunch == n) births) (distinct_bunches births h n) (distinct_filter (λ b. b.bunch == n) births h)
-    (λ x y p q e. (let a : In x births × (x.bunch < n) = of_bunches births n x p in
-    let f : In y births × ((y.bunch == n) ≡ true) = filtered (λ b. b.bunch == n) births y q in
-    let same : x ≡ y = one_name births x y h a.0 f.0 e in
-    absurd (omega (arith, a.1, eqb_is y.bunch n f.1, ap (λ (z : Birth). z.bunch) same))))
-
--- ## what is known of them
-
-abbrev learns : (Birth → Known) → (ℕ → Option Known) → List Birth → ℕ → Option Known
-learns f known [] = known
-learns f known (b ∷ bs) = learns f (put known b.name (Some (f b))) bs
-
-learns_not : (f : Birth → Known) (bs : List Birth) (known : ℕ → Option Known) (x : ℕ) → Every (λ (b : Birth). b.name ≢ x) bs → learns f known bs x ≡ known x
-learns_not f [] known x h = refl
-learns_not f (b ∷ bs) known x h = learns_not f bs (put known b.name (Some (f b))) x h.1 ∙ by_two (two b.name x)
-  where
-    by_two : Two b.name x → put known b.name (Some (f b)) x ≡ known x
-    by_two (Same e) = absurd (h.0 e)
-    by_two (Apart g d) = at_apart known b.name x (Some (f b)) g
-
-learns_in : (f : Birth → Known) (bs : List Birth) (known : ℕ → Option Known) (b : Birth) → Distinct bs → In b bs → learns f known bs b.name ≡ Some (f b)
-learns_in f [] known b h there = absurd there
-learns_in f (c ∷ bs) known b h (inl e) =
-    learns_not f bs (put known c.name (Some (f c))) b.name (every_of (λ (d : Birth). d.name ≢ b.name) bs (λ d there q. every_in (λ (d : Birth). c.name ≢ d.name) bs d h.0 there (ap (λ (z : Birth). z.name) e ∙ sym q)))
-    ∙ at_same known c.name b.name (Some (f c)) (ap (λ (z : Birth). z.name) e) ∙ ap (λ (z : Birth). Some (f z)) e
-learns_in f (c ∷ bs) known b h (inr there) = learns_in f bs (put known c.name (Some (f c))) b h.1 there
 
 keeps_same : (blocks : ℕ → Option Block) (known after : ℕ → Option Known) (a : Places) → ((x : ℕ) → after x ≡ known x) → Keeps blocks known a → Keeps blocks after a
 keeps_same blocks known after a same keeps = record {
@@ -251,9 +71,6 @@ module _ (st : Setting) (opening : IsOpening st.nodes st.limit st.births) where
     home : IsHome a
     keeps : Keeps blocks known a
     fresh : (c : ℕ) (b : Block) → blocks c ≡ Some b → Every (λ (d : Birth). b.name ≢ d.name) rest
-
-  distinct : Distinct st.births
-  distinct = numbered_distinct st.births 0 (λ i b e. (let is : b.name ≡ i + 1 = opening.born.named i b e in omega arith))
 
   counted : (b : Birth) → In b st.births → (v : Places) → IsCounted st (world_at v) b.name
   counted b there v = record {
@@ -328,11 +145,8 @@ module _ (st : Setting) (opening : IsOpening st.nodes st.limit st.births) where
   placed_all (b ∷ bs) known a of apart few p = placed_all bs (put known b.name (Some (owned_birth b))) (with_made 0 a b.name b.bunch (length b.fields)) of.1 apart.1
       (omega (arith, few, most_made a b.name b.bunch (length b.fields))) (placed_one b bs known a of.0 apart.0 (omega (arith, few)) p)
 
-  abbrev ordered : List Birth
-  ordered = by_bunch st.births (bunches_of st.births)
-
   -- as many as there are births
-  few_ordered : length ordered ≤ 5120000
+  few_ordered : length (ordered st opening) ≤ 5120000
   few_ordered = omega (arith, all (bunches_of st.births), opening.born.few, opening.born.bunches)
     where
       kept_few : (t : Birth → Bool) (bs : List Birth) → length (filter t bs) ≤ length bs
@@ -350,7 +164,7 @@ module _ (st : Setting) (opening : IsOpening st.nodes st.limit st.births) where
   abbrev owned : Places
   owned = owner_places st
 
-  nobody : Placed (λ x. None) no_places ordered
+  nobody : Placed (λ x. None) no_places (ordered st opening)
   nobody = record {
     blocks = λ c. None;
     are = record {
@@ -365,34 +179,19 @@ module _ (st : Setting) (opening : IsOpening st.nodes st.limit st.births) where
     fresh = λ c b e. none_some e;
   }
 
-  placed : Placed (learns owned_birth (λ x. None) ordered) owned []
-  placed = placed_all ordered (λ x. None) no_places (every_of (λ (b : Birth). In b st.births) ordered (λ b there. (of_bunches st.births (bunches_of st.births) b there).0))
-      (distinct_bunches st.births distinct (bunches_of st.births)) (omega (arith, few_ordered)) nobody
-
-  -- what node 0 knows at first
-  known_first : (x : ℕ) → option_map owned_birth (birth_of st x) ≡ learns owned_birth (λ x. None) ordered x
-  known_first x = by_birth (birth_of st x) refl
-    where
-      by_birth : (b : Option Birth) → birth_of st x ≡ b → option_map owned_birth b ≡ learns owned_birth (λ x. None) ordered x
-      by_birth None e = sym (learns_not owned_birth ordered (λ x. None) x (every_of (λ (b : Birth). b.name ≢ x) ordered
-          (λ b there. every_in (λ (b : Birth). b.name ≢ x) st.births b (not_found st.births x e) (of_bunches st.births (bunches_of st.births) b there).0)))
-      by_birth (Some b) e =
-          let f : In b st.births × (b.name ≡ x) = found st.births x b e in
-          sym (learns_in owned_birth ordered (λ x. None) b (distinct_bunches st.births distinct (bunches_of st.births)) (all_bunches st.births (bunches_of st.births) b f.0 (in_bunches st.births b f.0)))
-          ∙ ap (learns owned_birth (λ x. None) ordered) f.1
+  placed : Placed (learns owned_birth (λ x. None) (ordered st opening)) owned []
+  placed = placed_all (ordered st opening) (λ x. None) no_places (every_of (λ (b : Birth). In b st.births) (ordered st opening) (λ b there. (of_bunches st.births (bunches_of st.births) b there).0))
+      (distinct_bunches st.births (distinct st opening) (bunches_of st.births)) (omega (arith, few_ordered)) nobody
 
   owner_keeps : Keeps placed.blocks (first_known st 0) owned
-  owner_keeps = keeps_same placed.blocks (learns owned_birth (λ x. None) ordered) (first_known st 0) owned known_first placed.keeps
+  owner_keeps = keeps_same placed.blocks (learns owned_birth (λ x. None) (ordered st opening)) (first_known st 0) owned (known_first st opening) placed.keeps
 
   -- ## other nodes
-
-  abbrev anchors : List Birth
-  anchors = filter (λ b. is_anchor st b.name) st.births
 
   -- where an object lies at node 0
   lies_there : (b : Birth) → In b st.births → LiesIn placed.blocks (owned.place b.name) b.name (owned_birth b)
   lies_there b there = placed.keeps.entries b.name (owned_birth b)
-      (learns_in owned_birth ordered (λ x. None) b (distinct_bunches st.births distinct (bunches_of st.births)) (all_bunches st.births (bunches_of st.births) b there (in_bunches st.births b there)))
+      (learns_in owned_birth (ordered st opening) (λ x. None) b (distinct_bunches st.births (distinct st opening) (bunches_of st.births)) (all_bunches st.births (bunches_of st.births) b there (in_bunches st.births b there)))
 
   told_keeps : (bs : List Birth) (known : ℕ → Option Known) (a : Places) → Every (λ (b : Birth). In b st.births) bs → Keeps placed.blocks known a →
       Keeps placed.blocks (learns heard_birth known bs) (with_told owned a bs)
@@ -412,42 +211,19 @@ module _ (st : Setting) (opening : IsOpening st.nodes st.limit st.births) where
       one None = h
       one (Some p) = record { opened = h.opened; above = h.above; within = h.within; few = h.few }
 
-  anchors_of : Every (λ (b : Birth). In b st.births) anchors
-  anchors_of = every_of (λ (b : Birth). In b st.births) anchors (λ b there. (filtered (λ b. is_anchor st b.name) st.births b there).0)
-
-  known_told : (x : ℕ) → cond (is_anchor st x) (option_map heard_birth (birth_of st x)) None ≡ learns heard_birth (λ x. None) anchors x
-  known_told x = by_birth (birth_of st x) refl (is_anchor st x) refl
-    where
-      none : (b : Bool) → cond b (option_map heard_birth None) None ≡ None
-      none true = refl
-      none false = refl
-
-      by_birth : (b : Option Birth) → birth_of st x ≡ b → (t : Bool) → is_anchor st x ≡ t → cond t (option_map heard_birth b) None ≡ learns heard_birth (λ x. None) anchors x
-      by_birth None e t is = none t ∙ sym (learns_not heard_birth anchors (λ x. None) x (every_of (λ (b : Birth). b.name ≢ x) anchors
-          (λ b there. every_in (λ (b : Birth). b.name ≢ x) st.births b (not_found st.births x e) (every_in (λ (b : Birth). In b st.births) anchors b anchors_of there))))
-      by_birth (Some b) e true is =
-          let f : In b st.births × (b.name ≡ x) = found st.births x b e in
-          sym (learns_in heard_birth anchors (λ x. None) b (distinct_filter (λ b. is_anchor st b.name) st.births distinct) (in_filter (λ b. is_anchor st b.name) st.births b f.0 (ap (is_anchor st) f.1 ∙ is)))
-          ∙ ap (learns heard_birth (λ x. None) anchors) f.1
-      by_birth (Some b) e false is = sym (learns_not heard_birth anchors (λ x. None) x (every_of (λ (b : Birth). b.name ≢ x) anchors
-          (λ c there q. true_not_false (sym (filtered (λ b. is_anchor st b.name) st.births c there).1 ∙ ap (is_anchor st) q ∙ is))))
-        where
-          true_not_false : true ≡ false → ⊥
-          true_not_false h = cc
-
   -- ## all nodes
 
   node_keeps : (n : ℕ) (t u : Bool) → (n == 0) ≡ t → nat_lt n st.nodes ≡ u →
       Keeps placed.blocks (λ x. cond t (option_map owned_birth (birth_of st x)) (cond (u && is_anchor st x) (option_map heard_birth (birth_of st x)) None))
-      (cond t owned (cond u (with_told owned no_places anchors) no_places))
+      (cond t owned (cond u (with_told owned no_places (anchors st opening)) no_places))
   node_keeps n true u e f = owner_keeps
-  node_keeps n false true e f = keeps_same placed.blocks (learns heard_birth (λ x. None) anchors) _ (with_told owned no_places anchors) known_told
-      (told_keeps anchors (λ x. None) no_places anchors_of (no_keeps placed.blocks (λ x. None) (λ x. refl)))
+  node_keeps n false true e f = keeps_same placed.blocks (learns heard_birth (λ x. None) (anchors st opening)) _ (with_told owned no_places (anchors st opening)) (known_told st opening)
+      (told_keeps (anchors st opening) (λ x. None) no_places (anchors_of st opening) (no_keeps placed.blocks (λ x. None) (λ x. refl)))
   node_keeps n false false e f = no_keeps placed.blocks _ (λ x. refl)
 
-  node_home : (t u : Bool) → IsHome (cond t owned (cond u (with_told owned no_places anchors) no_places))
+  node_home : (t u : Bool) → IsHome (cond t owned (cond u (with_told owned no_places (anchors st opening)) no_places))
   node_home true u = placed.home
-  node_home false true = told_home anchors no_places no_home
+  node_home false true = told_home (anchors st opening) no_places no_home
   node_home false false = no_home
 
   first_records : (n : ℕ) → AllOf placed.blocks (first_entering st n)
@@ -478,6 +254,6 @@ module _ (st : Setting) (opening : IsOpening st.nodes st.limit st.births) where
     all = none_yet st.nodes;
   }
     where
-      handed : (n s : ℕ) (t : Bool) → (cond t owned no_places).handed s ≤ (cond t owned (cond (nat_lt n st.nodes) (with_told owned no_places anchors) no_places)).handed s
+      handed : (n s : ℕ) (t : Bool) → (cond t owned no_places).handed s ≤ (cond t owned (cond (nat_lt n st.nodes) (with_told owned no_places (anchors st opening)) no_places)).handed s
       handed n s true = omega arith
       handed n s false = omega arith

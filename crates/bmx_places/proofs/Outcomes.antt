@@ -40,8 +40,9 @@ use Rattle.bmx_protocol.proofs.Changing.{Each}
 use Rattle.bmx_store_laws.proofs.Ruled.{HasNo, FreeOf}
 use Rattle.bmx_store_laws.proofs.Copies.{NoGrants}
 use Rattle.bmx_places.specs.Ledger.{Block, LiesIn}
-use Rattle.bmx_places.proofs.Blocks.{Every, some_same, none_some, IsTold, Keeps}
+use Rattle.bmx_places.proofs.Blocks.{IsTold, Keeps}
 use Rattle.bmx_places.proofs.Plain.{shape, IsKnown, Plain, IsDraft}
+use Rattle.bmx_protocol.proofs.Basics.{Every, none_some, some_same}
 
 -- ## what grants bring
 

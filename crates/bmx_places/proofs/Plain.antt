@@ -18,9 +18,9 @@ use Rattle.bmx_protocol.specs.Changes.{Change, Sets, Makes, Knows, Hears, Gives,
 use Rattle.bmx_protocol.specs.Rules.{Draft, infos, grant_in}
 use Rattle.bmx_protocol.specs.Steps.{numbered, sent_changes}
 use Rattle.bmx_protocol.proofs.Changing.{Each, each_append, kept_by_each}
-use Rattle.bmx_store_laws.proofs.Basics.{Two, Same, Apart, two, put_at_row, put_at_else}
+use Rattle.bmx_protocol.proofs.Basics.{Two, Same, Apart, two, put_at_row, put_at_else, Every, none_some, some_same}
 use Rattle.bmx_places.specs.Ledger.{Block, block_at, LiesIn, IsOf}
-use Rattle.bmx_places.proofs.Blocks.{Every, some_same, none_some, at_same, at_apart, IsTold, Keeps}
+use Rattle.bmx_places.proofs.Blocks.{at_same, at_apart, IsTold, Keeps}
 
 -- ## shapes
 

@@ -1,3 +1,5 @@
+pub mod Basics
+pub mod Births
 pub mod Changing
 pub mod Refusals
 pub mod Waits

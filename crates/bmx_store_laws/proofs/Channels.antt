@@ -10,7 +10,7 @@ use Rattle.bmx_protocol.specs.declared.events.Event.{Event}
 use Rattle.bmx_protocol.specs.Rules.{Draft}
 use Rattle.bmx_protocol.specs.Steps.{Node, numbered, is_taken}
 use Rattle.bmx_protocol.specs.Histories.{letters_to, issued, letter_from, arrived, taken, in_flight}
-use Rattle.bmx_store_laws.proofs.Basics.{eqb_of, eqb_is, Two, Same, Apart, two}
+use Rattle.bmx_protocol.proofs.Basics.{eqb_of, eqb_is, Two, Same, Apart, two}
 
 -- ## numbers
 

@@ -18,7 +18,7 @@ use Rattle.bmx_protocol.specs.Histories.{letters_to, in_flight}
 use Rattle.bmx_protocol.specs.Worlds.{world_of}
 use Rattle.bmx_protocol.proofs.Changing.{after_append}
 use Rattle.bmx_store_laws.specs.Inside.Seen.{seen, seen_message, seen_draft, seen_known, seen_note}
-use Rattle.bmx_store_laws.proofs.Basics.{eqb_of, eqb_is, eqb_same, Two, Same, Apart, two, put_at_row, put_at_else}
+use Rattle.bmx_protocol.proofs.Basics.{eqb_of, eqb_is, eqb_same, Two, Same, Apart, two, put_at_row, put_at_else}
 use Rattle.bmx_store_laws.proofs.Sends.{records_of, IsSent, all_sent, letters_left}
 use Rattle.bmx_store_laws.proofs.Shares.{shares_after, shares_changed}
 use Rattle.bmx_store_laws.proofs.Ruled.{FreeOf, MayTell, OnlyTell, IsSilentOn, Silent, Did, Acts, Passes, Makes, IsQuiet}

@@ -34,7 +34,7 @@ use Rattle.bmx_protocol.specs.Changes.{Change, Sets, Makes, Knows, Hears, Gives,
 use Rattle.bmx_protocol.specs.Rules.{Reaction, known_change, operation_answer, after_operation, operation_rule, About, Token, Fields, Making, Nothing, next_name, stored, graph_changes, answered, graph_rule, token_rule, knows, command_rule, heard_field, name_in, note_in, info_in, infos, copy_after, got_change, took, take_rule}
 use Rattle.bmx_protocol.specs.Histories.{IsOperandOf, IsCommandOf}
 use Rattle.bmx_protocol.proofs.Changing.{Each, each_append, kept_by_each}
-use Rattle.bmx_store_laws.proofs.Basics.{eqb_of, Two, Same, Apart, two, put_apart}
+use Rattle.bmx_protocol.proofs.Basics.{eqb_of, Two, Same, Apart, two, put_apart}
 use Rattle.bmx_store_laws.proofs.Shares.{Spares}
 use Rattle.bmx_store_laws.proofs.Ruled.{HasNo, NoRefs, FreeOf}
 

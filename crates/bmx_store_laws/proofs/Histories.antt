@@ -33,7 +33,7 @@ use Rattle.bmx_protocol.proofs.Prefixes.{joined}
 use Rattle.bmx_token_model.specs.Machine.{Object, IsNowhere, Run, Stays, Goes, IsFirst}
 use Rattle.bmx_token_model.specs.Machine.{Makes as MakesIt}
 use Rattle.bmx_store_laws.specs.Inside.Seen.{seen, seen_known, first_world}
-use Rattle.bmx_store_laws.proofs.Basics.{eqb_is, eqb_not, eqb_of, at_each}
+use Rattle.bmx_protocol.proofs.Basics.{eqb_is, eqb_not, eqb_of, at_each}
 use Rattle.bmx_store_laws.proofs.Sends.{letters_left}
 use Rattle.bmx_store_laws.proofs.Shares.{shares_after, shares_changed, Spares, all_spared}
 use Rattle.bmx_store_laws.proofs.Ruled.{FreeOf, Did, Passes, IsQuiet, act_quiet, command_quiet, command_did, serve_did}

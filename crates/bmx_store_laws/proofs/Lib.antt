@@ -1,4 +1,3 @@
-pub mod Basics
 pub mod Sends
 pub mod Shares
 pub mod Copies

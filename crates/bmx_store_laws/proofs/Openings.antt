@@ -23,7 +23,7 @@ use Rattle.bmx_protocol.specs.Steps.{Node}
 use Rattle.bmx_protocol.specs.Worlds.{world_of}
 use Rattle.bmx_store_laws.specs.Laws.{IsCounted}
 use Rattle.bmx_store_laws.specs.Inside.Seen.{seen, seen_known, seen_record, first_world}
-use Rattle.bmx_store_laws.proofs.Basics.{eqb_of, eqb_is, eqb_apart}
+use Rattle.bmx_protocol.proofs.Basics.{eqb_of, eqb_is, eqb_apart}
 use Rattle.bmx_store_laws.proofs.Ruled.{HasNo, NoRefs, FreeOf}
 use Rattle.bmx_store_laws.proofs.Free.{IsFree, IsUnborn, null_free}
 use Rattle.bmx_store_laws.proofs.Channels.{Channels}

@@ -22,7 +22,7 @@ use Rattle.bmx_token_model.proofs.Readers.{one_or_more}
 use Rattle.bmx_store_laws.specs.Inside.Seen.{has_name, seen_note, tells_of, seen, seen_message, seen_known}
 use Rattle.bmx_store_laws.specs.Laws.{is_handover_of, handovers_of, IsSeated}
 use Rattle.bmx_store_laws.specs.Laws as seated
-use Rattle.bmx_store_laws.proofs.Basics.{eqb_of, eqb_is, eqb_same, eqb_apart, Two, Same, Apart, two}
+use Rattle.bmx_protocol.proofs.Basics.{eqb_of, eqb_is, eqb_same, eqb_apart, Two, Same, Apart, two}
 
 abbrev pub one_if : Bool → ℕ
 one_if b = cond b 1 0

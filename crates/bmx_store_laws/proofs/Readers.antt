@@ -16,7 +16,7 @@ use Rattle.bmx_token_model.specs.Laws.{HasReader as Reads}
 use Rattle.bmx_token_model.proofs.Readers.{one_or_more}
 use Rattle.bmx_store_laws.specs.Inside.Seen.{seen, seen_message, seen_note, seen_known}
 use Rattle.bmx_store_laws.specs.Laws.{HasReader, EachReaderIsListed}
-use Rattle.bmx_store_laws.proofs.Basics.{eqb_same}
+use Rattle.bmx_protocol.proofs.Basics.{eqb_same}
 
 is_there : {A : Type 0} (a : Option A) → IsSome a → is_some a ≡ true
 is_there None some = absurd cc

@@ -23,7 +23,7 @@ use Rattle.bmx_protocol.specs.Nodes.{NodeState, Known, seen_graph, share_of, wit
 use Rattle.bmx_protocol.specs.Changes.{after_changes}
 use Rattle.bmx_protocol.specs.Rules.{Draft, Reaction, only, info_of, told_field, told_fields, message, drafts_of, with_share, known_change, operation_answer, after_operation, operation_rule, About, Token, Fields, Making, Nothing, next_name, stored, graph_changes, answered, graph_rule, token_rule, knows, command_rule}
 use Rattle.bmx_store_laws.specs.Inside.Seen.{has_name, seen_note, tells_of, seen_draft, seen_known}
-use Rattle.bmx_store_laws.proofs.Basics.{eqb_of, eqb_same, Two, Same, Apart, two}
+use Rattle.bmx_protocol.proofs.Basics.{eqb_of, eqb_same, Two, Same, Apart, two}
 use Rattle.bmx_store_laws.proofs.Shares.{shares_after}
 use Rattle.bmx_store_laws.proofs.Copies.{IsCopied, act_copied, share_again, NoGrants}
 

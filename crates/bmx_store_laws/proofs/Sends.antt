@@ -24,7 +24,7 @@ use Rattle.bmx_protocol.specs.Histories.{letters_to}
 use Rattle.bmx_protocol.proofs.Changing.{after_append, Each, each_append}
 use Rattle.bmx_protocol.proofs.Counts.{letter_issues}
 use Rattle.bmx_store_laws.specs.Inside.Seen.{has_name, seen_note, tells_of, seen_message, seen_draft, seen_record}
-use Rattle.bmx_store_laws.proofs.Basics.{eqb_of, eqb_same, Two, Same, Apart, two, put_at_row, put_at_else}
+use Rattle.bmx_protocol.proofs.Basics.{eqb_of, eqb_same, Two, Same, Apart, two, put_at_row, put_at_else}
 
 -- the records of x at a node
 abbrev pub records_of : ℕ → NodeState → ℕ → Option Numbers

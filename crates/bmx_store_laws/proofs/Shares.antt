@@ -10,7 +10,7 @@ use Rattle.bmx_protocol.specs.Nodes.{NodeState, Known, share_of}
 use Rattle.bmx_protocol.specs.Changes.{Change, Sets, Makes, Knows, Hears, Gives, Gets, Issues, Takes, heard_of, heard, after_change, after_changes}
 use Rattle.bmx_protocol.proofs.Changing.{Each}
 use Rattle.bmx_store_laws.specs.Inside.Seen.{seen_known}
-use Rattle.bmx_store_laws.proofs.Basics.{eqb_of, Two, Same, Apart, two}
+use Rattle.bmx_protocol.proofs.Basics.{eqb_of, Two, Same, Apart, two}
 
 -- what a node has of x after a change
 abbrev pub share_after : ℕ → Option Share → Change → Option Share

@@ -22,7 +22,7 @@ use Rattle.bmx_protocol.specs.Changes.{Change, Sets, Makes, Knows, Hears, Gives,
 use Rattle.bmx_protocol.specs.Rules.{Draft, Reaction, only, name_in, note_in, info_in, infos, told_fields, known_change, copy_after, got_change, took, take_rule}
 use Rattle.bmx_protocol.proofs.Changing.{after_append, Each}
 use Rattle.bmx_store_laws.specs.Inside.Seen.{has_name, seen_note, tells_of, seen_draft, seen_known, seen_record}
-use Rattle.bmx_store_laws.proofs.Basics.{eqb_of, eqb_same, Two, Same, Apart, two}
+use Rattle.bmx_protocol.proofs.Basics.{eqb_of, eqb_same, Two, Same, Apart, two}
 use Rattle.bmx_store_laws.proofs.Sends.{records_of, numbers_in, record_at, got_is}
 use Rattle.bmx_store_laws.proofs.Shares.{shares_after, shares_append, heard_all}
 use Rattle.bmx_store_laws.proofs.Copies.{IsCopied, copy_by, note_copied, NoGrants, GrantsNothing, note_grants}

@@ -17,7 +17,7 @@ use Rattle.bmx_store_laws.specs.Inside.Seen.{seen, seen_message, seen_known}
 use Rattle.bmx_store_laws.specs.Laws.{Spot, Asked, Queued, Granted, letters_about, times_at, IsWaiting, StandsOnce, WantsStand}
 use Rattle.bmx_store_laws.proofs.Owners.{one_if}
 use Rattle.bmx_store_laws.proofs.Readers.{known_seen}
-use Rattle.bmx_store_laws.proofs.Basics.{Two, Same, Apart, two, eqb_same}
+use Rattle.bmx_protocol.proofs.Basics.{Two, Same, Apart, two, eqb_same}
 
 -- ## counts
 

@@ -1,6 +1,6 @@
 -- Tests of two numbers, and functions changed at one.
-use Rattle.std.proofs.Common.{◌≡◌, ℕ, arith, refl, ap, sym, ◌∙◌, Bool, true, false, cond}
-use Rattle.std.specs.Prelude.{◌==◌, ◌≢◌}
+use Rattle.std.proofs.Common.{◌≡◌, ℕ, arith, refl, ap, sym, ◌∙◌, Bool, true, false, cond, List, [], ◌∷◌, ◌++◌}
+use Rattle.std.specs.Prelude.{◌==◌, ◌≢◌, Some, None}
 use Rattle.std.proofs.lemmas.Bool.Decides.{nat_tests}
 use Rattle.bmx_types.specs.Updates.{put, put_at}
 
@@ -50,3 +50,20 @@ at_each P f me v here n other = by_test (me == n)
     by_test : (b : Bool) → P (cond b v (f n))
     by_test true = here
     by_test false = other
+
+-- ## lists and options
+
+-- each of a list
+abbrev pub Every : {A : Type 0} → (A → Type 0) → List A → Type 0
+Every P [] = Unit {0}
+Every P (x ∷ xs) = P x × Every P xs
+
+pub every_append : {A : Type 0} (P : A → Type 0) (a b : List A) → Every P a → Every P b → Every P (a ++ b)
+every_append P [] b h k = k
+every_append P (x ∷ a) b h k = (h.0, every_append P a b h.1 k)
+
+pub some_same : {A : Type 0} {x y : A} → Some x ≡ Some y → x ≡ y
+some_same e = cc
+
+pub none_some : {A B : Type 0} {x : A} → None ≡ Some x → B
+none_some e = absurd (cc)
