@@ -1,6 +1,6 @@
 -- The ledger that a store opens with: the blocks of its births, in the order in which they are placed.
-use Rattle.std.proofs.Common.{◌≡◌, ◌≢◌, ◌⊎◌, inl, inr, ℕ, ◌+◌, ◌*◌, ◌^◌, ◌<◌, ◌≤◌, arith, refl, ap, sym, subst, ◌∙◌, Bool, true, false, cond, List, [], ◌∷◌, ◌++◌, map, length, zero, suc, length-append}
-use Rattle.std.specs.Prelude.{◌==◌, ◌&&◌, nat_lt, Option, Some, None, find, filter, slice_get, Contains}
+use Rattle.std.proofs.Common.{◌≡◌, ◌≢◌, ◌⊎◌, inl, inr, ℕ, ◌+◌, ◌*◌, ◌^◌, ◌<◌, ◌≤◌, arith, refl, ap, sym, subst, ◌∙◌, Bool, true, false, cond, List, [], ◌∷◌, map, length, zero, suc, length-append}
+use Rattle.std.specs.Prelude.{◌==◌, ◌&&◌, nat_lt, Option, Some, None, filter, slice_get}
 use Rattle.std.specs.Option.{option_map}
 use Rattle.bmx_types.specs.Words.{maker, count_of}
 use Rattle.bmx_types.specs.Openings.{IsOpening, bunches_of}
@@ -16,7 +16,7 @@ use Rattle.bmx_protocol.specs.Steps.{first_node}
 use Rattle.bmx_protocol.specs.Worlds.{World, world_of}
 use Rattle.bmx_protocol.proofs.Births.{In, Distinct, every_in, every_of, in_contains, found, numbered_above, in_bunches, of_bunches, all_bunches, distinct_bunches, learns, learns_in, distinct, ordered, known_first, anchors, anchors_of, known_told}
 use Rattle.bmx_store_laws.specs.Laws.{IsCounted}
-use Rattle.bmx_protocol.proofs.Basics.{eqb_is, eqb_of, Two, Same, Apart, two, Every, every_append, none_some, some_same}
+use Rattle.bmx_protocol.proofs.Basics.{Every, none_some, some_same}
 use Rattle.bmx_places.specs.Ledger.{Block, AreBlocks, block_at, LiesIn, IsOf}
 use Rattle.bmx_places.proofs.Blocks.{at_same, at_apart, Keeps, object_keeps}
 use Rattle.bmx_places.proofs.Making.{IsLaterThan, blocks_later, IsHome, with_block, made_or_old, home_made, handed_more, made_blocks, made_keeps}
