@@ -6,3 +6,4 @@ pub mod Sweeps
 pub mod Tables
 pub mod Steps
 pub mod Playing
+pub mod Cases

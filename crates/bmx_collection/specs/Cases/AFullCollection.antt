@@ -1,0 +1,46 @@
+-- A collection that finds no segment is refused, and nothing of it is done.
+use Rattle.std.specs.Prelude.{◌≡◌, pos, List, [], ◌∷◌, map, Some, None, refl}
+use Rattle.bmx_types.specs.declared.values.Val.TheVariants as val
+use Rattle.bmx_types.specs.declared.commands.Operand.TheVariants as operand
+use Rattle.bmx_types.specs.declared.commands.Command.TheVariants as command
+use Rattle.bmx_types.specs.declared.commands.Refusal.TheVariants as refusal
+use Rattle.bmx_clean.specs.declared.cleaner.Applied.TheVariants.{Removed}
+use Rattle.bmx_protocol.specs.declared.inputs.NodeAnswer.TheVariants as answer
+use Rattle.bmx_protocol.specs.Cases.{Do, one_bunch}
+use Rattle.bmx_collection.specs.Steps.{Forgot, Cleaned, Nil, Refused}
+use Rattle.bmx_collection.specs.Playing.{Of, Collects, Makes, Takes, Says, SaysOf, Line, by, IsSaidOf, LinkedPlay, acted}
+use Rattle.bmx_collection.specs.Cases.Stores.{table, lives, went, left_at}
+
+-- what comes next, and what is to be said of it
+abbrev pub lines : List Line
+lines =
+    by (Of (Do 0 (command.Write (operand.Anchor 0)))) (Says 1 answer.Nil [])
+    ∷ by (Of (Do 0 (command.Set (operand.Anchor 0) 0 (operand.Int (pos 6))))) (Says 2 answer.Nil [])
+    ∷ by (Of (Do 0 (command.Done (operand.Anchor 0)))) (Says 3 answer.Nil [])
+    ∷ by (Collects 0 0 (1 ∷ []) (1 ∷ []) []) (SaysOf 4 (Forgot 0) None)
+    ∷ by (Makes 0 0 0 []) (SaysOf 5 Nil (Some (table 0 0 1 5 0 0 0 5 [] [])))
+    ∷ by (Takes 0 0 []) (SaysOf 6 (Cleaned (Removed 0)) None)
+    ∷ by (Collects 0 0 (1 ∷ []) (1 ∷ []) []) (SaysOf 7 (Refused refusal.Full) None)
+    ∷ by (Of (Do 0 (command.Read (operand.Anchor 0)))) (Says 8 answer.Nil [])
+    ∷ by (Of (Do 0 (command.Show (operand.Anchor 0) 0))) (Says 9 (answer.Value (val.Int (pos 6))) [])
+    ∷ by (Of (Do 0 (command.Done (operand.Anchor 0)))) (Says 10 answer.Nil [])
+    ∷ []
+
+a_full_collection : IsSaidOf (record (one_bunch 1) { limit = 2 }) lines
+a_full_collection = refl
+
+-- the nodes at the end
+abbrev pub at_the_end : LinkedPlay
+at_the_end = acted (record (one_bunch 1) { limit = 2 }) (map (λ l. l.act) lines)
+
+left_at_node_0 :
+    left_at (at_the_end.nodes 0) (1 ∷ []) (0x100000000 ∷ 0x200000000 ∷ []) []
+    ≡ record {
+      clock = 10;
+      places = (Some (record { address = 0x200000000; moves = 1 }) ∷ []);
+      headers = (went 1 32 0x200000000 ∷ lives 1 32 1 ∷ []);
+      records = [];
+      stubs = [];
+      scions = [];
+    }
+left_at_node_0 = refl

@@ -1,0 +1,108 @@
+-- A table that node 1 made before it heard of 0.2 again comes late: it ends no record, and a collection keeps 0.2.
+use Rattle.std.specs.Prelude.{◌≡◌, pos, List, [], ◌∷◌, map, replicate, Some, None, refl}
+use Rattle.bmx_types.specs.declared.values.Val.TheVariants as val
+use Rattle.bmx_types.specs.declared.commands.Operand.TheVariants as operand
+use Rattle.bmx_types.specs.declared.commands.Command.TheVariants as command
+use Rattle.bmx_msg.specs.declared.letters.Field.TheVariants as msg_field
+use Rattle.bmx_msg.specs.declared.letters.Msg.TheVariants as msg
+use Rattle.bmx_clean.specs.declared.cleaner.Applied.TheVariants.{Removed}
+use Rattle.bmx_protocol.specs.declared.inputs.NodeAnswer.TheVariants as answer
+use Rattle.bmx_protocol.specs.Cases.{Do, Serve, Next, one_bunch}
+use Rattle.bmx_collection.specs.Steps.{Forgot, Cleaned, Nil}
+use Rattle.bmx_collection.specs.Playing.{Of, Collects, Makes, Takes, Says, SaysOf, Line, by, IsSaidOf, LinkedPlay, acted}
+use Rattle.bmx_collection.specs.Cases.Stores.{object, letter, table, lives, went, left_at}
+
+-- what comes next, and what is to be said of it
+abbrev pub lines : List Line
+lines =
+    by (Of (Do 0 (command.New 0 0 1))) (Says 1 answer.Nil [])
+    ∷ by (Of (Do 0 (command.Write (operand.Register 0)))) (Says 2 answer.Nil [])
+    ∷ by (Of (Do 0 (command.Set (operand.Register 0) 0 (operand.Int (pos 7))))) (Says 3 answer.Nil [])
+    ∷ by (Of (Do 0 (command.Done (operand.Register 0)))) (Says 4 answer.Nil [])
+    ∷ by (Of (Do 0 (command.Write (operand.Anchor 0)))) (Says 5 answer.Nil [])
+    ∷ by (Of (Do 0 (command.Set (operand.Anchor 0) 0 (operand.Register 0)))) (Says 6 answer.Nil [])
+    ∷ by (Of (Do 0 (command.Done (operand.Anchor 0)))) (Says 7 answer.Nil [])
+    ∷ by (Of (Do 1 (command.Read (operand.Anchor 0)))) (Says 1 answer.Wait (letter 0 1 1 (msg.ReadReq 1 1) ∷ []))
+    ∷ by (Of (Next 1 0)) (Says 8 answer.Nil [])
+    ∷ by (Of (Serve 0 1)) (Says 9 answer.Nil (letter 1 1 9 (msg.ReadGrant (object 1 0 32 0x100000000 0) (msg_field.Ref (object 2 0 1 0x100000024 0) ∷ replicate 31 msg_field.Null)) ∷ []))
+    ∷ by (Of (Next 0 1)) (Says 10 answer.Nil [])
+    ∷ by (Of (Do 1 (command.Read (operand.Anchor 0)))) (Says 11 answer.Nil [])
+    ∷ by (Of (Do 1 (command.Get 0 (operand.Anchor 0) 0))) (Says 12 (answer.Value (val.Ref 2)) [])
+    ∷ by (Of (Do 1 (command.Done (operand.Anchor 0)))) (Says 13 answer.Nil [])
+    ∷ by (Of (Do 0 (command.Write (operand.Anchor 0)))) (Says 10 answer.Wait [])
+    ∷ by (Of (Do 1 (command.Drop 0))) (Says 14 answer.Nil [])
+    ∷ by (Of (Serve 0 1)) (Says 11 answer.Nil (letter 1 2 11 (msg.Inval 1) ∷ []))
+    ∷ by (Of (Next 0 1)) (Says 15 answer.Nil (letter 0 2 15 (msg.InvAck 1) ∷ []))
+    ∷ by (Of (Next 1 0)) (Says 16 answer.Nil [])
+    ∷ by (Of (Serve 0 1)) (Says 17 answer.Nil [])
+    ∷ by (Of (Do 0 (command.Write (operand.Anchor 0)))) (Says 18 answer.Nil [])
+    ∷ by (Of (Do 0 (command.Set (operand.Anchor 0) 0 operand.Null))) (Says 19 answer.Nil [])
+    ∷ by (Of (Do 0 (command.Done (operand.Anchor 0)))) (Says 20 answer.Nil [])
+    ∷ by (Collects 1 0 (1 ∷ []) [] (2 ∷ [])) (SaysOf 16 (Forgot 1) None)
+    ∷ by (Makes 1 0 0 (1 ∷ [])) (SaysOf 17 Nil (Some (table 1 0 1 17 0 2 2 9 (1 ∷ []) [])))
+    ∷ by (Makes 1 0 1 []) (SaysOf 18 Nil (Some (table 1 1 1 18 0 0 0 10 [] [])))
+    ∷ by (Takes 1 1 []) (SaysOf 19 (Cleaned (Removed 0)) None)
+    ∷ by (Of (Do 0 (command.Write (operand.Anchor 0)))) (Says 21 answer.Nil [])
+    ∷ by (Of (Do 0 (command.Set (operand.Anchor 0) 0 (operand.Register 0)))) (Says 22 answer.Nil [])
+    ∷ by (Of (Do 0 (command.Done (operand.Anchor 0)))) (Says 23 answer.Nil [])
+    ∷ by (Of (Do 1 (command.Read (operand.Anchor 0)))) (Says 20 answer.Wait (letter 0 3 20 (msg.ReadReq 1 1) ∷ []))
+    ∷ by (Of (Next 1 0)) (Says 24 answer.Nil [])
+    ∷ by (Of (Serve 0 1)) (Says 25 answer.Nil (letter 1 3 25 (msg.ReadGrant (object 1 0 32 0x100000000 0) (msg_field.Ref (object 2 0 1 0x100000024 0) ∷ replicate 31 msg_field.Null)) ∷ []))
+    ∷ by (Of (Next 0 1)) (Says 26 answer.Nil [])
+    ∷ by (Of (Do 1 (command.Read (operand.Anchor 0)))) (Says 27 answer.Nil [])
+    ∷ by (Of (Do 1 (command.Get 0 (operand.Anchor 0) 0))) (Says 28 (answer.Value (val.Ref 2)) [])
+    ∷ by (Of (Do 1 (command.Done (operand.Anchor 0)))) (Says 29 answer.Nil [])
+    ∷ by (Of (Do 0 (command.Write (operand.Anchor 0)))) (Says 26 answer.Wait [])
+    ∷ by (Of (Serve 0 1)) (Says 27 answer.Nil (letter 1 4 27 (msg.Inval 1) ∷ []))
+    ∷ by (Of (Next 0 1)) (Says 30 answer.Nil (letter 0 4 30 (msg.InvAck 1) ∷ []))
+    ∷ by (Of (Next 1 0)) (Says 31 answer.Nil [])
+    ∷ by (Of (Serve 0 1)) (Says 32 answer.Nil [])
+    ∷ by (Of (Do 0 (command.Write (operand.Anchor 0)))) (Says 33 answer.Nil [])
+    ∷ by (Of (Do 0 (command.Set (operand.Anchor 0) 0 operand.Null))) (Says 34 answer.Nil [])
+    ∷ by (Of (Do 0 (command.Done (operand.Anchor 0)))) (Says 35 answer.Nil [])
+    ∷ by (Of (Do 0 (command.Drop 0))) (Says 36 answer.Nil [])
+    ∷ by (Takes 0 0 (record { name = 1; bunch = 0; from = 1; sent = 3; got = 0 } ∷ record { name = 2; bunch = 0; from = 1; sent = 3; got = 0 } ∷ [])) (SaysOf 37 (Cleaned (Removed 0)) None)
+    ∷ by (Collects 0 0 (1 ∷ 2 ∷ []) (1 ∷ 2 ∷ []) []) (SaysOf 38 (Forgot 0) None)
+    ∷ by (Makes 0 0 0 []) (SaysOf 39 Nil (Some (table 0 0 1 39 0 0 0 32 [] [])))
+    ∷ by (Makes 0 0 1 []) (SaysOf 40 Nil (Some (table 0 1 1 40 0 4 4 33 [] [])))
+    ∷ by (Of (Do 1 (command.Read (operand.Register 0)))) (Says 31 answer.Wait (letter 0 5 31 (msg.ReadReq 2 1) ∷ []))
+    ∷ by (Takes 1 3 []) (SaysOf 41 (Cleaned (Removed 0)) None)
+    ∷ by (Of (Next 1 0)) (Says 41 answer.Nil [])
+    ∷ by (Takes 0 2 (record { name = 1; bunch = 0; from = 1; sent = 3; got = 0 } ∷ record { name = 2; bunch = 0; from = 1; sent = 3; got = 0 } ∷ [])) (SaysOf 42 (Cleaned (Removed 0)) None)
+    ∷ by (Of (Serve 0 2)) (Says 43 answer.Nil (letter 1 5 43 (msg.ReadGrant (object 2 0 1 0x200000024 1) (msg_field.Int (pos 7) ∷ [])) ∷ []))
+    ∷ by (Of (Next 0 1)) (Says 44 answer.Nil [])
+    ∷ by (Of (Do 1 (command.Read (operand.Register 0)))) (Says 45 answer.Nil [])
+    ∷ by (Of (Do 1 (command.Show (operand.Register 0) 0))) (Says 46 (answer.Value (val.Int (pos 7))) [])
+    ∷ by (Of (Do 1 (command.Done (operand.Register 0)))) (Says 47 answer.Nil [])
+    ∷ []
+
+a_late_table : IsSaidOf (one_bunch 2) lines
+a_late_table = refl
+
+-- the nodes at the end
+abbrev pub at_the_end : LinkedPlay
+at_the_end = acted (one_bunch 2) (map (λ l. l.act) lines)
+
+left_at_node_0 :
+    left_at (at_the_end.nodes 0) (1 ∷ 2 ∷ []) (0x100000000 ∷ 0x100000024 ∷ 0x200000000 ∷ 0x200000024 ∷ []) ((1, 1) ∷ (2, 1) ∷ [])
+    ≡ record {
+      clock = 36;
+      places = (Some (record { address = 0x200000000; moves = 1 }) ∷ Some (record { address = 0x200000024; moves = 1 }) ∷ []);
+      headers = (went 1 32 0x200000000 ∷ went 2 1 0x200000024 ∷ lives 1 32 1 ∷ lives 2 1 1 ∷ []);
+      records = (Some (record { name = 1; bunch = 0; from = 1; sent = 3; got = 0 }) ∷ Some (record { name = 2; bunch = 0; from = 1; sent = 5; got = 0 }) ∷ []);
+      stubs = [];
+      scions = [];
+    }
+left_at_node_0 = refl
+
+left_at_node_1 :
+    left_at (at_the_end.nodes 1) (1 ∷ 2 ∷ []) (0x100000000 ∷ 0x100000024 ∷ 0x200000024 ∷ []) []
+    ≡ record {
+      clock = 23;
+      places = (Some (record { address = 0x100000000; moves = 0 }) ∷ Some (record { address = 0x200000024; moves = 1 }) ∷ []);
+      headers = (lives 1 32 0 ∷ went 2 1 0x200000024 ∷ lives 2 1 1 ∷ []);
+      records = [];
+      stubs = [];
+      scions = [];
+    }
+left_at_node_1 = refl

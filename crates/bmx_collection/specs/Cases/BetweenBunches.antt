@@ -1,0 +1,63 @@
+-- An object to which only an object of another bunch refers is kept by a scion; a sweep then drops the segment that it left.
+use Rattle.std.specs.Prelude.{◌≡◌, pos, List, [], ◌∷◌, map, Some, None, refl}
+use Rattle.bmx_types.specs.declared.values.Val.TheVariants as val
+use Rattle.bmx_types.specs.declared.commands.Operand.TheVariants as operand
+use Rattle.bmx_types.specs.declared.commands.Command.TheVariants as command
+use Rattle.bmx_clean.specs.declared.cleaner.Applied.TheVariants.{Removed}
+use Rattle.bmx_protocol.specs.declared.inputs.NodeAnswer.TheVariants as answer
+use Rattle.bmx_protocol.specs.Cases.{Do}
+use Rattle.bmx_collection.specs.Steps.{Forgot, Swept, Cleaned, Nil}
+use Rattle.bmx_collection.specs.Playing.{Of, Collects, Makes, Takes, Sweeps, Says, SaysOf, Line, by, IsSaidOf, LinkedPlay, acted}
+use Rattle.bmx_collection.specs.Cases.Stores.{two_bunches, pair, table, lives, went, left_at}
+
+-- what comes next, and what is to be said of it
+abbrev pub lines : List Line
+lines =
+    by (Of (Do 0 (command.New 0 1 1))) (Says 1 answer.Nil [])
+    ∷ by (Of (Do 0 (command.Write (operand.Register 0)))) (Says 2 answer.Nil [])
+    ∷ by (Of (Do 0 (command.Set (operand.Register 0) 0 (operand.Int (pos 9))))) (Says 3 answer.Nil [])
+    ∷ by (Of (Do 0 (command.Done (operand.Register 0)))) (Says 4 answer.Nil [])
+    ∷ by (Of (Do 0 (command.Write (operand.Anchor 0)))) (Says 5 answer.Nil [])
+    ∷ by (Of (Do 0 (command.Set (operand.Anchor 0) 0 (operand.Register 0)))) (Says 6 answer.Nil [])
+    ∷ by (Of (Do 0 (command.Done (operand.Anchor 0)))) (Says 7 answer.Nil [])
+    ∷ by (Of (Do 0 (command.Drop 0))) (Says 8 answer.Nil [])
+    ∷ by (Collects 0 1 (2 ∷ 3 ∷ []) (2 ∷ 3 ∷ []) []) (SaysOf 9 (Forgot 0) None)
+    ∷ by (Makes 0 1 0 []) (SaysOf 10 Nil (Some (table 0 0 1 10 1 0 0 10 [] [])))
+    ∷ by (Collects 0 0 (1 ∷ []) (1 ∷ []) []) (SaysOf 11 (Forgot 0) None)
+    ∷ by (Of (Do 0 (command.Read (operand.Anchor 0)))) (Says 12 answer.Nil [])
+    ∷ by (Takes 0 0 []) (SaysOf 13 (Cleaned (Removed 0)) None)
+    ∷ by (Of (Do 0 (command.Get 1 (operand.Anchor 0) 0))) (Says 14 (answer.Value (val.Ref 3)) [])
+    ∷ by (Of (Do 0 (command.Done (operand.Anchor 0)))) (Says 15 answer.Nil [])
+    ∷ by (Makes 0 0 0 []) (SaysOf 16 Nil (Some (table 0 0 2 16 0 0 0 16 [] (pair 1 3 ∷ []))))
+    ∷ by (Takes 0 1 []) (SaysOf 17 (Cleaned (Removed 0)) None)
+    ∷ by (Of (Do 0 (command.Read (operand.Register 1)))) (Says 18 answer.Nil [])
+    ∷ by (Of (Do 0 (command.Show (operand.Register 1) 0))) (Says 19 (answer.Value (val.Int (pos 9))) [])
+    ∷ by (Of (Do 0 (command.Done (operand.Register 1)))) (Says 20 answer.Nil [])
+    ∷ by (Of (Do 0 (command.Drop 1))) (Says 21 answer.Nil [])
+    ∷ by (Of (Do 0 (command.Write (operand.Anchor 0)))) (Says 22 answer.Nil [])
+    ∷ by (Of (Do 0 (command.Set (operand.Anchor 0) 0 operand.Null))) (Says 23 answer.Nil [])
+    ∷ by (Of (Do 0 (command.Done (operand.Anchor 0)))) (Says 24 answer.Nil [])
+    ∷ by (Collects 0 1 (2 ∷ 3 ∷ []) (2 ∷ 3 ∷ []) []) (SaysOf 25 (Forgot 0) None)
+    ∷ by (Makes 0 1 0 []) (SaysOf 26 Nil (Some (table 0 0 3 26 1 0 0 26 [] [])))
+    ∷ by (Takes 0 2 []) (SaysOf 27 (Cleaned (Removed 0)) None)
+    ∷ by (Sweeps 0 (12884901888 ∷ [])) (SaysOf 28 (Swept 1) None)
+    ∷ []
+
+between_bunches : IsSaidOf (two_bunches 1) lines
+between_bunches = refl
+
+-- the nodes at the end
+abbrev pub at_the_end : LinkedPlay
+at_the_end = acted (two_bunches 1) (map (λ l. l.act) lines)
+
+left_at_node_0 :
+    left_at (at_the_end.nodes 0) (1 ∷ 2 ∷ 3 ∷ []) (0x100000000 ∷ 0x200000000 ∷ 0x200000024 ∷ 0x400000000 ∷ 0x500000000 ∷ 0x500000024 ∷ []) []
+    ≡ record {
+      clock = 28;
+      places = (Some (record { address = 0x400000000; moves = 1 }) ∷ Some (record { address = 0x500000000; moves = 2 }) ∷ Some (record { address = 0x500000024; moves = 2 }) ∷ []);
+      headers = (went 1 32 0x400000000 ∷ went 2 32 0x300000000 ∷ went 3 1 0x300000024 ∷ lives 1 32 1 ∷ lives 2 32 2 ∷ lives 3 1 2 ∷ []);
+      records = [];
+      stubs = (record { source = 1; bunch = 0; target = 3 } ∷ []);
+      scions = (record { target = 3; source = 1; bunch = 0; clock = 6 } ∷ []);
+    }
+left_at_node_0 = refl

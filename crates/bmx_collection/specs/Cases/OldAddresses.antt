@@ -1,0 +1,96 @@
+-- Node 1 has 0.2 in a register while its owner collects twice: old addresses still mean it, and each letter brings new ones.
+use Rattle.std.specs.Prelude.{◌≡◌, pos, List, [], ◌∷◌, map, replicate, Some, None, refl}
+use Rattle.bmx_types.specs.declared.values.Val.TheVariants as val
+use Rattle.bmx_types.specs.declared.commands.Operand.TheVariants as operand
+use Rattle.bmx_types.specs.declared.commands.Command.TheVariants as command
+use Rattle.bmx_msg.specs.declared.letters.Field.TheVariants as msg_field
+use Rattle.bmx_msg.specs.declared.letters.Msg.TheVariants as msg
+use Rattle.bmx_clean.specs.declared.cleaner.Applied.TheVariants.{Removed}
+use Rattle.bmx_protocol.specs.declared.inputs.NodeAnswer.TheVariants as answer
+use Rattle.bmx_protocol.specs.Cases.{Do, Serve, Next, one_bunch}
+use Rattle.bmx_collection.specs.Steps.{Forgot, Cleaned, Nil}
+use Rattle.bmx_collection.specs.Playing.{Of, Collects, Makes, Takes, Says, SaysOf, Line, by, IsSaidOf, LinkedPlay, acted}
+use Rattle.bmx_collection.specs.Cases.Stores.{object, letter, table, lives, went, left_at}
+
+-- what comes next, and what is to be said of it
+abbrev pub lines : List Line
+lines =
+    by (Of (Do 0 (command.New 0 0 1))) (Says 1 answer.Nil [])
+    ∷ by (Of (Do 0 (command.Write (operand.Register 0)))) (Says 2 answer.Nil [])
+    ∷ by (Of (Do 0 (command.Set (operand.Register 0) 0 (operand.Int (pos 42))))) (Says 3 answer.Nil [])
+    ∷ by (Of (Do 0 (command.Done (operand.Register 0)))) (Says 4 answer.Nil [])
+    ∷ by (Of (Do 0 (command.Write (operand.Anchor 0)))) (Says 5 answer.Nil [])
+    ∷ by (Of (Do 0 (command.Set (operand.Anchor 0) 0 (operand.Register 0)))) (Says 6 answer.Nil [])
+    ∷ by (Of (Do 0 (command.Done (operand.Anchor 0)))) (Says 7 answer.Nil [])
+    ∷ by (Of (Do 1 (command.Read (operand.Anchor 0)))) (Says 1 answer.Wait (letter 0 1 1 (msg.ReadReq 1 1) ∷ []))
+    ∷ by (Of (Next 1 0)) (Says 8 answer.Nil [])
+    ∷ by (Of (Serve 0 1)) (Says 9 answer.Nil (letter 1 1 9 (msg.ReadGrant (object 1 0 32 0x100000000 0) (msg_field.Ref (object 2 0 1 0x100000024 0) ∷ replicate 31 msg_field.Null)) ∷ []))
+    ∷ by (Of (Next 0 1)) (Says 10 answer.Nil [])
+    ∷ by (Of (Do 1 (command.Read (operand.Anchor 0)))) (Says 11 answer.Nil [])
+    ∷ by (Of (Do 1 (command.Get 0 (operand.Anchor 0) 0))) (Says 12 (answer.Value (val.Ref 2)) [])
+    ∷ by (Of (Do 1 (command.Done (operand.Anchor 0)))) (Says 13 answer.Nil [])
+    ∷ by (Collects 0 0 (1 ∷ 2 ∷ []) (1 ∷ 2 ∷ []) []) (SaysOf 10 (Forgot 0) None)
+    ∷ by (Makes 0 0 0 []) (SaysOf 11 Nil (Some (table 0 0 1 11 0 0 0 11 [] [])))
+    ∷ by (Takes 0 0 (record { name = 1; bunch = 0; from = 1; sent = 1; got = 0 } ∷ record { name = 2; bunch = 0; from = 1; sent = 1; got = 0 } ∷ [])) (SaysOf 12 (Cleaned (Removed 0)) None)
+    ∷ by (Makes 0 0 1 []) (SaysOf 13 Nil (Some (table 0 1 1 13 0 1 1 13 [] [])))
+    ∷ by (Takes 1 1 []) (SaysOf 14 (Cleaned (Removed 0)) None)
+    ∷ by (Collects 0 0 (1 ∷ 2 ∷ []) (1 ∷ 2 ∷ []) []) (SaysOf 14 (Forgot 0) None)
+    ∷ by (Makes 0 0 0 []) (SaysOf 15 Nil (Some (table 0 0 2 15 0 0 0 15 [] [])))
+    ∷ by (Makes 0 0 1 []) (SaysOf 16 Nil (Some (table 0 1 2 16 0 1 1 16 [] [])))
+    ∷ by (Of (Do 0 (command.Write (operand.Anchor 0)))) (Says 17 answer.Wait [])
+    ∷ by (Of (Serve 0 1)) (Says 18 answer.Nil (letter 1 2 18 (msg.Inval 1) ∷ []))
+    ∷ by (Takes 1 3 []) (SaysOf 17 (Cleaned (Removed 0)) None)
+    ∷ by (Takes 0 2 (record { name = 1; bunch = 0; from = 1; sent = 1; got = 0 } ∷ record { name = 2; bunch = 0; from = 1; sent = 1; got = 0 } ∷ [])) (SaysOf 19 (Cleaned (Removed 0)) None)
+    ∷ by (Of (Next 0 1)) (Says 19 answer.Nil (letter 0 2 19 (msg.InvAck 1) ∷ []))
+    ∷ by (Of (Next 1 0)) (Says 20 answer.Nil [])
+    ∷ by (Of (Serve 0 1)) (Says 21 answer.Nil [])
+    ∷ by (Of (Do 0 (command.Write (operand.Anchor 0)))) (Says 22 answer.Nil [])
+    ∷ by (Of (Do 0 (command.Set (operand.Anchor 0) 1 (operand.Register 0)))) (Says 23 answer.Nil [])
+    ∷ by (Of (Do 0 (command.Done (operand.Anchor 0)))) (Says 24 answer.Nil [])
+    ∷ by (Of (Do 1 (command.Read (operand.Anchor 0)))) (Says 20 answer.Wait (letter 0 3 20 (msg.ReadReq 1 1) ∷ []))
+    ∷ by (Of (Next 1 0)) (Says 25 answer.Nil [])
+    ∷ by (Of (Serve 0 1)) (Says 26 answer.Nil (letter 1 3 26 (msg.ReadGrant (object 1 0 32 0x300000000 2) (msg_field.Ref (object 2 0 1 0x300000024 2) ∷ msg_field.Ref (object 2 0 1 0x300000024 2) ∷ replicate 30 msg_field.Null)) ∷ []))
+    ∷ by (Of (Next 0 1)) (Says 27 answer.Nil [])
+    ∷ by (Of (Do 1 (command.Read (operand.Anchor 0)))) (Says 28 answer.Nil [])
+    ∷ by (Of (Do 1 (command.Get 1 (operand.Anchor 0) 1))) (Says 29 (answer.Value (val.Ref 2)) [])
+    ∷ by (Of (Do 1 (command.Done (operand.Anchor 0)))) (Says 30 answer.Nil [])
+    ∷ by (Of (Do 1 (command.Same (operand.Register 0) (operand.Register 1)))) (Says 31 answer.Yes [])
+    ∷ by (Of (Do 1 (command.Read (operand.Register 1)))) (Says 32 answer.Wait (letter 0 4 32 (msg.ReadReq 2 1) ∷ []))
+    ∷ by (Of (Next 1 0)) (Says 33 answer.Nil [])
+    ∷ by (Of (Serve 0 2)) (Says 34 answer.Nil (letter 1 4 34 (msg.ReadGrant (object 2 0 1 0x300000024 2) (msg_field.Int (pos 42) ∷ [])) ∷ []))
+    ∷ by (Of (Next 0 1)) (Says 35 answer.Nil [])
+    ∷ by (Of (Do 1 (command.Read (operand.Register 1)))) (Says 36 answer.Nil [])
+    ∷ by (Of (Do 1 (command.Show (operand.Register 1) 0))) (Says 37 (answer.Value (val.Int (pos 42))) [])
+    ∷ by (Of (Do 1 (command.Done (operand.Register 1)))) (Says 38 answer.Nil [])
+    ∷ []
+
+old_addresses : IsSaidOf (one_bunch 2) lines
+old_addresses = refl
+
+-- the nodes at the end
+abbrev pub at_the_end : LinkedPlay
+at_the_end = acted (one_bunch 2) (map (λ l. l.act) lines)
+
+left_at_node_0 :
+    left_at (at_the_end.nodes 0) (1 ∷ 2 ∷ []) (0x100000000 ∷ 0x100000024 ∷ 0x200000000 ∷ 0x200000024 ∷ 0x300000000 ∷ 0x300000024 ∷ []) ((1, 1) ∷ (2, 1) ∷ [])
+    ≡ record {
+      clock = 28;
+      places = (Some (record { address = 0x300000000; moves = 2 }) ∷ Some (record { address = 0x300000024; moves = 2 }) ∷ []);
+      headers = (went 1 32 0x200000000 ∷ went 2 1 0x200000024 ∷ went 1 32 0x300000000 ∷ went 2 1 0x300000024 ∷ lives 1 32 2 ∷ lives 2 1 2 ∷ []);
+      records = (Some (record { name = 1; bunch = 0; from = 1; sent = 3; got = 0 }) ∷ Some (record { name = 2; bunch = 0; from = 1; sent = 4; got = 0 }) ∷ []);
+      stubs = [];
+      scions = [];
+    }
+left_at_node_0 = refl
+
+left_at_node_1 :
+    left_at (at_the_end.nodes 1) (1 ∷ 2 ∷ []) (0x100000000 ∷ 0x100000024 ∷ 0x300000000 ∷ 0x300000024 ∷ []) []
+    ≡ record {
+      clock = 19;
+      places = (Some (record { address = 0x300000000; moves = 2 }) ∷ Some (record { address = 0x300000024; moves = 2 }) ∷ []);
+      headers = (went 1 32 0x300000000 ∷ went 2 1 0x300000024 ∷ lives 1 32 2 ∷ lives 2 1 2 ∷ []);
+      records = [];
+      stubs = [];
+      scions = [];
+    }
+left_at_node_1 = refl

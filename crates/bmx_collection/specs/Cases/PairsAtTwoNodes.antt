@@ -1,0 +1,100 @@
+-- The object that refers to another bunch goes to node 1 and back: each receiver makes its own pair, and its own table ends it.
+use Rattle.std.specs.Prelude.{◌≡◌, pos, List, [], ◌∷◌, map, replicate, Some, None, refl}
+use Rattle.bmx_types.specs.declared.values.Val.TheVariants as val
+use Rattle.bmx_types.specs.declared.commands.Operand.TheVariants as operand
+use Rattle.bmx_types.specs.declared.commands.Command.TheVariants as command
+use Rattle.bmx_msg.specs.declared.letters.Field.TheVariants as msg_field
+use Rattle.bmx_msg.specs.declared.letters.Msg.TheVariants as msg
+use Rattle.bmx_clean.specs.declared.cleaner.Applied.TheVariants.{Removed}
+use Rattle.bmx_protocol.specs.declared.inputs.NodeAnswer.TheVariants as answer
+use Rattle.bmx_protocol.specs.Cases.{Do, Serve, Next}
+use Rattle.bmx_collection.specs.Steps.{Forgot, Swept, Cleaned, Nil}
+use Rattle.bmx_collection.specs.Playing.{Of, Collects, Makes, Takes, Sweeps, Says, SaysOf, Line, by, IsSaidOf, LinkedPlay, acted}
+use Rattle.bmx_collection.specs.Cases.Stores.{two_bunches, object, letter, pair, table, lives, went, left_at}
+
+-- what comes next, and what is to be said of it
+abbrev pub lines : List Line
+lines =
+    by (Of (Do 0 (command.New 0 1 1))) (Says 1 answer.Nil [])
+    ∷ by (Of (Do 0 (command.Write (operand.Register 0)))) (Says 2 answer.Nil [])
+    ∷ by (Of (Do 0 (command.Set (operand.Register 0) 0 (operand.Int (pos 9))))) (Says 3 answer.Nil [])
+    ∷ by (Of (Do 0 (command.Done (operand.Register 0)))) (Says 4 answer.Nil [])
+    ∷ by (Of (Do 0 (command.Write (operand.Anchor 0)))) (Says 5 answer.Nil [])
+    ∷ by (Of (Do 0 (command.Set (operand.Anchor 0) 0 (operand.Register 0)))) (Says 6 answer.Nil [])
+    ∷ by (Of (Do 0 (command.Done (operand.Anchor 0)))) (Says 7 answer.Nil [])
+    ∷ by (Of (Do 0 (command.Drop 0))) (Says 8 answer.Nil [])
+    ∷ by (Of (Do 1 (command.Write (operand.Anchor 0)))) (Says 1 answer.Wait (letter 0 1 1 (msg.WriteReq 1 1) ∷ []))
+    ∷ by (Of (Next 1 0)) (Says 9 answer.Nil [])
+    ∷ by (Of (Serve 0 1)) (Says 10 answer.Nil (letter 1 1 10 (msg.WriteGrant (object 1 0 32 0x100000000 0) (msg_field.Ref (object 3 1 1 0x200000024 0) ∷ replicate 31 msg_field.Null)) ∷ []))
+    ∷ by (Of (Next 0 1)) (Says 11 answer.Nil [])
+    ∷ by (Of (Do 1 (command.Write (operand.Anchor 0)))) (Says 12 answer.Nil [])
+    ∷ by (Of (Do 1 (command.Set (operand.Anchor 0) 1 (operand.Int (pos 1))))) (Says 13 answer.Nil [])
+    ∷ by (Of (Do 1 (command.Done (operand.Anchor 0)))) (Says 14 answer.Nil [])
+    ∷ by (Of (Do 0 (command.Write (operand.Anchor 0)))) (Says 11 answer.Wait (letter 1 2 11 (msg.WriteReq 1 0) ∷ []))
+    ∷ by (Of (Next 0 1)) (Says 15 answer.Nil [])
+    ∷ by (Of (Serve 1 1)) (Says 16 answer.Nil (letter 0 2 16 (msg.WriteGrant (object 1 0 32 0x100000000 0) (msg_field.Ref (object 3 1 1 0x200000024 0) ∷ msg_field.Int (pos 1) ∷ replicate 30 msg_field.Null)) ∷ []))
+    ∷ by (Of (Next 1 0)) (Says 17 answer.Nil [])
+    ∷ by (Of (Do 0 (command.Write (operand.Anchor 0)))) (Says 18 answer.Nil [])
+    ∷ by (Of (Do 0 (command.Set (operand.Anchor 0) 2 (operand.Int (pos 2))))) (Says 19 answer.Nil [])
+    ∷ by (Of (Do 0 (command.Get 1 (operand.Anchor 0) 0))) (Says 20 (answer.Value (val.Ref 3)) [])
+    ∷ by (Of (Do 0 (command.Done (operand.Anchor 0)))) (Says 21 answer.Nil [])
+    ∷ by (Of (Do 0 (command.Read (operand.Register 1)))) (Says 22 answer.Nil [])
+    ∷ by (Of (Do 0 (command.Show (operand.Register 1) 0))) (Says 23 (answer.Value (val.Int (pos 9))) [])
+    ∷ by (Of (Do 0 (command.Done (operand.Register 1)))) (Says 24 answer.Nil [])
+    ∷ by (Of (Do 0 (command.Drop 1))) (Says 25 answer.Nil [])
+    ∷ by (Collects 0 0 (1 ∷ []) (1 ∷ []) []) (SaysOf 26 (Forgot 0) None)
+    ∷ by (Makes 0 0 0 []) (SaysOf 27 Nil (Some (table 0 0 1 27 0 0 0 22 [] (pair 1 3 ∷ []))))
+    ∷ by (Takes 0 0 (record { name = 1; bunch = 0; from = 1; sent = 0; got = 2 } ∷ record { name = 2; bunch = 1; from = 1; sent = 0; got = 0 } ∷ record { name = 3; bunch = 1; from = 1; sent = 1; got = 0 } ∷ [])) (SaysOf 28 (Cleaned (Removed 0)) None)
+    ∷ by (Of (Do 0 (command.Write (operand.Anchor 0)))) (Says 29 answer.Nil [])
+    ∷ by (Makes 0 0 1 []) (SaysOf 30 Nil (Some (table 0 1 1 30 0 2 2 25 [] [])))
+    ∷ by (Collects 0 1 (2 ∷ 3 ∷ []) (2 ∷ 3 ∷ []) []) (SaysOf 31 (Forgot 0) None)
+    ∷ by (Collects 1 0 (1 ∷ []) [] []) (SaysOf 17 (Forgot 0) None)
+    ∷ by (Of (Do 0 (command.Set (operand.Anchor 0) 0 operand.Null))) (Says 32 answer.Nil [])
+    ∷ by (Makes 0 1 0 []) (SaysOf 33 Nil (Some (table 0 0 2 33 1 0 0 28 [] [])))
+    ∷ by (Makes 1 0 0 (1 ∷ [])) (SaysOf 18 Nil (Some (table 1 0 1 18 0 2 2 9 (1 ∷ []) [])))
+    ∷ by (Takes 0 2 (record { name = 1; bunch = 0; from = 1; sent = 0; got = 2 } ∷ record { name = 2; bunch = 1; from = 1; sent = 0; got = 0 } ∷ record { name = 3; bunch = 1; from = 1; sent = 1; got = 0 } ∷ [])) (SaysOf 34 (Cleaned (Removed 0)) None)
+    ∷ by (Makes 1 0 1 []) (SaysOf 19 Nil (Some (table 1 1 1 19 0 0 0 10 [] [])))
+    ∷ by (Takes 1 1 (record { name = 1; bunch = 0; from = 0; sent = 0; got = 1 } ∷ record { name = 3; bunch = 1; from = 0; sent = 2; got = 0 } ∷ [])) (SaysOf 31 (Cleaned (Removed 1)) None)
+    ∷ by (Takes 1 4 (record { name = 3; bunch = 1; from = 0; sent = 2; got = 0 } ∷ [])) (SaysOf 32 (Cleaned (Removed 1)) None)
+    ∷ by (Takes 0 3 (record { name = 1; bunch = 0; from = 1; sent = 0; got = 2 } ∷ record { name = 2; bunch = 1; from = 1; sent = 0; got = 0 } ∷ record { name = 3; bunch = 1; from = 1; sent = 1; got = 0 } ∷ [])) (SaysOf 35 (Cleaned (Removed 0)) None)
+    ∷ by (Of (Do 0 (command.Done (operand.Anchor 0)))) (Says 36 answer.Nil [])
+    ∷ by (Collects 1 1 (2 ∷ 3 ∷ []) [] []) (SaysOf 33 (Forgot 0) None)
+    ∷ by (Makes 0 1 1 []) (SaysOf 37 Nil (Some (table 0 1 2 37 1 2 2 32 [] [])))
+    ∷ by (Makes 1 1 0 (2 ∷ 3 ∷ [])) (SaysOf 34 Nil (Some (table 1 0 2 34 1 2 2 14 (2 ∷ 3 ∷ []) [])))
+    ∷ by (Makes 1 1 1 []) (SaysOf 35 Nil (Some (table 1 1 2 35 1 0 0 15 [] [])))
+    ∷ by (Takes 1 7 (record { name = 3; bunch = 1; from = 0; sent = 2; got = 0 } ∷ [])) (SaysOf 36 (Cleaned (Removed 0)) None)
+    ∷ by (Sweeps 1 []) (SaysOf 37 (Swept 0) None)
+    ∷ by (Takes 1 5 (record { name = 3; bunch = 1; from = 0; sent = 2; got = 0 } ∷ [])) (SaysOf 38 (Cleaned (Removed 1)) None)
+    ∷ by (Sweeps 0 []) (SaysOf 38 (Swept 0) None)
+    ∷ []
+
+pairs_at_two_nodes : IsSaidOf (two_bunches 2) lines
+pairs_at_two_nodes = refl
+
+-- the nodes at the end
+abbrev pub at_the_end : LinkedPlay
+at_the_end = acted (two_bunches 2) (map (λ l. l.act) lines)
+
+left_at_node_0 :
+    left_at (at_the_end.nodes 0) (1 ∷ 2 ∷ 3 ∷ []) (0x100000000 ∷ 0x200000000 ∷ 0x200000024 ∷ 0x300000000 ∷ 0x400000000 ∷ 0x400000024 ∷ []) ((1, 1) ∷ (2, 1) ∷ (3, 1) ∷ [])
+    ≡ record {
+      clock = 33;
+      places = (Some (record { address = 0x300000000; moves = 1 }) ∷ Some (record { address = 0x400000000; moves = 1 }) ∷ Some (record { address = 0x400000024; moves = 1 }) ∷ []);
+      headers = (went 1 32 0x300000000 ∷ went 2 32 0x400000000 ∷ went 3 1 0x400000024 ∷ lives 1 32 1 ∷ lives 2 32 1 ∷ lives 3 1 1 ∷ []);
+      records = (Some (record { name = 1; bunch = 0; from = 1; sent = 0; got = 2 }) ∷ Some (record { name = 2; bunch = 1; from = 1; sent = 0; got = 0 }) ∷ Some (record { name = 3; bunch = 1; from = 1; sent = 1; got = 0 }) ∷ []);
+      stubs = (record { source = 1; bunch = 0; target = 3 } ∷ []);
+      scions = (record { target = 3; source = 1; bunch = 0; clock = 12 } ∷ []);
+    }
+left_at_node_0 = refl
+
+left_at_node_1 :
+    left_at (at_the_end.nodes 1) (1 ∷ 2 ∷ 3 ∷ []) (0x100000000 ∷ 0x200000000 ∷ 0x200000024 ∷ []) []
+    ≡ record {
+      clock = 18;
+      places = (Some (record { address = 0x100000000; moves = 0 }) ∷ Some (record { address = 0x200000000; moves = 0 }) ∷ Some (record { address = 0x200000024; moves = 0 }) ∷ []);
+      headers = (lives 1 32 0 ∷ lives 2 32 0 ∷ lives 3 1 0 ∷ []);
+      records = [];
+      stubs = [];
+      scions = [];
+    }
+left_at_node_1 = refl
