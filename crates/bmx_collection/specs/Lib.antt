@@ -5,5 +5,6 @@ pub mod ToSpaces
 pub mod Sweeps
 pub mod Tables
 pub mod Steps
+pub mod Finding
 pub mod Playing
 pub mod Cases

@@ -1,9 +1,8 @@
 -- Runs of nodes with collectors, to be closed by computing: what nodes do, and at each step the stamp and the outcome.
--- A step that is told lists is given them here; that they are the ones that the rules ask for is shown beside a run.
+-- What a step of a collector is told is found among the names, nodes and segments below 8: the runs have no others.
 use Rattle.std.specs.Prelude.{◌≡◌, ℕ, List, [], ◌∷◌, ◌++◌, map, slice_get, Option, Some, None}
 use Rattle.bmx_types.specs.Updates.{put}
 use Rattle.bmx_table.specs.declared.tables.Table.{Table}
-use Rattle.bmx_owner.specs.declared.entering.Record.{Record}
 use Rattle.bmx_protocol.specs.declared.inputs.Input.{Input}
 use Rattle.bmx_protocol.specs.declared.inputs.NodeAnswer.{NodeAnswer}
 use Rattle.bmx_protocol.specs.declared.inputs.Sending.{Sending}
@@ -13,17 +12,15 @@ use Rattle.bmx_protocol.specs.Rules.{Reaction}
 use Rattle.bmx_protocol.specs.Steps.{Node, rule, done_of, closed, stamp_after}
 use Rattle.bmx_protocol.specs.Cases.{Move, mover, input_of, told_at, places_after}
 use Rattle.bmx_collection.specs.Links.{links_after}
-use Rattle.bmx_collection.specs.Steps.{LinkedNode, first_linked, CollectorInput, Collect, Sweep, MakeTable, TakeTable, CollectorAnswer, CollectorTold, CollectorReaction, collector_rule, counted, stamp_after_it}
+use Rattle.bmx_collection.specs.Steps.{LinkedNode, first_linked, CollectorInput, TakeTable, CollectorAnswer, CollectorReaction, collector_rule, counted, stamp_after_it}
+use Rattle.bmx_collection.specs.Finding.{found}
 
--- what comes next: a move without a collector; a node collects a bunch, with the names that are kept, owned and gone;
--- it makes a table of a bunch for a node, with the names that it lists; it takes the table that was made after so many
--- others, with its records; it sweeps, with the segments that go
+-- what comes next: a move without a collector, what a node's collector does, or a node takes the table that was made
+-- after so many others
 pub data Act : Type 0 where
   Of : Move → Act
-  Collects : (node bunch : ℕ) (kept owned gone : List ℕ) → Act
-  Makes : (node bunch to : ℕ) (children : List ℕ) → Act
-  Takes : (node made : ℕ) (records : List Record) → Act
-  Sweeps : (node : ℕ) (dropped : List ℕ) → Act
+  By : (node : ℕ) → CollectorInput → Act
+  Takes : (node made : ℕ) → Act
 
 -- what is said of a step: its stamp, its answer, and its letters or the table that it made
 pub data Said : Type 0 where
@@ -37,10 +34,6 @@ pub record LinkedPlay : Type 0 where
   pub past : List Event
   pub tables : List Table
   pub said : List Said
-
--- told no list
-abbrev pub told_nothing : CollectorTold
-told_nothing = record { kept = []; owned = []; gone = []; children = []; records = []; dropped = [] }
 
 -- the node without its links
 abbrev pub unlinked : LinkedNode → Node
@@ -83,23 +76,21 @@ with_reaction_of p me stamp r = record p {
   said = p.said ++ SaysOf stamp r.answer r.table ∷ [];
 }
 
-abbrev pub with_collector : Setting → LinkedPlay → ℕ → CollectorInput → CollectorTold → LinkedPlay
-with_collector st p me i t =
-    with_reaction_of p me (stamp_after_it (p.stamps me) i) (collector_rule st me (p.nodes me) t (stamp_after_it (p.stamps me) i) i)
+abbrev pub with_collector : Setting → LinkedPlay → ℕ → CollectorInput → LinkedPlay
+with_collector st p me i =
+    with_reaction_of p me (stamp_after_it (p.stamps me) i)
+    (collector_rule st me (p.nodes me) (found 8 me (p.nodes me) i) (stamp_after_it (p.stamps me) i) i)
 
 -- a table is taken, where it was made
-abbrev pub with_taken : Setting → LinkedPlay → ℕ → List Record → Option Table → LinkedPlay
-with_taken st p me records None = p
-with_taken st p me records (Some t) = with_collector st p me (TakeTable t) (record told_nothing { records = records })
+abbrev pub with_taken : Setting → LinkedPlay → ℕ → Option Table → LinkedPlay
+with_taken st p me None = p
+with_taken st p me (Some t) = with_collector st p me (TakeTable t)
 
 -- by what comes next
 abbrev pub with_act : Setting → LinkedPlay → Act → LinkedPlay
 with_act st p (Of m) = with_move st p (mover m) (input_of p.past m)
-with_act st p (Collects me bunch kept owned gone) =
-    with_collector st p me (Collect bunch) (record told_nothing { kept = kept; owned = owned; gone = gone })
-with_act st p (Makes me bunch to children) = with_collector st p me (MakeTable bunch to) (record told_nothing { children = children })
-with_act st p (Takes me made records) = with_taken st p me records (slice_get p.tables made)
-with_act st p (Sweeps me dropped) = with_collector st p me Sweep (record told_nothing { dropped = dropped })
+with_act st p (By me i) = with_collector st p me i
+with_act st p (Takes me made) = with_taken st p me (slice_get p.tables made)
 
 abbrev pub with_acts : Setting → LinkedPlay → List Act → LinkedPlay
 with_acts st p [] = p

@@ -7,8 +7,8 @@ use Rattle.bmx_types.specs.declared.commands.Refusal.TheVariants as refusal
 use Rattle.bmx_clean.specs.declared.cleaner.Applied.TheVariants.{Removed}
 use Rattle.bmx_protocol.specs.declared.inputs.NodeAnswer.TheVariants as answer
 use Rattle.bmx_protocol.specs.Cases.{Do, one_bunch}
-use Rattle.bmx_collection.specs.Steps.{Forgot, Cleaned, Nil, Refused}
-use Rattle.bmx_collection.specs.Playing.{Of, Collects, Makes, Takes, Says, SaysOf, Line, by, IsSaidOf, LinkedPlay, acted}
+use Rattle.bmx_collection.specs.Steps.{Collect, MakeTable, Forgot, Cleaned, Nil, Refused}
+use Rattle.bmx_collection.specs.Playing.{Of, By, Takes, Says, SaysOf, Line, by, IsSaidOf, LinkedPlay, acted}
 use Rattle.bmx_collection.specs.Cases.Stores.{table, lives, went, left_at}
 
 -- what comes next, and what is to be said of it
@@ -17,10 +17,10 @@ lines =
     by (Of (Do 0 (command.Write (operand.Anchor 0)))) (Says 1 answer.Nil [])
     ∷ by (Of (Do 0 (command.Set (operand.Anchor 0) 0 (operand.Int (pos 6))))) (Says 2 answer.Nil [])
     ∷ by (Of (Do 0 (command.Done (operand.Anchor 0)))) (Says 3 answer.Nil [])
-    ∷ by (Collects 0 0 (1 ∷ []) (1 ∷ []) []) (SaysOf 4 (Forgot 0) None)
-    ∷ by (Makes 0 0 0 []) (SaysOf 5 Nil (Some (table 0 0 1 5 0 0 0 5 [] [])))
-    ∷ by (Takes 0 0 []) (SaysOf 6 (Cleaned (Removed 0)) None)
-    ∷ by (Collects 0 0 (1 ∷ []) (1 ∷ []) []) (SaysOf 7 (Refused refusal.Full) None)
+    ∷ by (By 0 (Collect 0)) (SaysOf 4 (Forgot 0) None)
+    ∷ by (By 0 (MakeTable 0 0)) (SaysOf 5 Nil (Some (table 0 0 1 5 0 0 0 5 [] [])))
+    ∷ by (Takes 0 0) (SaysOf 6 (Cleaned (Removed 0)) None)
+    ∷ by (By 0 (Collect 0)) (SaysOf 7 (Refused refusal.Full) None)
     ∷ by (Of (Do 0 (command.Read (operand.Anchor 0)))) (Says 8 answer.Nil [])
     ∷ by (Of (Do 0 (command.Show (operand.Anchor 0) 0))) (Says 9 (answer.Value (val.Int (pos 6))) [])
     ∷ by (Of (Do 0 (command.Done (operand.Anchor 0)))) (Says 10 answer.Nil [])

@@ -8,8 +8,8 @@ use Rattle.bmx_msg.specs.declared.letters.Msg.TheVariants as msg
 use Rattle.bmx_clean.specs.declared.cleaner.Applied.TheVariants.{Removed}
 use Rattle.bmx_protocol.specs.declared.inputs.NodeAnswer.TheVariants as answer
 use Rattle.bmx_protocol.specs.Cases.{Do, Serve, Next, one_bunch}
-use Rattle.bmx_collection.specs.Steps.{Forgot, Cleaned, Nil}
-use Rattle.bmx_collection.specs.Playing.{Of, Collects, Makes, Takes, Says, SaysOf, Line, by, IsSaidOf, LinkedPlay, acted}
+use Rattle.bmx_collection.specs.Steps.{Collect, MakeTable, Forgot, Cleaned, Nil}
+use Rattle.bmx_collection.specs.Playing.{Of, By, Takes, Says, SaysOf, Line, by, IsSaidOf, LinkedPlay, acted}
 use Rattle.bmx_collection.specs.Cases.Stores.{object, letter, table, lives, went, left_at}
 
 -- what comes next, and what is to be said of it
@@ -38,10 +38,10 @@ lines =
     ∷ by (Of (Do 0 (command.Write (operand.Anchor 0)))) (Says 18 answer.Nil [])
     ∷ by (Of (Do 0 (command.Set (operand.Anchor 0) 0 operand.Null))) (Says 19 answer.Nil [])
     ∷ by (Of (Do 0 (command.Done (operand.Anchor 0)))) (Says 20 answer.Nil [])
-    ∷ by (Collects 1 0 (1 ∷ []) [] (2 ∷ [])) (SaysOf 16 (Forgot 1) None)
-    ∷ by (Makes 1 0 0 (1 ∷ [])) (SaysOf 17 Nil (Some (table 1 0 1 17 0 2 2 9 (1 ∷ []) [])))
-    ∷ by (Makes 1 0 1 []) (SaysOf 18 Nil (Some (table 1 1 1 18 0 0 0 10 [] [])))
-    ∷ by (Takes 1 1 []) (SaysOf 19 (Cleaned (Removed 0)) None)
+    ∷ by (By 1 (Collect 0)) (SaysOf 16 (Forgot 1) None)
+    ∷ by (By 1 (MakeTable 0 0)) (SaysOf 17 Nil (Some (table 1 0 1 17 0 2 2 9 (1 ∷ []) [])))
+    ∷ by (By 1 (MakeTable 0 1)) (SaysOf 18 Nil (Some (table 1 1 1 18 0 0 0 10 [] [])))
+    ∷ by (Takes 1 1) (SaysOf 19 (Cleaned (Removed 0)) None)
     ∷ by (Of (Do 0 (command.Write (operand.Anchor 0)))) (Says 21 answer.Nil [])
     ∷ by (Of (Do 0 (command.Set (operand.Anchor 0) 0 (operand.Register 0)))) (Says 22 answer.Nil [])
     ∷ by (Of (Do 0 (command.Done (operand.Anchor 0)))) (Says 23 answer.Nil [])
@@ -61,14 +61,14 @@ lines =
     ∷ by (Of (Do 0 (command.Set (operand.Anchor 0) 0 operand.Null))) (Says 34 answer.Nil [])
     ∷ by (Of (Do 0 (command.Done (operand.Anchor 0)))) (Says 35 answer.Nil [])
     ∷ by (Of (Do 0 (command.Drop 0))) (Says 36 answer.Nil [])
-    ∷ by (Takes 0 0 (record { name = 1; bunch = 0; from = 1; sent = 3; got = 0 } ∷ record { name = 2; bunch = 0; from = 1; sent = 3; got = 0 } ∷ [])) (SaysOf 37 (Cleaned (Removed 0)) None)
-    ∷ by (Collects 0 0 (1 ∷ 2 ∷ []) (1 ∷ 2 ∷ []) []) (SaysOf 38 (Forgot 0) None)
-    ∷ by (Makes 0 0 0 []) (SaysOf 39 Nil (Some (table 0 0 1 39 0 0 0 32 [] [])))
-    ∷ by (Makes 0 0 1 []) (SaysOf 40 Nil (Some (table 0 1 1 40 0 4 4 33 [] [])))
+    ∷ by (Takes 0 0) (SaysOf 37 (Cleaned (Removed 0)) None)
+    ∷ by (By 0 (Collect 0)) (SaysOf 38 (Forgot 0) None)
+    ∷ by (By 0 (MakeTable 0 0)) (SaysOf 39 Nil (Some (table 0 0 1 39 0 0 0 32 [] [])))
+    ∷ by (By 0 (MakeTable 0 1)) (SaysOf 40 Nil (Some (table 0 1 1 40 0 4 4 33 [] [])))
     ∷ by (Of (Do 1 (command.Read (operand.Register 0)))) (Says 31 answer.Wait (letter 0 5 31 (msg.ReadReq 2 1) ∷ []))
-    ∷ by (Takes 1 3 []) (SaysOf 41 (Cleaned (Removed 0)) None)
+    ∷ by (Takes 1 3) (SaysOf 41 (Cleaned (Removed 0)) None)
     ∷ by (Of (Next 1 0)) (Says 41 answer.Nil [])
-    ∷ by (Takes 0 2 (record { name = 1; bunch = 0; from = 1; sent = 3; got = 0 } ∷ record { name = 2; bunch = 0; from = 1; sent = 3; got = 0 } ∷ [])) (SaysOf 42 (Cleaned (Removed 0)) None)
+    ∷ by (Takes 0 2) (SaysOf 42 (Cleaned (Removed 0)) None)
     ∷ by (Of (Serve 0 2)) (Says 43 answer.Nil (letter 1 5 43 (msg.ReadGrant (object 2 0 1 0x200000024 1) (msg_field.Int (pos 7) ∷ [])) ∷ []))
     ∷ by (Of (Next 0 1)) (Says 44 answer.Nil [])
     ∷ by (Of (Do 1 (command.Read (operand.Register 0)))) (Says 45 answer.Nil [])

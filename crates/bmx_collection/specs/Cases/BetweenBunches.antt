@@ -6,8 +6,8 @@ use Rattle.bmx_types.specs.declared.commands.Command.TheVariants as command
 use Rattle.bmx_clean.specs.declared.cleaner.Applied.TheVariants.{Removed}
 use Rattle.bmx_protocol.specs.declared.inputs.NodeAnswer.TheVariants as answer
 use Rattle.bmx_protocol.specs.Cases.{Do}
-use Rattle.bmx_collection.specs.Steps.{Forgot, Swept, Cleaned, Nil}
-use Rattle.bmx_collection.specs.Playing.{Of, Collects, Makes, Takes, Sweeps, Says, SaysOf, Line, by, IsSaidOf, LinkedPlay, acted}
+use Rattle.bmx_collection.specs.Steps.{Collect, Sweep, MakeTable, Forgot, Swept, Cleaned, Nil}
+use Rattle.bmx_collection.specs.Playing.{Of, By, Takes, Says, SaysOf, Line, by, IsSaidOf, LinkedPlay, acted}
 use Rattle.bmx_collection.specs.Cases.Stores.{two_bunches, pair, table, lives, went, left_at}
 
 -- what comes next, and what is to be said of it
@@ -21,15 +21,15 @@ lines =
     ∷ by (Of (Do 0 (command.Set (operand.Anchor 0) 0 (operand.Register 0)))) (Says 6 answer.Nil [])
     ∷ by (Of (Do 0 (command.Done (operand.Anchor 0)))) (Says 7 answer.Nil [])
     ∷ by (Of (Do 0 (command.Drop 0))) (Says 8 answer.Nil [])
-    ∷ by (Collects 0 1 (2 ∷ 3 ∷ []) (2 ∷ 3 ∷ []) []) (SaysOf 9 (Forgot 0) None)
-    ∷ by (Makes 0 1 0 []) (SaysOf 10 Nil (Some (table 0 0 1 10 1 0 0 10 [] [])))
-    ∷ by (Collects 0 0 (1 ∷ []) (1 ∷ []) []) (SaysOf 11 (Forgot 0) None)
+    ∷ by (By 0 (Collect 1)) (SaysOf 9 (Forgot 0) None)
+    ∷ by (By 0 (MakeTable 1 0)) (SaysOf 10 Nil (Some (table 0 0 1 10 1 0 0 10 [] [])))
+    ∷ by (By 0 (Collect 0)) (SaysOf 11 (Forgot 0) None)
     ∷ by (Of (Do 0 (command.Read (operand.Anchor 0)))) (Says 12 answer.Nil [])
-    ∷ by (Takes 0 0 []) (SaysOf 13 (Cleaned (Removed 0)) None)
+    ∷ by (Takes 0 0) (SaysOf 13 (Cleaned (Removed 0)) None)
     ∷ by (Of (Do 0 (command.Get 1 (operand.Anchor 0) 0))) (Says 14 (answer.Value (val.Ref 3)) [])
     ∷ by (Of (Do 0 (command.Done (operand.Anchor 0)))) (Says 15 answer.Nil [])
-    ∷ by (Makes 0 0 0 []) (SaysOf 16 Nil (Some (table 0 0 2 16 0 0 0 16 [] (pair 1 3 ∷ []))))
-    ∷ by (Takes 0 1 []) (SaysOf 17 (Cleaned (Removed 0)) None)
+    ∷ by (By 0 (MakeTable 0 0)) (SaysOf 16 Nil (Some (table 0 0 2 16 0 0 0 16 [] (pair 1 3 ∷ []))))
+    ∷ by (Takes 0 1) (SaysOf 17 (Cleaned (Removed 0)) None)
     ∷ by (Of (Do 0 (command.Read (operand.Register 1)))) (Says 18 answer.Nil [])
     ∷ by (Of (Do 0 (command.Show (operand.Register 1) 0))) (Says 19 (answer.Value (val.Int (pos 9))) [])
     ∷ by (Of (Do 0 (command.Done (operand.Register 1)))) (Says 20 answer.Nil [])
@@ -37,10 +37,10 @@ lines =
     ∷ by (Of (Do 0 (command.Write (operand.Anchor 0)))) (Says 22 answer.Nil [])
     ∷ by (Of (Do 0 (command.Set (operand.Anchor 0) 0 operand.Null))) (Says 23 answer.Nil [])
     ∷ by (Of (Do 0 (command.Done (operand.Anchor 0)))) (Says 24 answer.Nil [])
-    ∷ by (Collects 0 1 (2 ∷ 3 ∷ []) (2 ∷ 3 ∷ []) []) (SaysOf 25 (Forgot 0) None)
-    ∷ by (Makes 0 1 0 []) (SaysOf 26 Nil (Some (table 0 0 3 26 1 0 0 26 [] [])))
-    ∷ by (Takes 0 2 []) (SaysOf 27 (Cleaned (Removed 0)) None)
-    ∷ by (Sweeps 0 (12884901888 ∷ [])) (SaysOf 28 (Swept 1) None)
+    ∷ by (By 0 (Collect 1)) (SaysOf 25 (Forgot 0) None)
+    ∷ by (By 0 (MakeTable 1 0)) (SaysOf 26 Nil (Some (table 0 0 3 26 1 0 0 26 [] [])))
+    ∷ by (Takes 0 2) (SaysOf 27 (Cleaned (Removed 0)) None)
+    ∷ by (By 0 Sweep) (SaysOf 28 (Swept 1) None)
     ∷ []
 
 between_bunches : IsSaidOf (two_bunches 1) lines

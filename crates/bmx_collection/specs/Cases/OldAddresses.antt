@@ -8,8 +8,8 @@ use Rattle.bmx_msg.specs.declared.letters.Msg.TheVariants as msg
 use Rattle.bmx_clean.specs.declared.cleaner.Applied.TheVariants.{Removed}
 use Rattle.bmx_protocol.specs.declared.inputs.NodeAnswer.TheVariants as answer
 use Rattle.bmx_protocol.specs.Cases.{Do, Serve, Next, one_bunch}
-use Rattle.bmx_collection.specs.Steps.{Forgot, Cleaned, Nil}
-use Rattle.bmx_collection.specs.Playing.{Of, Collects, Makes, Takes, Says, SaysOf, Line, by, IsSaidOf, LinkedPlay, acted}
+use Rattle.bmx_collection.specs.Steps.{Collect, MakeTable, Forgot, Cleaned, Nil}
+use Rattle.bmx_collection.specs.Playing.{Of, By, Takes, Says, SaysOf, Line, by, IsSaidOf, LinkedPlay, acted}
 use Rattle.bmx_collection.specs.Cases.Stores.{object, letter, table, lives, went, left_at}
 
 -- what comes next, and what is to be said of it
@@ -29,18 +29,18 @@ lines =
     ∷ by (Of (Do 1 (command.Read (operand.Anchor 0)))) (Says 11 answer.Nil [])
     ∷ by (Of (Do 1 (command.Get 0 (operand.Anchor 0) 0))) (Says 12 (answer.Value (val.Ref 2)) [])
     ∷ by (Of (Do 1 (command.Done (operand.Anchor 0)))) (Says 13 answer.Nil [])
-    ∷ by (Collects 0 0 (1 ∷ 2 ∷ []) (1 ∷ 2 ∷ []) []) (SaysOf 10 (Forgot 0) None)
-    ∷ by (Makes 0 0 0 []) (SaysOf 11 Nil (Some (table 0 0 1 11 0 0 0 11 [] [])))
-    ∷ by (Takes 0 0 (record { name = 1; bunch = 0; from = 1; sent = 1; got = 0 } ∷ record { name = 2; bunch = 0; from = 1; sent = 1; got = 0 } ∷ [])) (SaysOf 12 (Cleaned (Removed 0)) None)
-    ∷ by (Makes 0 0 1 []) (SaysOf 13 Nil (Some (table 0 1 1 13 0 1 1 13 [] [])))
-    ∷ by (Takes 1 1 []) (SaysOf 14 (Cleaned (Removed 0)) None)
-    ∷ by (Collects 0 0 (1 ∷ 2 ∷ []) (1 ∷ 2 ∷ []) []) (SaysOf 14 (Forgot 0) None)
-    ∷ by (Makes 0 0 0 []) (SaysOf 15 Nil (Some (table 0 0 2 15 0 0 0 15 [] [])))
-    ∷ by (Makes 0 0 1 []) (SaysOf 16 Nil (Some (table 0 1 2 16 0 1 1 16 [] [])))
+    ∷ by (By 0 (Collect 0)) (SaysOf 10 (Forgot 0) None)
+    ∷ by (By 0 (MakeTable 0 0)) (SaysOf 11 Nil (Some (table 0 0 1 11 0 0 0 11 [] [])))
+    ∷ by (Takes 0 0) (SaysOf 12 (Cleaned (Removed 0)) None)
+    ∷ by (By 0 (MakeTable 0 1)) (SaysOf 13 Nil (Some (table 0 1 1 13 0 1 1 13 [] [])))
+    ∷ by (Takes 1 1) (SaysOf 14 (Cleaned (Removed 0)) None)
+    ∷ by (By 0 (Collect 0)) (SaysOf 14 (Forgot 0) None)
+    ∷ by (By 0 (MakeTable 0 0)) (SaysOf 15 Nil (Some (table 0 0 2 15 0 0 0 15 [] [])))
+    ∷ by (By 0 (MakeTable 0 1)) (SaysOf 16 Nil (Some (table 0 1 2 16 0 1 1 16 [] [])))
     ∷ by (Of (Do 0 (command.Write (operand.Anchor 0)))) (Says 17 answer.Wait [])
     ∷ by (Of (Serve 0 1)) (Says 18 answer.Nil (letter 1 2 18 (msg.Inval 1) ∷ []))
-    ∷ by (Takes 1 3 []) (SaysOf 17 (Cleaned (Removed 0)) None)
-    ∷ by (Takes 0 2 (record { name = 1; bunch = 0; from = 1; sent = 1; got = 0 } ∷ record { name = 2; bunch = 0; from = 1; sent = 1; got = 0 } ∷ [])) (SaysOf 19 (Cleaned (Removed 0)) None)
+    ∷ by (Takes 1 3) (SaysOf 17 (Cleaned (Removed 0)) None)
+    ∷ by (Takes 0 2) (SaysOf 19 (Cleaned (Removed 0)) None)
     ∷ by (Of (Next 0 1)) (Says 19 answer.Nil (letter 0 2 19 (msg.InvAck 1) ∷ []))
     ∷ by (Of (Next 1 0)) (Says 20 answer.Nil [])
     ∷ by (Of (Serve 0 1)) (Says 21 answer.Nil [])

@@ -8,8 +8,8 @@ use Rattle.bmx_msg.specs.declared.letters.Msg.TheVariants as msg
 use Rattle.bmx_clean.specs.declared.cleaner.Applied.TheVariants.{Removed}
 use Rattle.bmx_protocol.specs.declared.inputs.NodeAnswer.TheVariants as answer
 use Rattle.bmx_protocol.specs.Cases.{Do, Serve, Next, one_bunch}
-use Rattle.bmx_collection.specs.Steps.{Forgot, Cleaned, Nil}
-use Rattle.bmx_collection.specs.Playing.{Of, Collects, Makes, Takes, Says, SaysOf, Line, by, IsSaidOf, LinkedPlay, acted}
+use Rattle.bmx_collection.specs.Steps.{Collect, MakeTable, Forgot, Cleaned, Nil}
+use Rattle.bmx_collection.specs.Playing.{Of, By, Takes, Says, SaysOf, Line, by, IsSaidOf, LinkedPlay, acted}
 use Rattle.bmx_collection.specs.Cases.Stores.{object, letter, table, lives, went, left_at}
 
 -- what comes next, and what is to be said of it
@@ -38,14 +38,14 @@ lines =
     ∷ by (Of (Do 0 (command.Set (operand.Anchor 0) 0 operand.Null))) (Says 18 answer.Nil [])
     ∷ by (Of (Do 0 (command.Done (operand.Anchor 0)))) (Says 19 answer.Nil [])
     ∷ by (Of (Do 0 (command.Drop 0))) (Says 20 answer.Nil [])
-    ∷ by (Collects 0 0 (1 ∷ 2 ∷ []) (1 ∷ 2 ∷ []) []) (SaysOf 21 (Forgot 0) None)
-    ∷ by (Makes 0 0 0 []) (SaysOf 22 Nil (Some (table 0 0 1 22 0 0 0 19 [] [])))
-    ∷ by (Makes 0 0 1 []) (SaysOf 23 Nil (Some (table 0 1 1 23 0 2 2 20 [] [])))
+    ∷ by (By 0 (Collect 0)) (SaysOf 21 (Forgot 0) None)
+    ∷ by (By 0 (MakeTable 0 0)) (SaysOf 22 Nil (Some (table 0 0 1 22 0 0 0 19 [] [])))
+    ∷ by (By 0 (MakeTable 0 1)) (SaysOf 23 Nil (Some (table 0 1 1 23 0 2 2 20 [] [])))
     ∷ by (Of (Do 1 (command.Read (operand.Register 0)))) (Says 15 answer.Wait (letter 0 3 15 (msg.ReadReq 2 1) ∷ []))
-    ∷ by (Takes 0 0 (record { name = 1; bunch = 0; from = 1; sent = 1; got = 0 } ∷ record { name = 2; bunch = 0; from = 1; sent = 1; got = 0 } ∷ [])) (SaysOf 24 (Cleaned (Removed 0)) None)
+    ∷ by (Takes 0 0) (SaysOf 24 (Cleaned (Removed 0)) None)
     ∷ by (Of (Next 1 0)) (Says 25 answer.Nil [])
     ∷ by (Of (Serve 0 2)) (Says 26 answer.Nil (letter 1 3 26 (msg.ReadGrant (object 2 0 1 0x200000024 1) (msg_field.Int (pos 42) ∷ [])) ∷ []))
-    ∷ by (Takes 1 1 []) (SaysOf 24 (Cleaned (Removed 0)) None)
+    ∷ by (Takes 1 1) (SaysOf 24 (Cleaned (Removed 0)) None)
     ∷ by (Of (Next 0 1)) (Says 27 answer.Nil [])
     ∷ by (Of (Do 1 (command.Read (operand.Register 0)))) (Says 28 answer.Nil [])
     ∷ by (Of (Do 1 (command.Show (operand.Register 0) 0))) (Says 29 (answer.Value (val.Int (pos 42))) [])

@@ -8,8 +8,8 @@ use Rattle.bmx_msg.specs.declared.letters.Msg.TheVariants as msg
 use Rattle.bmx_clean.specs.declared.cleaner.Applied.TheVariants.{Removed}
 use Rattle.bmx_protocol.specs.declared.inputs.NodeAnswer.TheVariants as answer
 use Rattle.bmx_protocol.specs.Cases.{Do, Serve, Next}
-use Rattle.bmx_collection.specs.Steps.{Forgot, Swept, Cleaned, Nil}
-use Rattle.bmx_collection.specs.Playing.{Of, Collects, Makes, Takes, Sweeps, Says, SaysOf, Line, by, IsSaidOf, LinkedPlay, acted}
+use Rattle.bmx_collection.specs.Steps.{Collect, Sweep, MakeTable, Forgot, Swept, Cleaned, Nil}
+use Rattle.bmx_collection.specs.Playing.{Of, By, Takes, Says, SaysOf, Line, by, IsSaidOf, LinkedPlay, acted}
 use Rattle.bmx_collection.specs.Cases.Stores.{two_bunches, object, letter, pair, table, lives, went, left_at}
 
 -- what comes next, and what is to be said of it
@@ -42,30 +42,30 @@ lines =
     ∷ by (Of (Do 0 (command.Show (operand.Register 1) 0))) (Says 23 (answer.Value (val.Int (pos 9))) [])
     ∷ by (Of (Do 0 (command.Done (operand.Register 1)))) (Says 24 answer.Nil [])
     ∷ by (Of (Do 0 (command.Drop 1))) (Says 25 answer.Nil [])
-    ∷ by (Collects 0 0 (1 ∷ []) (1 ∷ []) []) (SaysOf 26 (Forgot 0) None)
-    ∷ by (Makes 0 0 0 []) (SaysOf 27 Nil (Some (table 0 0 1 27 0 0 0 22 [] (pair 1 3 ∷ []))))
-    ∷ by (Takes 0 0 (record { name = 1; bunch = 0; from = 1; sent = 0; got = 2 } ∷ record { name = 2; bunch = 1; from = 1; sent = 0; got = 0 } ∷ record { name = 3; bunch = 1; from = 1; sent = 1; got = 0 } ∷ [])) (SaysOf 28 (Cleaned (Removed 0)) None)
+    ∷ by (By 0 (Collect 0)) (SaysOf 26 (Forgot 0) None)
+    ∷ by (By 0 (MakeTable 0 0)) (SaysOf 27 Nil (Some (table 0 0 1 27 0 0 0 22 [] (pair 1 3 ∷ []))))
+    ∷ by (Takes 0 0) (SaysOf 28 (Cleaned (Removed 0)) None)
     ∷ by (Of (Do 0 (command.Write (operand.Anchor 0)))) (Says 29 answer.Nil [])
-    ∷ by (Makes 0 0 1 []) (SaysOf 30 Nil (Some (table 0 1 1 30 0 2 2 25 [] [])))
-    ∷ by (Collects 0 1 (2 ∷ 3 ∷ []) (2 ∷ 3 ∷ []) []) (SaysOf 31 (Forgot 0) None)
-    ∷ by (Collects 1 0 (1 ∷ []) [] []) (SaysOf 17 (Forgot 0) None)
+    ∷ by (By 0 (MakeTable 0 1)) (SaysOf 30 Nil (Some (table 0 1 1 30 0 2 2 25 [] [])))
+    ∷ by (By 0 (Collect 1)) (SaysOf 31 (Forgot 0) None)
+    ∷ by (By 1 (Collect 0)) (SaysOf 17 (Forgot 0) None)
     ∷ by (Of (Do 0 (command.Set (operand.Anchor 0) 0 operand.Null))) (Says 32 answer.Nil [])
-    ∷ by (Makes 0 1 0 []) (SaysOf 33 Nil (Some (table 0 0 2 33 1 0 0 28 [] [])))
-    ∷ by (Makes 1 0 0 (1 ∷ [])) (SaysOf 18 Nil (Some (table 1 0 1 18 0 2 2 9 (1 ∷ []) [])))
-    ∷ by (Takes 0 2 (record { name = 1; bunch = 0; from = 1; sent = 0; got = 2 } ∷ record { name = 2; bunch = 1; from = 1; sent = 0; got = 0 } ∷ record { name = 3; bunch = 1; from = 1; sent = 1; got = 0 } ∷ [])) (SaysOf 34 (Cleaned (Removed 0)) None)
-    ∷ by (Makes 1 0 1 []) (SaysOf 19 Nil (Some (table 1 1 1 19 0 0 0 10 [] [])))
-    ∷ by (Takes 1 1 (record { name = 1; bunch = 0; from = 0; sent = 0; got = 1 } ∷ record { name = 3; bunch = 1; from = 0; sent = 2; got = 0 } ∷ [])) (SaysOf 31 (Cleaned (Removed 1)) None)
-    ∷ by (Takes 1 4 (record { name = 3; bunch = 1; from = 0; sent = 2; got = 0 } ∷ [])) (SaysOf 32 (Cleaned (Removed 1)) None)
-    ∷ by (Takes 0 3 (record { name = 1; bunch = 0; from = 1; sent = 0; got = 2 } ∷ record { name = 2; bunch = 1; from = 1; sent = 0; got = 0 } ∷ record { name = 3; bunch = 1; from = 1; sent = 1; got = 0 } ∷ [])) (SaysOf 35 (Cleaned (Removed 0)) None)
+    ∷ by (By 0 (MakeTable 1 0)) (SaysOf 33 Nil (Some (table 0 0 2 33 1 0 0 28 [] [])))
+    ∷ by (By 1 (MakeTable 0 0)) (SaysOf 18 Nil (Some (table 1 0 1 18 0 2 2 9 (1 ∷ []) [])))
+    ∷ by (Takes 0 2) (SaysOf 34 (Cleaned (Removed 0)) None)
+    ∷ by (By 1 (MakeTable 0 1)) (SaysOf 19 Nil (Some (table 1 1 1 19 0 0 0 10 [] [])))
+    ∷ by (Takes 1 1) (SaysOf 31 (Cleaned (Removed 1)) None)
+    ∷ by (Takes 1 4) (SaysOf 32 (Cleaned (Removed 1)) None)
+    ∷ by (Takes 0 3) (SaysOf 35 (Cleaned (Removed 0)) None)
     ∷ by (Of (Do 0 (command.Done (operand.Anchor 0)))) (Says 36 answer.Nil [])
-    ∷ by (Collects 1 1 (2 ∷ 3 ∷ []) [] []) (SaysOf 33 (Forgot 0) None)
-    ∷ by (Makes 0 1 1 []) (SaysOf 37 Nil (Some (table 0 1 2 37 1 2 2 32 [] [])))
-    ∷ by (Makes 1 1 0 (2 ∷ 3 ∷ [])) (SaysOf 34 Nil (Some (table 1 0 2 34 1 2 2 14 (2 ∷ 3 ∷ []) [])))
-    ∷ by (Makes 1 1 1 []) (SaysOf 35 Nil (Some (table 1 1 2 35 1 0 0 15 [] [])))
-    ∷ by (Takes 1 7 (record { name = 3; bunch = 1; from = 0; sent = 2; got = 0 } ∷ [])) (SaysOf 36 (Cleaned (Removed 0)) None)
-    ∷ by (Sweeps 1 []) (SaysOf 37 (Swept 0) None)
-    ∷ by (Takes 1 5 (record { name = 3; bunch = 1; from = 0; sent = 2; got = 0 } ∷ [])) (SaysOf 38 (Cleaned (Removed 1)) None)
-    ∷ by (Sweeps 0 []) (SaysOf 38 (Swept 0) None)
+    ∷ by (By 1 (Collect 1)) (SaysOf 33 (Forgot 0) None)
+    ∷ by (By 0 (MakeTable 1 1)) (SaysOf 37 Nil (Some (table 0 1 2 37 1 2 2 32 [] [])))
+    ∷ by (By 1 (MakeTable 1 0)) (SaysOf 34 Nil (Some (table 1 0 2 34 1 2 2 14 (2 ∷ 3 ∷ []) [])))
+    ∷ by (By 1 (MakeTable 1 1)) (SaysOf 35 Nil (Some (table 1 1 2 35 1 0 0 15 [] [])))
+    ∷ by (Takes 1 7) (SaysOf 36 (Cleaned (Removed 0)) None)
+    ∷ by (By 1 Sweep) (SaysOf 37 (Swept 0) None)
+    ∷ by (Takes 1 5) (SaysOf 38 (Cleaned (Removed 1)) None)
+    ∷ by (By 0 Sweep) (SaysOf 38 (Swept 0) None)
     ∷ []
 
 pairs_at_two_nodes : IsSaidOf (two_bunches 2) lines
