@@ -23,7 +23,7 @@ use Rattle.bmx_replica.specs.Replicas.{Holding, Entry, entry_of, entry_in, copy_
 use Rattle.bmx_local.specs.declared.locals.Local.{Local}
 use Rattle.bmx_local.specs.declared.solos.Solo.{Solo}
 use Rattle.bmx_local.specs.Locals.{word_of, Holds}
-use Rattle.bmx_local.specs.Solos.{value_at, Keeps, graph_of}
+use Rattle.bmx_local.specs.Solos.{value_at, KeepsSolo, graph_of}
 use Rattle.bmx_local.proofs.Shown.{cond_ap, word_put}
 
 -- ---- entries that are there
@@ -107,9 +107,9 @@ cond_of : (P : Word → Type 0) (b : Bool) (x y : Word) → P x → P y → P (c
 cond_of P true x y p q = p
 cond_of P false x y p q = q
 
-pub set_solo : (l : Local) (made x : ℕ) (w : Word) (v : Val) (words : List Word) → Keeps l made → x < 16 → words ≡ slice_set l.registers x w
+pub set_solo : (l : Local) (made x : ℕ) (w : Word) (v : Val) (words : List Word) → KeepsSolo l made → x < 16 → words ≡ slice_set l.registers x w
     → IsField l.replica.heap.blocks (kind_number w.kind) w.word → value_at l.replica w ≡ v → Holds l.replica w v → HasTarget l.replica v
-    → Keeps (record l { registers = words }) made
+    → KeepsSolo (record l { registers = words }) made
 set_solo l made x w v words solo small is field holds held has =
     let r : Holding = l.replica in
     let there : x < length l.registers = omega (arith, solo.few, small) in
@@ -157,12 +157,12 @@ object_put old new name e fields puts is q =
 
 -- a node keeps what it keeps where one entry is put
 pub put_solo : (l : Local) (had : ℕ) (new : Holding) (name made : ℕ) (e : Entry) (fields : List Val)
-    → Keeps l had → Puts (entry_of l.replica) (entry_of new) name (Some e) → e.copy ≡ Some fields
+    → KeepsSolo l had → Puts (entry_of l.replica) (entry_of new) name (Some e) → e.copy ≡ Some fields
     → ((j : ℕ) (v : Val) → slice_get fields j ≡ Some v → HasTarget l.replica v)
     → had ≤ made → ((count : ℕ) → made < count → name ≡ name_word 0 count → ⊥)
     → KeepsReach l.replica new → KeepsNames l.replica new
     → length new.heap.current ≡ length l.replica.heap.current → AllLive new.heap.blocks
-    → Keeps (record l { replica = new }) made
+    → KeepsSolo (record l { replica = new }) made
 put_solo l had new name made e fields solo puts is targets more fresh reach names bunches live =
     let old : Holding = l.replica in
     let word : ℕ → Word = word_of l.registers in
@@ -222,7 +222,7 @@ field_there (Some fields) i there = there
 same_but_spare : (old new : Holding) → new.slots ≡ old.slots → new.heap ≡ old.heap → record old { spare = new.spare } ≡ new
 same_but_spare old new slots heap = λ i. record { slots = sym slots i; heap = sym heap i; spare = new.spare }
 
-spared : (l : Local) (made spare : ℕ) → Keeps l made → Keeps (record l { replica = record l.replica { spare = spare } }) made
+spared : (l : Local) (made spare : ℕ) → KeepsSolo l made → KeepsSolo (record l { replica = record l.replica { spare = spare } }) made
 spared l made spare k = record {
   live = k.live;
   copies = k.copies;
@@ -236,9 +236,9 @@ spared l made spare k = record {
   bunches = k.bunches;
 }
 
-pub respared : (l : Local) (made : ℕ) (new : Holding) → new.slots ≡ l.replica.slots → new.heap ≡ l.replica.heap → Keeps l made → Keeps (record l { replica = new }) made
+pub respared : (l : Local) (made : ℕ) (new : Holding) → new.slots ≡ l.replica.slots → new.heap ≡ l.replica.heap → KeepsSolo l made → KeepsSolo (record l { replica = new }) made
 respared l made new slots heap k =
-    subst (λ (r : Holding). Keeps (record l { replica = r }) made) (same_but_spare l.replica new slots heap) (spared l made new.spare k)
+    subst (λ (r : Holding). KeepsSolo (record l { replica = r }) made) (same_but_spare l.replica new slots heap) (spared l made new.spare k)
 
 -- a node's graph stays with it
 pub same_graph : (n : Solo) (new : Holding) → new.slots ≡ n.local.replica.slots → new.heap ≡ n.local.replica.heap → graph_of (record n { local = record n.local { replica = new } }) ≡ graph_of n

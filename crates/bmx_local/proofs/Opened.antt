@@ -17,7 +17,7 @@ use Rattle.bmx_graph.proofs.States.{get_or-same}
 use Rattle.bmx_replica.specs.declared.words.Word.{Word}
 use Rattle.bmx_replica.specs.Replicas.{Holding, Entry, entry_of, copy_of, blank_entry, HasTarget, IsField}
 use Rattle.bmx_local.specs.Locals.{word_of, null_word, Holds}
-use Rattle.bmx_local.specs.Solos.{value_at, Keeps}
+use Rattle.bmx_local.specs.Solos.{value_at, KeepsSolo}
 use Rattle.bmx_local.proofs.Shown.{cond_ap}
 use Rattle.bmx_local.proofs.Kept.{null_targets}
 
@@ -56,7 +56,7 @@ null_register h words r is = ap (value_at h) (null_word_of words r is)
 
 -- and the node keeps what it is to keep
 pub opened : (old new : Holding) (words : List Word) (name bunch at : ℕ) → old.slots ≡ [] → name ≡ 1 → Puts (entry_of old) (entry_of new) name (Some (blank_entry bunch 32 at))
-    → words ≡ replicate 16 null_word → length new.heap.current ≡ 16 → AllLive new.heap.blocks → Keeps (record { replica = new; registers = words }) 1
+    → words ≡ replicate 16 null_word → length new.heap.current ≡ 16 → AllLive new.heap.blocks → KeepsSolo (record { replica = new; registers = words }) 1
 opened old new words name bunch at none is puts null bunches live =
     let each : (P : Word → Type 0) → P null_word → (r : ℕ) → P (word_of words r) = λ P h r. subst P (sym (null_word_of words r null)) h in
     let entry = one_entry old new name bunch at none is puts in

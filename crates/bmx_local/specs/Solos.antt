@@ -44,7 +44,7 @@ graph_of n = record {
 -- what a node keeps: each header is live, each entry has a copy, each reference is to a name with an entry, the words of
 -- registers are those of what they hold, no name to come has an entry, the anchor of bunch 0 has one, and
 -- each of the 16 bunches may have an open segment
-pub record Keeps (l : Local) (made : ℕ) : Type 0 where
+pub record KeepsSolo (l : Local) (made : ℕ) : Type 0 where
   pub live : AllLive l.replica.heap.blocks
   pub copies : (name : ℕ) → IsSome (entry_of l.replica name) → IsSome (copy_of l.replica name)
   pub targets : (name i : ℕ) (v : Val) → field_of l.replica name i ≡ Some v → HasTarget l.replica v
@@ -58,7 +58,7 @@ pub record Keeps (l : Local) (made : ℕ) : Type 0 where
 
 -- a node keeps that
 unfoldable pub IsSolo : Solo → Type 0
-IsSolo n = Keeps n.local n.made
+IsSolo n = KeepsSolo n.local n.made
 
 -- the bunch of an operand is bunch 0, and its register one of the 16
 abbrev pub FitsOperand : Operand → Type 0

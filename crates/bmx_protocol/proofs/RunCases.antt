@@ -19,7 +19,7 @@ use Rattle.bmx_protocol.specs.Runs.Programs.{CanServe}
 use Rattle.bmx_protocol.specs.Runs.Turns.{TriesCommand, ComesNext}
 use Rattle.bmx_protocol.proofs.WorldCases.{none_served}
 use Rattle.bmx_protocol.specs.Cases.{Do, one_bunch, played}
-use Rattle.bmx_protocol.specs.Runs.Programs.{Body, Gives, Phase, Stage, Runs, Follows, BeginsStage, DoesStage, commands_in, completed}
+use Rattle.bmx_protocol.specs.Runs.Programs.{Body, Gives, Phase, Stage, Runs, RunsInPart, BeginsStage, DoesStage, commands_in, completed}
 
 abbrev two_phases : List Body
 two_phases = Gives 0 4 (command.Copy 0 (operand.Int (pos 1))) ∷ Phase ∷ Gives 0 6 (command.Copy 1 (operand.Int (pos 2))) ∷ []
@@ -75,7 +75,7 @@ does_second = record {
 a_history_runs_its_body : Runs (one_bunch 1) two_phases both
 a_history_runs_its_body = (take 1 both, drop 1 both, refl, does_first, (drop 1 both, [], refl, does_second, refl))
 
-a_prefix_follows_it : Follows (one_bunch 1) two_phases (take 1 both)
+a_prefix_follows_it : RunsInPart (one_bunch 1) two_phases (take 1 both)
 a_prefix_follows_it = inl does_first.begun
 
 -- ## a wait is followed too

@@ -20,7 +20,7 @@ pub data Body : Type 0 where
   Quiet : Body
 
 -- a command of a node, and its line
-pub record Given : Type 0 where
+pub record Order : Type 0 where
   pub node : ℕ
   pub line : ℕ
   pub command : Command
@@ -28,7 +28,7 @@ pub record Given : Type 0 where
 -- the commands of a phase in order, and whether it ends quietly: with no letter in flight and nothing
 -- to serve
 pub record Stage : Type 0 where
-  pub commands : List Given
+  pub commands : List Order
   pub quiet : Bool
 
 -- the phases of a body: the end of the script ends the last one as a plain end does
@@ -36,18 +36,18 @@ abbrev pub stages : List Body → List Stage
 stages [] = record { commands = []; quiet = false } ∷ []
 stages (Gives node line c ∷ body) = with_given (record { node = node; line = line; command = c }) (stages body)
   where
-    with_given : Given → List Stage → List Stage
+    with_given : Order → List Stage → List Stage
     with_given g [] = []
     with_given g (s ∷ more) = record s { commands = g ∷ s.commands } ∷ more
 stages (Phase ∷ body) = record { commands = []; quiet = false } ∷ stages body
 stages (Quiet ∷ body) = record { commands = []; quiet = true } ∷ stages body
 
 -- a node's program in a phase
-abbrev pub program_in : Stage → ℕ → List Given
+abbrev pub program_in : Stage → ℕ → List Order
 program_in s n = filter (λ g. g.node == n) s.commands
 
 -- a node's program over all phases
-abbrev pub program : List Body → ℕ → List Given
+abbrev pub program : List Body → ℕ → List Order
 program [] n = []
 program (Gives node line c ∷ body) n =
     if node == n then record { node = node; line = line; command = c } ∷ program body n else program body n
@@ -78,9 +78,9 @@ pub record IsQuiet (st : Setting) (past : List Event) : Type 0 where
   pub no_serve : (n name : ℕ) → n < st.nodes → CanServe n (nodes n).state name → ⊥
 
 -- where a phase ends quietly
-abbrev pub EndsAs : Setting → Bool → List Event → Type 0
-EndsAs st true past = IsQuiet st past
-EndsAs st false past = Unit {0}
+abbrev pub EndsPhase : Setting → Bool → List Event → Type 0
+EndsPhase st true past = IsQuiet st past
+EndsPhase st false past = Unit {0}
 
 -- events begin a phase: each command that is tried in them, also one that waits, is the next of its node's
 -- program there, the one behind those that the node completed before
@@ -93,7 +93,7 @@ BeginsStage s events =
 pub record DoesStage (st : Setting) (past : List Event) (s : Stage) (events : List Event) : Type 0 where
   pub begun : BeginsStage s events
   pub done : (n : ℕ) → n < st.nodes → completed n events ≡ commands_in s n
-  pub ended : EndsAs st s.quiet (past ++ events)
+  pub ended : EndsPhase st s.quiet (past ++ events)
 
 -- events after those before them do phases, one part of them each
 abbrev pub DoAll : Setting → List Event → List Stage → List Event → Type 0
@@ -112,9 +112,9 @@ DoSome st past (s ∷ more) events =
 abbrev pub Runs : Setting → List Body → List Event → Type 0
 Runs st body history = DoAll st [] (stages body) history
 
--- a history follows a body
-abbrev pub Follows : Setting → List Body → List Event → Type 0
-Follows st body history = DoSome st [] (stages body) history
+-- a history runs a body in part
+abbrev pub RunsInPart : Setting → List Body → List Event → Type 0
+RunsInPart st body history = DoSome st [] (stages body) history
 
 -- ## what is printed
 
@@ -133,7 +133,7 @@ is_printed (command.Same left right) a = true
 is_printed c a = false
 
 -- what is printed of a command that a node completed as its next one
-abbrev pub output_of : Option Given → ℕ → Command → NodeAnswer → List Output
+abbrev pub output_of : Option Order → ℕ → Command → NodeAnswer → List Output
 output_of None n c a = []
 output_of (Some g) n c a = if is_printed c a then record { node = n; line = g.line; answer = a } ∷ [] else []
 

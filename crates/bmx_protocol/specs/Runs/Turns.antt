@@ -16,7 +16,7 @@ use Rattle.bmx_protocol.specs.Nodes.{Setting, NodeState, AreAll, seen_graph}
 use Rattle.bmx_protocol.specs.Rules.{About, Token, Fields, Making, Nothing, about}
 use Rattle.bmx_protocol.specs.Steps.{Node}
 use Rattle.bmx_protocol.specs.Histories.{AreAfter, in_flight, waits_with}
-use Rattle.bmx_protocol.specs.Runs.Programs.{Body, Given, Stage, stages, program_in, completed, CanServe, DoesStage}
+use Rattle.bmx_protocol.specs.Runs.Programs.{Body, Order, Stage, stages, program_in, completed, CanServe, DoesStage}
 
 -- what a node may do next: its next command, a serve, or the next letter from a node
 pub data Action : Type 0 where
@@ -57,7 +57,7 @@ abbrev pub is_ready : ℕ → NodeState → Command → Bool
 is_ready n s c = option_map_or (λ on. ready_at s (target_of (seen_graph n s) n on)) (wanted_by c) false
 
 -- a node's next command of its program, where it doesn't wait, or waits and may be tried again
-abbrev pub command_action : ℕ → NodeState → Option Command → Option Given → List Action
+abbrev pub command_action : ℕ → NodeState → Option Command → Option Order → List Action
 command_action n s w None = []
 command_action n s None (Some g) = TriesCommand n g.command ∷ []
 command_action n s (Some w) (Some g) = if is_ready n s g.command then TriesCommand n g.command ∷ [] else []
