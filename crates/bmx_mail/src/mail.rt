@@ -2,6 +2,7 @@ ghost use Rattle.std.specs.Prelude.{◌≡◌, ◌+◌, ◌-◌, ◌^◌, ◌≤
 ghost use Rattle.bmx_types.specs.Updates.{put, put_at};
 ghost use Rattle.bmx_msg.specs.Letters.{given};
 ghost use Rattle.bmx_owner.specs.Records.{record_or_blank, IsInOrder};
+ghost use Rattle.bmx_protocol.specs.Nodes.{AreNumbers};
 ghost use Rattle.bmx_protocol.specs.Changes.{Gets, Takes};
 ghost use Rattle.bmx_protocol.specs.Steps.{sent_changes};
 ghost use Rattle.bmx_mail.specs.Mails.{entering_of, issued_of, taken_of, CanIssue, Tracks, KnowsBunch, TellsBunches, given_infos, with_given, next_letter};
@@ -9,8 +10,8 @@ ghost use Rattle.bmx_mail.specs.Mails.{entering_of, issued_of, taken_of, CanIssu
 use crate::outbox::Outbox;
 use bmx_msg::{Field, Letter, Msg};
 use bmx_owner::{RecordList, Records};
-use bmx_protocol::Sending;
-use bmx_types::{BunchNo, Info, Name, NoMemory, NodeNo};
+use bmx_protocol::{Numbers, Sending};
+use bmx_types::{BunchNo, Items, Name, NoMemory, NodeNo};
 use std::alloc::Global;
 use std::marker::Model;
 
@@ -112,6 +113,20 @@ impl Mail {
         self.records.list(alloc)
     }
 
+    /// How many letters were issued to each of so many nodes.
+    pub fn all_issued(&self, alloc: Global, nodes: u8) -> Result<Numbers, NoMemory>
+        ensures { IfOk result (λ numbers. AreNumbers nodes numbers (issued_of self.now)) }
+    {
+        numbers(alloc, &self.issued, nodes)
+    }
+
+    /// How many letters were taken from each of so many nodes.
+    pub fn all_taken(&self, alloc: Global, nodes: u8) -> Result<Numbers, NoMemory>
+        ensures { IfOk result (λ numbers. AreNumbers nodes numbers (taken_of self.now)) }
+    {
+        numbers(alloc, &self.taken, nodes)
+    }
+
     /// An outbox for letters of a stamp, with room for so many. A number that no count reaches is want of memory.
     pub fn outbox(&self, alloc: Global, stamp: u64, room: usize) -> Result<Outbox, NoMemory>
         ensures outbox { IfOk result (λ outbox. outbox ≡ record { stamp = stamp; letters = []; room = room }) }
@@ -152,6 +167,18 @@ impl Mail {
 ghost use Rattle.std.specs.Prelude.{ℕ, ◌↔◌, IsTrue, slice_index, filter_map};
 ghost use Rattle.bmx_msg.specs.Letters.{targets};
 ghost use Rattle.bmx_protocol.specs.Rules.{info_in};
+
+/// The counts of so many nodes.
+fn numbers(alloc: Global, counts: &[u64], nodes: u8) -> Result<Numbers, NoMemory>
+    ensures { IfOk result (λ numbers. AreNumbers nodes numbers (slice_index counts.now)) }
+{
+    let mut numbers: Numbers = Items::new(alloc);
+    for node in 0..nodes {
+        let count = counts.get(node as usize).copied().unwrap_or(0);
+        numbers.push(count)?;
+    }
+    Ok(numbers)
+}
 
 /// Whether so many letters more to any node can be counted.
 fn can_issue(issued: &[u64], room: usize) -> bool
