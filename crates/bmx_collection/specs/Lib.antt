@@ -8,3 +8,4 @@ pub mod Steps
 pub mod Finding
 pub mod Playing
 pub mod Cases
+pub mod Laws

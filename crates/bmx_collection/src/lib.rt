@@ -2,3 +2,11 @@
 //! stubs and scions, tables and what they end, and the step that they make together. It has definitions and laws
 //! alone; no collector runs by them yet.
 #![tactic(auto)]
+
+mod laws;
+
+pub use laws::{
+    collection_keeps_its_reach, collector_refusal_keeps, collector_step_is_determined,
+    collector_touches_no_token, reach_may_be_kept, reach_without_references_is_roots,
+    second_taking_removes_nothing,
+};

@@ -1,0 +1,97 @@
+-- What holds of a collector's step by the definitions alone, whatever came before it.
+use Rattle.std.specs.Prelude.{◌≡◌, ℕ, ◌+◌, false, true, List, Some, None}
+use Rattle.bmx_table.specs.declared.tables.Table.{Table}
+use Rattle.bmx_clean.specs.declared.cleaner.Applied.TheVariants.{Early, Removed}
+use Rattle.bmx_protocol.specs.Nodes.{Setting, NodeState, Known, AreAll}
+use Rattle.bmx_collection.specs.Links.{Links}
+use Rattle.bmx_collection.specs.Reach.{is_entry, refers, is_busy, IsRoot, IsReachedHere, MayBeKept}
+use Rattle.bmx_collection.specs.Steps.{LinkedNode, CollectorInput, Collect, TakeTable, CollectorAnswer, Forgot, Swept, Cleaned, Nil, Refused, Stray, CollectorDone, IsCollectorStep, counted}
+
+-- ## one step
+
+-- a step makes one outcome and one node of a node, an input and a stamp
+abbrev pub CollectorStepIsDetermined : Type 0
+CollectorStepIsDetermined =
+    (st : Setting) (me stamp : ℕ) (i : CollectorInput) (n n' m' : LinkedNode) (c d : CollectorDone) →
+    IsCollectorStep st me n stamp i c n' → IsCollectorStep st me n stamp i d m' → (c ≡ d) × (n' ≡ m')
+
+-- the answers of a step that is refused: segments are lacking, or the table doesn't fit
+abbrev pub IsCollectorRefusal : CollectorAnswer → Type 0
+IsCollectorRefusal (Forgot entries) = ⊥
+IsCollectorRefusal (Swept segments) = ⊥
+IsCollectorRefusal (Cleaned what) = ⊥
+IsCollectorRefusal Nil = ⊥
+IsCollectorRefusal (Refused why) = Unit {0}
+IsCollectorRefusal Stray = Unit {0}
+
+-- a refused step makes no table, and changes nothing of the node but that it is counted
+abbrev pub CollectorRefusalKeeps : Type 0
+CollectorRefusalKeeps =
+    (st : Setting) (me stamp : ℕ) (i : CollectorInput) (n n' : LinkedNode) (d : CollectorDone) →
+    IsCollectorStep st me n stamp i d n' → IsCollectorRefusal d.answer → (d.table ≡ None) × (n' ≡ counted n)
+
+-- ## tokens
+
+-- the node issued no letter and took none, its registers are as before, and it made no name
+pub record IsSilent (old new : NodeState) : Type 0 where
+  pub issued : new.issued ≡ old.issued
+  pub taken : new.taken ≡ old.taken
+  pub registers : new.register ≡ old.register
+  pub made : new.made ≡ old.made
+  pub clock : new.clock ≡ old.clock + 1
+
+-- no token is touched: an entry that stands is as it was, its token and its fields among it, and of one that goes
+-- nothing was going on and no other node had been told
+pub record LeavesTokens (old new : NodeState) : Type 0 where
+  pub stands : (name : ℕ) (k : Known) → new.known name ≡ Some k → old.known name ≡ Some k
+  pub idle : (name : ℕ) (k : Known) → old.known name ≡ Some k → new.known name ≡ None → is_busy k.part ≡ false
+  pub untold : (name node : ℕ) (k : Known) → old.known name ≡ Some k → new.known name ≡ None → old.entering name node ≡ None
+
+-- a collector's step issues no letter and touches no token
+abbrev pub CollectorTouchesNoToken : Type 0
+CollectorTouchesNoToken =
+    (st : Setting) (me stamp : ℕ) (i : CollectorInput) (n n' : LinkedNode) (d : CollectorDone) →
+    IsCollectorStep st me n stamp i d n' → IsSilent n.state n'.state × LeavesTokens n.state n'.state
+
+-- ## what is kept
+
+-- the local reach may be kept
+abbrev pub ReachMayBeKept : Type 0
+ReachMayBeKept = (s : NodeState) (l : Links) (bunch : ℕ) (kept : List ℕ) → AreAll (IsReachedHere s l bunch) kept → MayBeKept s l bunch kept
+
+-- where no copy refers to anything, what is reached are the roots
+abbrev pub ReachWithoutReferencesIsRoots : Type 0
+ReachWithoutReferencesIsRoots =
+    (s : NodeState) (l : Links) (bunch : ℕ) → ((from name : ℕ) → refers s from name ≡ false) →
+    (name : ℕ) → IsReachedHere s l bunch name → (is_entry s bunch name ≡ true) × IsRoot s l bunch name
+
+-- what a collection of the bunch leaves: each entry that is reached, none of the bunch that isn't, and all others
+pub record KeepsItsReach (old new : LinkedNode) (bunch : ℕ) : Type 0 where
+  pub kept : (name : ℕ) → IsReachedHere old.state old.links bunch name → new.state.known name ≡ old.state.known name
+  pub no_more : (name : ℕ) → is_entry new.state bunch name ≡ true → IsReachedHere old.state old.links bunch name
+  pub others : (name : ℕ) → is_entry old.state bunch name ≡ false → new.state.known name ≡ old.state.known name
+
+-- a collection that forgot so many entries kept exactly its reach
+abbrev pub CollectionKeepsItsReach : Type 0
+CollectionKeepsItsReach =
+    (st : Setting) (me stamp bunch entries : ℕ) (n n' : LinkedNode) (d : CollectorDone) →
+    IsCollectorStep st me n stamp (Collect bunch) d n' → d.answer ≡ Forgot entries → KeepsItsReach n n' bunch
+
+-- ## tables
+
+-- nothing was removed: the table was stray or early, or removed none
+abbrev pub RemovedNothing : CollectorAnswer → Type 0
+RemovedNothing (Forgot entries) = ⊥
+RemovedNothing (Swept segments) = ⊥
+RemovedNothing (Cleaned Early) = Unit {0}
+RemovedNothing (Cleaned (Removed many)) = many ≡ 0
+RemovedNothing Nil = ⊥
+RemovedNothing (Refused why) = ⊥
+RemovedNothing Stray = Unit {0}
+
+-- a table that is taken twice in a row removes nothing the second time, and the node is as before but for the count
+abbrev pub SecondTakingRemovesNothing : Type 0
+SecondTakingRemovesNothing =
+    (st : Setting) (me stamp later : ℕ) (t : Table) (n m n' : LinkedNode) (c d : CollectorDone) →
+    IsCollectorStep st me n stamp (TakeTable t) c m → IsCollectorStep st me m later (TakeTable t) d n' →
+    RemovedNothing d.answer × (n' ≡ counted m)

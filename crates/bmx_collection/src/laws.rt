@@ -1,0 +1,39 @@
+ghost use Rattle.bmx_collection.specs.Laws.{CollectorStepIsDetermined, CollectorRefusalKeeps, CollectorTouchesNoToken, ReachMayBeKept, ReachWithoutReferencesIsRoots, CollectionKeepsItsReach, SecondTakingRemovesNothing};
+
+/// The law that a collector's step makes one outcome and one node of a node, an input and a stamp. It does nothing.
+pub fn collector_step_is_determined()
+    ensures { CollectorStepIsDetermined }
+{}
+
+/// The law that a refused step of a collector makes no table and changes nothing but the count of steps. It does
+/// nothing.
+pub fn collector_refusal_keeps()
+    ensures { CollectorRefusalKeeps }
+{}
+
+/// The law that a collector's step issues no letter and touches no token: an entry that stands is as it was, and one
+/// that goes was idle and untold. It does nothing.
+pub fn collector_touches_no_token()
+    ensures { CollectorTouchesNoToken }
+{}
+
+/// The law that the local reach has the roots and is closed. It does nothing.
+pub fn reach_may_be_kept()
+    ensures { ReachMayBeKept }
+{}
+
+/// The law that where no copy refers to anything only roots are reached. It does nothing.
+pub fn reach_without_references_is_roots()
+    ensures { ReachWithoutReferencesIsRoots }
+{}
+
+/// The law that a collection that isn't refused keeps exactly what is reached of its bunch, and all of others. It does
+/// nothing.
+pub fn collection_keeps_its_reach()
+    ensures { CollectionKeepsItsReach }
+{}
+
+/// The law that a table that is taken twice in a row removes nothing the second time. It does nothing.
+pub fn second_taking_removes_nothing()
+    ensures { SecondTakingRemovesNothing }
+{}
