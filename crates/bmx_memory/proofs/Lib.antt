@@ -1,0 +1,11 @@
+pub mod Reached
+pub mod Shows
+pub mod Kept
+pub mod Seen
+pub mod Barred
+pub mod Clashing
+pub mod Mapped
+pub mod Making
+pub mod Learning
+pub mod Told
+pub mod Installed

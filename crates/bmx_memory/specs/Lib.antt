@@ -1,0 +1,5 @@
+pub mod Contents
+pub mod Shown
+pub mod Letters
+pub mod Meaning
+pub mod Inside
