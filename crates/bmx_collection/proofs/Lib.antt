@@ -1,6 +1,9 @@
 pub mod Rising
+pub mod Passing
+pub mod Found
 pub mod Told
 pub mod Steps
 pub mod Reaching
 pub mod Tokens
 pub mod Taking
+pub mod Telling

@@ -1,6 +1,6 @@
 -- The lists that a collector's step is told, found by looking at the first so many names, nodes, bunches and segments.
 -- Runs worked by hand are told these; where a node has no others they are the ones that the rules ask for.
-use Rattle.std.specs.Prelude.{ℕ, zero, suc, ◌==◌, ◌&&◌, ◌||◌, not, Bool, false, List, [], ◌∷◌, ◌++◌, map, filter, filter_map, is_some}
+use Rattle.std.specs.Prelude.{ℕ, zero, suc, ◌+◌, ◌==◌, ◌&&◌, ◌||◌, not, Bool, true, false, if◌then◌else◌, List, [], ◌∷◌, map, filter, filter_map, is_some}
 use Rattle.std.specs.Option.{option_map_or}
 use Rattle.std.specs.List.{list_any, flat_map}
 use Rattle.bmx_types.specs.Words.{anchor_of, address_word, home_of, segment_of}
@@ -16,10 +16,14 @@ use Rattle.bmx_collection.specs.Forgetting.{goes}
 use Rattle.bmx_collection.specs.Sweeps.{has_object}
 use Rattle.bmx_collection.specs.Steps.{LinkedNode, CollectorInput, Collect, Sweep, MakeTable, TakeTable, CollectorTold}
 
--- the numbers below n, rising
+-- of n numbers from k on those that pass a test, rising
+abbrev pub passing : (ℕ → Bool) → ℕ → ℕ → List ℕ
+passing test k zero = []
+passing test k (suc n) = if test k then k ∷ passing test (k + 1) n else passing test (k + 1) n
+
+-- the numbers below n
 abbrev pub below : ℕ → List ℕ
-below zero = []
-below (suc n) = below n ++ n ∷ []
+below n = passing (λ k. true) 0 n
 
 -- a register holds a reference to the object of a name
 abbrev pub is_value_of : ℕ → Val → Bool
@@ -38,10 +42,10 @@ is_root n s l bunch name =
 
 -- the names below n that are reached from roots in so many steps
 abbrev pub reached_in : ℕ → ℕ → NodeState → Links → ℕ → List ℕ
-reached_in zero n s l bunch = filter (λ name. is_entry s bunch name && is_root n s l bunch name) (below n)
+reached_in zero n s l bunch = passing (λ name. is_entry s bunch name && is_root n s l bunch name) 0 n
 reached_in (suc steps) n s l bunch =
     let reached : List ℕ = reached_in steps n s l bunch in
-    filter (λ name. is_entry s bunch name && (is_listed reached name || list_any (λ from. refers s from name) reached)) (below n)
+    passing (λ name. is_entry s bunch name && (is_listed reached name || list_any (λ from. refers s from name) reached)) 0 n
 
 -- the records of names below n from nodes below n, in order
 abbrev pub records_below : ℕ → NodeState → List Record
@@ -66,13 +70,13 @@ told_nothing = record { kept = []; owned = []; gone = []; children = []; records
 abbrev pub told_kept : ℕ → LinkedNode → ℕ → List ℕ → CollectorTold
 told_kept n node bunch kept = record told_nothing {
   kept = kept;
-  owned = filter (is_owned node.state bunch) (below n);
-  gone = filter (goes node.state bunch kept) (below n);
+  owned = passing (is_owned node.state bunch) 0 n;
+  gone = passing (goes node.state bunch kept) 0 n;
 }
 
 -- what an input is told at node me
 abbrev pub found : ℕ → ℕ → LinkedNode → CollectorInput → CollectorTold
 found n me node (Collect bunch) = told_kept n node bunch (reached_in n n node.state node.links bunch)
 found n me node Sweep = record told_nothing { dropped = filter (is_dropped n me node.places) (first_words n) }
-found n me node (MakeTable bunch to) = record told_nothing { children = filter (is_child node.state bunch to) (below n) }
+found n me node (MakeTable bunch to) = record told_nothing { children = passing (is_child node.state bunch to) 0 n }
 found n me node (TakeTable table) = record told_nothing { records = records_below n node.state }

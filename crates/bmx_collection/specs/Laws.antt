@@ -1,11 +1,13 @@
 -- What holds of a collector's step by the definitions alone, whatever came before it.
-use Rattle.std.specs.Prelude.{◌≡◌, ℕ, ◌+◌, false, true, List, Some, None}
+use Rattle.std.specs.Prelude.{◌≡◌, ℕ, suc, ◌+◌, ◌<◌, false, true, List, Some, None}
 use Rattle.bmx_table.specs.declared.tables.Table.{Table}
 use Rattle.bmx_clean.specs.declared.cleaner.Applied.TheVariants.{Early, Removed}
 use Rattle.bmx_protocol.specs.Nodes.{Setting, NodeState, Known, AreAll}
 use Rattle.bmx_collection.specs.Links.{Links}
 use Rattle.bmx_collection.specs.Reach.{is_entry, refers, is_busy, IsRoot, IsReachedHere, MayBeKept}
-use Rattle.bmx_collection.specs.Steps.{LinkedNode, CollectorInput, Collect, TakeTable, CollectorAnswer, Forgot, Swept, Cleaned, Nil, Refused, Stray, CollectorDone, IsCollectorStep, counted}
+use Rattle.bmx_collection.specs.Steps.{LinkedNode, CollectorInput, Collect, TakeTable, CollectorAnswer, Forgot, Swept, Cleaned, Nil, Refused, Stray, CollectorDone, MakeTable, IsCollectorTold, IsCollectorStep, counted}
+use Rattle.bmx_owner.specs.declared.entering.Record.{Record}
+use Rattle.bmx_collection.specs.Finding.{reached_in, found}
 
 -- ## one step
 
@@ -95,3 +97,21 @@ SecondTakingRemovesNothing =
     (st : Setting) (me stamp later : ℕ) (t : Table) (n m n' : LinkedNode) (c d : CollectorDone) →
     IsCollectorStep st me n stamp (TakeTable t) c m → IsCollectorStep st me m later (TakeTable t) d n' →
     RemovedNothing d.answer × (n' ≡ counted m)
+
+-- ## lists found by looking
+
+-- all names that a node knows or has records of, and the nodes of these, are below n
+pub record IsWithin (n : ℕ) (s : NodeState) : Type 0 where
+  pub names : (name : ℕ) (k : Known) → s.known name ≡ Some k → name < n
+  pub records : (name node : ℕ) (r : Record) → s.entering name node ≡ Some r → node < n
+
+-- no step more reaches another name
+abbrev pub IsSettled : ℕ → LinkedNode → ℕ → Type 0
+IsSettled n node bunch = reached_in (suc n) n node.state node.links bunch ≡ reached_in n n node.state node.links bunch
+
+-- what is found below n is what a collection and a table are to be told, where the node has nothing else
+pub record FoundIsTold : Type 0 where
+  pub collections : (n me bunch : ℕ) (node : LinkedNode) → IsWithin n node.state → IsSettled n node bunch →
+      IsCollectorTold me node (Collect bunch) (found n me node (Collect bunch))
+  pub tables : (n me bunch to : ℕ) (node : LinkedNode) → IsWithin n node.state →
+      IsCollectorTold me node (MakeTable bunch to) (found n me node (MakeTable bunch to))

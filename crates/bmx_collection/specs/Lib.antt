@@ -9,3 +9,4 @@ pub mod Finding
 pub mod Playing
 pub mod Cases
 pub mod Laws
+pub mod Telling

@@ -1,4 +1,5 @@
-ghost use Rattle.bmx_collection.specs.Laws.{CollectorStepIsDetermined, CollectorRefusalKeeps, CollectorTouchesNoToken, ReachMayBeKept, ReachWithoutReferencesIsRoots, CollectionKeepsItsReach, SecondTakingRemovesNothing};
+ghost use Rattle.bmx_collection.specs.Laws.{CollectorStepIsDetermined, CollectorRefusalKeeps, CollectorTouchesNoToken, ReachMayBeKept, ReachWithoutReferencesIsRoots, CollectionKeepsItsReach, SecondTakingRemovesNothing, FoundIsTold};
+ghost use Rattle.bmx_collection.specs.Telling.{RunsTell};
 
 /// The law that a collector's step makes one outcome and one node of a node, an input and a stamp. It does nothing.
 pub fn collector_step_is_determined()
@@ -36,4 +37,16 @@ pub fn collection_keeps_its_reach()
 /// The law that a table that is taken twice in a row removes nothing the second time. It does nothing.
 pub fn second_taking_removes_nothing()
     ensures { SecondTakingRemovesNothing }
+{}
+
+/// The law that what is found by looking at all names of a node is what a collection and a table are to be told. It does
+/// nothing.
+pub fn found_is_told()
+    ensures { FoundIsTold }
+{}
+
+/// The law that the definitions say something: the first collection of a fresh store is a step, and three worked runs
+/// with one answer changed are not what the rules say. It does nothing.
+pub fn runs_tell()
+    ensures { RunsTell }
 {}

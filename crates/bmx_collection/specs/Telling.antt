@@ -1,0 +1,31 @@
+-- That the definitions say something: the first collection of a fresh store is a step, and three of the worked runs
+-- with one answer changed are not what the rules say.
+use Rattle.std.specs.Prelude.{◌≡◌, ℕ, zero, suc, List, [], ◌∷◌, Some, None}
+use Rattle.bmx_types.specs.Words.{address_word}
+use Rattle.bmx_clean.specs.declared.cleaner.Applied.TheVariants.{Removed}
+use Rattle.bmx_protocol.specs.Cases.{one_bunch}
+use Rattle.bmx_collection.specs.Steps.{LinkedNode, first_linked, Collect, Forgot, Cleaned, IsCollectorStep}
+use Rattle.bmx_collection.specs.Playing.{Said, SaysOf, Line, IsSaidOf}
+use Rattle.bmx_collection.specs.Cases.ALateTable as late
+use Rattle.bmx_collection.specs.Cases.AFullCollection as full
+use Rattle.bmx_collection.specs.Cases.OnlyARegisterElsewhere as elsewhere
+
+-- the lines with something else said of one of them, counted from 0
+abbrev pub with_said : List Line → ℕ → Said → List Line
+with_said [] i s = []
+with_said (l ∷ lines) zero s = record l { said = s } ∷ lines
+with_said (l ∷ lines) (suc i) s = l ∷ with_said lines i s
+
+-- the first collection of a store of one bunch forgets nothing, and the anchor moves to a segment made for it
+pub record FirstCollectionIsAStep : Type 0 where
+  pub after : LinkedNode
+  pub step : IsCollectorStep (one_bunch 2) 0 (first_linked (one_bunch 2) 0) 1 (Collect 0) (record { answer = Forgot 0; table = None }) after
+  pub moved : after.places.place 1 ≡ Some (record { address = address_word 0 2 0; moves = 1 })
+
+-- none of these is said: that the late table ended a record; that the second collection was done though segments were
+-- lacking; that an object was forgotten that a record keeps
+pub record RunsTell : Type 0 where
+  pub first : FirstCollectionIsAStep
+  pub late : IsSaidOf (one_bunch 2) (with_said late.lines 46 (SaysOf 37 (Cleaned (Removed 1)) None)) → ⊥
+  pub full : IsSaidOf (record (one_bunch 1) { limit = 2 }) (with_said full.lines 6 (SaysOf 7 (Forgot 0) None)) → ⊥
+  pub kept : IsSaidOf (one_bunch 2) (with_said elsewhere.lines 23 (SaysOf 21 (Forgot 1) None)) → ⊥
