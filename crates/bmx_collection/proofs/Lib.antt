@@ -7,3 +7,4 @@ pub mod Reaching
 pub mod Tokens
 pub mod Taking
 pub mod Telling
+pub mod Replayed

@@ -13,7 +13,7 @@ use Rattle.bmx_owner.specs.Records.{blank}
 use Rattle.bmx_protocol.specs.Cases.{one_bunch}
 use Rattle.bmx_collection.specs.Steps.{LinkedNode, first_linked, Collect, Forgot, Cleaned, Refused, collected, counted}
 use Rattle.bmx_collection.specs.Finding.{found}
-use Rattle.bmx_collection.specs.Playing.{Said, SaysOf}
+use Rattle.bmx_collection.specs.Playing.{Said, CollectorSays}
 use Rattle.bmx_collection.specs.Laws.{IsWithin}
 use Rattle.bmx_collection.specs.Telling.{FirstCollectionIsAStep, RunsTell}
 use Rattle.bmx_collection.proofs.Found.{found_is_told}
@@ -55,7 +55,7 @@ first_collection_is_a_step = record {
 pub runs_tell : RunsTell
 runs_tell = record {
   first = first_collection_is_a_step;
-  late = λ e. (let both : Some (SaysOf 37 (Cleaned (Removed 0)) None) ≡ Some (SaysOf 37 (Cleaned (Removed 1)) None) = ap (λ (xs : List Said). slice_get xs 46) e in cc);
-  full = λ e. (let both : Some (SaysOf 7 (Refused refusal.Full) None) ≡ Some (SaysOf 7 (Forgot 0) None) = ap (λ (xs : List Said). slice_get xs 6) e in cc);
-  kept = λ e. (let both : Some (SaysOf 21 (Forgot 0) None) ≡ Some (SaysOf 21 (Forgot 1) None) = ap (λ (xs : List Said). slice_get xs 23) e in cc);
+  late = λ e. (let both : Some (CollectorSays 37 (Cleaned (Removed 0)) None) ≡ Some (CollectorSays 37 (Cleaned (Removed 1)) None) = ap (λ (xs : List Said). slice_get xs 46) e in cc);
+  full = λ e. (let both : Some (CollectorSays 7 (Refused refusal.Full) None) ≡ Some (CollectorSays 7 (Forgot 0) None) = ap (λ (xs : List Said). slice_get xs 6) e in cc);
+  kept = λ e. (let both : Some (CollectorSays 21 (Forgot 0) None) ≡ Some (CollectorSays 21 (Forgot 1) None) = ap (λ (xs : List Said). slice_get xs 23) e in cc);
 }

@@ -1,13 +1,14 @@
 -- What holds of a collector's step by the definitions alone, whatever came before it.
-use Rattle.std.specs.Prelude.{◌≡◌, ℕ, suc, ◌+◌, ◌<◌, false, true, List, Some, None}
+use Rattle.std.specs.Prelude.{◌≡◌, ℕ, suc, ◌+◌, ◌++◌, ◌<◌, false, true, List, Some, None}
 use Rattle.bmx_table.specs.declared.tables.Table.{Table}
 use Rattle.bmx_clean.specs.declared.cleaner.Applied.TheVariants.{Early, Removed}
 use Rattle.bmx_protocol.specs.Nodes.{Setting, NodeState, Known, AreAll}
 use Rattle.bmx_collection.specs.Links.{Links}
 use Rattle.bmx_collection.specs.Reach.{is_entry, refers, is_busy, IsRoot, IsReachedHere, MayBeKept}
-use Rattle.bmx_collection.specs.Steps.{LinkedNode, CollectorInput, Collect, TakeTable, CollectorAnswer, Forgot, Swept, Cleaned, Nil, Refused, Stray, CollectorDone, MakeTable, IsCollectorTold, IsCollectorStep, counted}
+use Rattle.bmx_collection.specs.Steps.{LinkedNode, first_linked, CollectorInput, Collect, TakeTable, CollectorAnswer, Forgot, Swept, Cleaned, Nil, Refused, Stray, CollectorDone, MakeTable, IsCollectorTold, IsCollectorStep, counted}
 use Rattle.bmx_owner.specs.declared.entering.Record.{Record}
 use Rattle.bmx_collection.specs.Finding.{reached_in, found}
+use Rattle.bmx_collection.specs.Histories.{LinkedEvent, ReplaysLinked, IsLegalLinked}
 
 -- ## one step
 
@@ -115,3 +116,15 @@ pub record FoundIsTold : Type 0 where
       IsCollectorTold me node (Collect bunch) (found n me node (Collect bunch))
   pub tables : (n me bunch to : ℕ) (node : LinkedNode) → IsWithin n node.state →
       IsCollectorTold me node (MakeTable bunch to) (found n me node (MakeTable bunch to))
+
+-- ## histories
+
+-- each prefix of a legal history with collectors is legal
+abbrev pub PrefixIsLegalLinked : Type 0
+PrefixIsLegalLinked = (st : Setting) (past rest : List LinkedEvent) → IsLegalLinked st (past ++ rest) → IsLegalLinked st past
+
+-- such a history leads to one world of nodes
+abbrev pub LinkedReplayIsDetermined : Type 0
+LinkedReplayIsDetermined =
+    (st : Setting) (history : List LinkedEvent) (nodes others : ℕ → LinkedNode) →
+    ReplaysLinked st (first_linked st) history nodes → ReplaysLinked st (first_linked st) history others → nodes ≡ others

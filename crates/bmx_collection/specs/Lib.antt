@@ -5,6 +5,7 @@ pub mod ToSpaces
 pub mod Sweeps
 pub mod Tables
 pub mod Steps
+pub mod Histories
 pub mod Finding
 pub mod Playing
 pub mod Cases

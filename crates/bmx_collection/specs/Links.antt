@@ -1,6 +1,6 @@
 -- What a node keeps of references between bunches, beside its state: a stub and a scion for each, and how many
 -- tables it has made. A store and a grant make them.
-use Rattle.std.specs.Prelude.{ℕ, ◌+◌, if◌then◌else◌, List, [], ◌∷◌, filter_map, Option, None}
+use Rattle.std.specs.Prelude.{◌≡◌, ℕ, ◌+◌, if◌then◌else◌, List, [], ◌∷◌, filter_map, Option, None}
 use Rattle.std.specs.Option.{option_map, option_map_or}
 use Rattle.std.specs.List.{fold}
 use Rattle.bmx_types.specs.declared.addresses.Info.{Info}
@@ -12,12 +12,13 @@ use Rattle.bmx_msg.specs.declared.letters.Field.{Field}
 use Rattle.bmx_msg.specs.declared.letters.Msg.{Msg}
 use Rattle.bmx_inter.specs.declared.inter.Stub.{Stub}
 use Rattle.bmx_inter.specs.declared.inter.Scion.{Scion}
-use Rattle.bmx_inter.specs.Inter.{stub_of, stubs_with, scions_with}
+use Rattle.bmx_inter.specs.Order.{IsInOrder}
+use Rattle.bmx_inter.specs.Inter.{stub_pair, scion_pair, stub_of, stubs_with, scions_with}
 use Rattle.bmx_barrier.specs.Barrier.{needs_pair}
 use Rattle.bmx_protocol.specs.declared.inputs.Input.{Input}
 use Rattle.bmx_protocol.specs.declared.inputs.Input.TheVariants as input
 use Rattle.bmx_protocol.specs.declared.inputs.NodeAnswer.{NodeAnswer}
-use Rattle.bmx_protocol.specs.Nodes.{NodeState, seen_graph, field_of}
+use Rattle.bmx_protocol.specs.Nodes.{NodeState, AreNumbers, seen_graph, field_of}
 use Rattle.bmx_protocol.specs.Rules.{told_field, grant_in, info_in}
 use Rattle.bmx_protocol.specs.Steps.{is_nil, is_taken, nowhere}
 
@@ -30,6 +31,14 @@ pub record Links : Type 0 where
 -- a node opens with neither stub nor scion, and has made no table
 abbrev pub no_links : Links
 no_links = record { stubs = []; scions = []; tables = λ n. 0 }
+
+-- a view of a node of so many lists them: the stubs and scions, in order, and a number of tables for each node
+pub record ShowsLinks (nodes : ℕ) (stubs : List Stub) (scions : List Scion) (tables : List ℕ) (l : Links) : Type 0 where
+  pub all_stubs : stubs ≡ l.stubs
+  pub all_scions : scions ≡ l.scions
+  pub stubs_in_order : IsInOrder stub_pair stubs
+  pub scions_in_order : IsInOrder scion_pair scions
+  pub made : AreNumbers nodes tables l.tables
 
 -- ## pairs
 

@@ -17,15 +17,15 @@ use Rattle.bmx_collection.specs.Finding.{found}
 
 -- what comes next: a move without a collector, what a node's collector does, or a node takes the table that was made
 -- after so many others
-pub data Act : Type 0 where
-  Of : Move → Act
-  By : (node : ℕ) → CollectorInput → Act
-  Takes : (node made : ℕ) → Act
+pub data LinkedMove : Type 0 where
+  Of : Move → LinkedMove
+  By : (node : ℕ) → CollectorInput → LinkedMove
+  Takes : (node made : ℕ) → LinkedMove
 
 -- what is said of a step: its stamp, its answer, and its letters or the table that it made
 pub data Said : Type 0 where
-  Says : (stamp : ℕ) (a : NodeAnswer) (letters : List Sending) → Said
-  SaysOf : (stamp : ℕ) (a : CollectorAnswer) (table : Option Table) → Said
+  NodeSays : (stamp : ℕ) (a : NodeAnswer) (letters : List Sending) → Said
+  CollectorSays : (stamp : ℕ) (a : CollectorAnswer) (table : Option Table) → Said
 
 -- nodes and their stamps, the events without a collector, the tables made, and what was said of each step
 pub record LinkedPlay : Type 0 where
@@ -55,7 +55,7 @@ with_reaction p me stamp i o =
       nodes = put p.nodes me (linked_after me (p.nodes me) stamp i o);
       stamps = put p.stamps me stamp;
       past = p.past ++ e ∷ [];
-      said = p.said ++ Says stamp e.done.answer e.done.letters ∷ [];
+      said = p.said ++ NodeSays stamp e.done.answer e.done.letters ∷ [];
     }
 
 abbrev pub with_move : Setting → LinkedPlay → ℕ → Input → LinkedPlay
@@ -73,7 +73,7 @@ with_reaction_of p me stamp r = record p {
   nodes = put p.nodes me (counted r.node);
   stamps = put p.stamps me stamp;
   tables = tables_with p.tables r.table;
-  said = p.said ++ SaysOf stamp r.answer r.table ∷ [];
+  said = p.said ++ CollectorSays stamp r.answer r.table ∷ [];
 }
 
 abbrev pub with_collector : Setting → LinkedPlay → ℕ → CollectorInput → LinkedPlay
@@ -87,27 +87,27 @@ with_taken st p me None = p
 with_taken st p me (Some t) = with_collector st p me (TakeTable t)
 
 -- by what comes next
-abbrev pub with_act : Setting → LinkedPlay → Act → LinkedPlay
-with_act st p (Of m) = with_move st p (mover m) (input_of p.past m)
-with_act st p (By me i) = with_collector st p me i
-with_act st p (Takes me made) = with_taken st p me (slice_get p.tables made)
+abbrev pub with_linked_move : Setting → LinkedPlay → LinkedMove → LinkedPlay
+with_linked_move st p (Of m) = with_move st p (mover m) (input_of p.past m)
+with_linked_move st p (By me i) = with_collector st p me i
+with_linked_move st p (Takes me made) = with_taken st p me (slice_get p.tables made)
 
-abbrev pub with_acts : Setting → LinkedPlay → List Act → LinkedPlay
-with_acts st p [] = p
-with_acts st p (a ∷ acts) = with_acts st (with_act st p a) acts
+abbrev pub with_linked_moves : Setting → LinkedPlay → List LinkedMove → LinkedPlay
+with_linked_moves st p [] = p
+with_linked_moves st p (a ∷ moves) = with_linked_moves st (with_linked_move st p a) moves
 
 -- from the opening
-abbrev pub acted : Setting → List Act → LinkedPlay
-acted st acts = with_acts st (record { nodes = first_linked st; stamps = λ n. 0; past = []; tables = []; said = [] }) acts
+abbrev pub played_linked : Setting → List LinkedMove → LinkedPlay
+played_linked st moves = with_linked_moves st (record { nodes = first_linked st; stamps = λ n. 0; past = []; tables = []; said = [] }) moves
 
--- an act, and what is to be said of its step
-pub record Line : Type 0 where
-  pub act : Act
+-- a move, and what is to be said of its step
+pub record LinkedLine : Type 0 where
+  pub move : LinkedMove
   pub said : Said
 
-abbrev pub by : Act → Said → Line
-by a s = record { act = a; said = s }
+abbrev pub by : LinkedMove → Said → LinkedLine
+by a s = record { move = a; said = s }
 
--- of the acts of the lines it is said so
-abbrev pub IsSaidOf : Setting → List Line → Type 0
-IsSaidOf st lines = (acted st (map (λ l. l.act) lines)).said ≡ map (λ l. l.said) lines
+-- of the moves of the lines it is said so
+abbrev pub IsSaidOf : Setting → List LinkedLine → Type 0
+IsSaidOf st lines = (played_linked st (map (λ l. l.move) lines)).said ≡ map (λ l. l.said) lines

@@ -5,13 +5,13 @@ use Rattle.bmx_types.specs.Words.{address_word}
 use Rattle.bmx_clean.specs.declared.cleaner.Applied.TheVariants.{Removed}
 use Rattle.bmx_protocol.specs.Cases.{one_bunch}
 use Rattle.bmx_collection.specs.Steps.{LinkedNode, first_linked, Collect, Forgot, Cleaned, IsCollectorStep}
-use Rattle.bmx_collection.specs.Playing.{Said, SaysOf, Line, IsSaidOf}
+use Rattle.bmx_collection.specs.Playing.{Said, CollectorSays, LinkedLine, IsSaidOf}
 use Rattle.bmx_collection.specs.Cases.ALateTable as late
 use Rattle.bmx_collection.specs.Cases.AFullCollection as full
 use Rattle.bmx_collection.specs.Cases.OnlyARegisterElsewhere as elsewhere
 
 -- the lines with something else said of one of them, counted from 0
-abbrev pub with_said : List Line → ℕ → Said → List Line
+abbrev pub with_said : List LinkedLine → ℕ → Said → List LinkedLine
 with_said [] i s = []
 with_said (l ∷ lines) zero s = record l { said = s } ∷ lines
 with_said (l ∷ lines) (suc i) s = l ∷ with_said lines i s
@@ -26,6 +26,6 @@ pub record FirstCollectionIsAStep : Type 0 where
 -- lacking; that an object was forgotten that a record keeps
 pub record RunsTell : Type 0 where
   pub first : FirstCollectionIsAStep
-  pub late : IsSaidOf (one_bunch 2) (with_said late.lines 46 (SaysOf 37 (Cleaned (Removed 1)) None)) → ⊥
-  pub full : IsSaidOf (record (one_bunch 1) { limit = 2 }) (with_said full.lines 6 (SaysOf 7 (Forgot 0) None)) → ⊥
-  pub kept : IsSaidOf (one_bunch 2) (with_said elsewhere.lines 23 (SaysOf 21 (Forgot 1) None)) → ⊥
+  pub late : IsSaidOf (one_bunch 2) (with_said late.lines 46 (CollectorSays 37 (Cleaned (Removed 1)) None)) → ⊥
+  pub full : IsSaidOf (record (one_bunch 1) { limit = 2 }) (with_said full.lines 6 (CollectorSays 7 (Forgot 0) None)) → ⊥
+  pub kept : IsSaidOf (one_bunch 2) (with_said elsewhere.lines 23 (CollectorSays 21 (Forgot 1) None)) → ⊥

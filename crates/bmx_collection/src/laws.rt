@@ -1,4 +1,4 @@
-ghost use Rattle.bmx_collection.specs.Laws.{CollectorStepIsDetermined, CollectorRefusalKeeps, CollectorTouchesNoToken, ReachMayBeKept, ReachWithoutReferencesIsRoots, CollectionKeepsItsReach, SecondTakingRemovesNothing, FoundIsTold};
+ghost use Rattle.bmx_collection.specs.Laws.{CollectorStepIsDetermined, CollectorRefusalKeeps, CollectorTouchesNoToken, ReachMayBeKept, ReachWithoutReferencesIsRoots, CollectionKeepsItsReach, SecondTakingRemovesNothing, FoundIsTold, PrefixIsLegalLinked, LinkedReplayIsDetermined};
 ghost use Rattle.bmx_collection.specs.Telling.{RunsTell};
 
 /// The law that a collector's step makes one outcome and one node of a node, an input and a stamp. It does nothing.
@@ -49,4 +49,14 @@ pub fn found_is_told()
 /// with one answer changed are not what the rules say. It does nothing.
 pub fn runs_tell()
     ensures { RunsTell }
+{}
+
+/// The law that each prefix of a legal history with collectors is legal. It does nothing.
+pub fn prefix_is_legal_linked()
+    ensures { PrefixIsLegalLinked }
+{}
+
+/// The law that a history with collectors leads to one world of nodes. It does nothing.
+pub fn linked_replay_is_determined()
+    ensures { LinkedReplayIsDetermined }
 {}

@@ -8,22 +8,22 @@ use Rattle.bmx_clean.specs.declared.cleaner.Applied.TheVariants.{Removed}
 use Rattle.bmx_protocol.specs.declared.inputs.NodeAnswer.TheVariants as answer
 use Rattle.bmx_protocol.specs.Cases.{Do, one_bunch}
 use Rattle.bmx_collection.specs.Steps.{Collect, MakeTable, Forgot, Cleaned, Nil, Refused}
-use Rattle.bmx_collection.specs.Playing.{Of, By, Takes, Says, SaysOf, Line, by, IsSaidOf, LinkedPlay, acted}
+use Rattle.bmx_collection.specs.Playing.{Of, By, Takes, NodeSays, CollectorSays, LinkedLine, by, IsSaidOf, LinkedPlay, played_linked}
 use Rattle.bmx_collection.specs.Cases.Stores.{table, lives, went, left_at}
 
 -- what comes next, and what is to be said of it
-abbrev pub lines : List Line
+abbrev pub lines : List LinkedLine
 lines =
-    by (Of (Do 0 (command.Write (operand.Anchor 0)))) (Says 1 answer.Nil [])
-    ∷ by (Of (Do 0 (command.Set (operand.Anchor 0) 0 (operand.Int (pos 6))))) (Says 2 answer.Nil [])
-    ∷ by (Of (Do 0 (command.Done (operand.Anchor 0)))) (Says 3 answer.Nil [])
-    ∷ by (By 0 (Collect 0)) (SaysOf 4 (Forgot 0) None)
-    ∷ by (By 0 (MakeTable 0 0)) (SaysOf 5 Nil (Some (table 0 0 1 5 0 0 0 5 [] [])))
-    ∷ by (Takes 0 0) (SaysOf 6 (Cleaned (Removed 0)) None)
-    ∷ by (By 0 (Collect 0)) (SaysOf 7 (Refused refusal.Full) None)
-    ∷ by (Of (Do 0 (command.Read (operand.Anchor 0)))) (Says 8 answer.Nil [])
-    ∷ by (Of (Do 0 (command.Show (operand.Anchor 0) 0))) (Says 9 (answer.Value (val.Int (pos 6))) [])
-    ∷ by (Of (Do 0 (command.Done (operand.Anchor 0)))) (Says 10 answer.Nil [])
+    by (Of (Do 0 (command.Write (operand.Anchor 0)))) (NodeSays 1 answer.Nil [])
+    ∷ by (Of (Do 0 (command.Set (operand.Anchor 0) 0 (operand.Int (pos 6))))) (NodeSays 2 answer.Nil [])
+    ∷ by (Of (Do 0 (command.Done (operand.Anchor 0)))) (NodeSays 3 answer.Nil [])
+    ∷ by (By 0 (Collect 0)) (CollectorSays 4 (Forgot 0) None)
+    ∷ by (By 0 (MakeTable 0 0)) (CollectorSays 5 Nil (Some (table 0 0 1 5 0 0 0 5 [] [])))
+    ∷ by (Takes 0 0) (CollectorSays 6 (Cleaned (Removed 0)) None)
+    ∷ by (By 0 (Collect 0)) (CollectorSays 7 (Refused refusal.Full) None)
+    ∷ by (Of (Do 0 (command.Read (operand.Anchor 0)))) (NodeSays 8 answer.Nil [])
+    ∷ by (Of (Do 0 (command.Show (operand.Anchor 0) 0))) (NodeSays 9 (answer.Value (val.Int (pos 6))) [])
+    ∷ by (Of (Do 0 (command.Done (operand.Anchor 0)))) (NodeSays 10 answer.Nil [])
     ∷ []
 
 a_full_collection : IsSaidOf (record (one_bunch 1) { limit = 2 }) lines
@@ -31,7 +31,7 @@ a_full_collection = refl
 
 -- the nodes at the end
 abbrev pub at_the_end : LinkedPlay
-at_the_end = acted (record (one_bunch 1) { limit = 2 }) (map (λ l. l.act) lines)
+at_the_end = played_linked (record (one_bunch 1) { limit = 2 }) (map (λ l. l.move) lines)
 
 left_at_node_0 :
     left_at (at_the_end.nodes 0) (1 ∷ []) (0x100000000 ∷ 0x200000000 ∷ []) []

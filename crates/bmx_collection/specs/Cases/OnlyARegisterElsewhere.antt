@@ -9,47 +9,47 @@ use Rattle.bmx_clean.specs.declared.cleaner.Applied.TheVariants.{Removed}
 use Rattle.bmx_protocol.specs.declared.inputs.NodeAnswer.TheVariants as answer
 use Rattle.bmx_protocol.specs.Cases.{Do, Serve, Next, one_bunch}
 use Rattle.bmx_collection.specs.Steps.{Collect, MakeTable, Forgot, Cleaned, Nil}
-use Rattle.bmx_collection.specs.Playing.{Of, By, Takes, Says, SaysOf, Line, by, IsSaidOf, LinkedPlay, acted}
+use Rattle.bmx_collection.specs.Playing.{Of, By, Takes, NodeSays, CollectorSays, LinkedLine, by, IsSaidOf, LinkedPlay, played_linked}
 use Rattle.bmx_collection.specs.Cases.Stores.{object, letter, table, lives, went, left_at}
 
 -- what comes next, and what is to be said of it
-abbrev pub lines : List Line
+abbrev pub lines : List LinkedLine
 lines =
-    by (Of (Do 0 (command.New 0 0 1))) (Says 1 answer.Nil [])
-    ∷ by (Of (Do 0 (command.Write (operand.Register 0)))) (Says 2 answer.Nil [])
-    ∷ by (Of (Do 0 (command.Set (operand.Register 0) 0 (operand.Int (pos 42))))) (Says 3 answer.Nil [])
-    ∷ by (Of (Do 0 (command.Done (operand.Register 0)))) (Says 4 answer.Nil [])
-    ∷ by (Of (Do 0 (command.Write (operand.Anchor 0)))) (Says 5 answer.Nil [])
-    ∷ by (Of (Do 0 (command.Set (operand.Anchor 0) 0 (operand.Register 0)))) (Says 6 answer.Nil [])
-    ∷ by (Of (Do 0 (command.Done (operand.Anchor 0)))) (Says 7 answer.Nil [])
-    ∷ by (Of (Do 1 (command.Read (operand.Anchor 0)))) (Says 1 answer.Wait (letter 0 1 1 (msg.ReadReq 1 1) ∷ []))
-    ∷ by (Of (Next 1 0)) (Says 8 answer.Nil [])
-    ∷ by (Of (Serve 0 1)) (Says 9 answer.Nil (letter 1 1 9 (msg.ReadGrant (object 1 0 32 0x100000000 0) (msg_field.Ref (object 2 0 1 0x100000024 0) ∷ replicate 31 msg_field.Null)) ∷ []))
-    ∷ by (Of (Next 0 1)) (Says 10 answer.Nil [])
-    ∷ by (Of (Do 1 (command.Read (operand.Anchor 0)))) (Says 11 answer.Nil [])
-    ∷ by (Of (Do 1 (command.Get 0 (operand.Anchor 0) 0))) (Says 12 (answer.Value (val.Ref 2)) [])
-    ∷ by (Of (Do 1 (command.Done (operand.Anchor 0)))) (Says 13 answer.Nil [])
-    ∷ by (Of (Do 0 (command.Write (operand.Anchor 0)))) (Says 10 answer.Wait [])
-    ∷ by (Of (Serve 0 1)) (Says 11 answer.Nil (letter 1 2 11 (msg.Inval 1) ∷ []))
-    ∷ by (Of (Next 0 1)) (Says 14 answer.Nil (letter 0 2 14 (msg.InvAck 1) ∷ []))
-    ∷ by (Of (Next 1 0)) (Says 15 answer.Nil [])
-    ∷ by (Of (Serve 0 1)) (Says 16 answer.Nil [])
-    ∷ by (Of (Do 0 (command.Write (operand.Anchor 0)))) (Says 17 answer.Nil [])
-    ∷ by (Of (Do 0 (command.Set (operand.Anchor 0) 0 operand.Null))) (Says 18 answer.Nil [])
-    ∷ by (Of (Do 0 (command.Done (operand.Anchor 0)))) (Says 19 answer.Nil [])
-    ∷ by (Of (Do 0 (command.Drop 0))) (Says 20 answer.Nil [])
-    ∷ by (By 0 (Collect 0)) (SaysOf 21 (Forgot 0) None)
-    ∷ by (By 0 (MakeTable 0 0)) (SaysOf 22 Nil (Some (table 0 0 1 22 0 0 0 19 [] [])))
-    ∷ by (By 0 (MakeTable 0 1)) (SaysOf 23 Nil (Some (table 0 1 1 23 0 2 2 20 [] [])))
-    ∷ by (Of (Do 1 (command.Read (operand.Register 0)))) (Says 15 answer.Wait (letter 0 3 15 (msg.ReadReq 2 1) ∷ []))
-    ∷ by (Takes 0 0) (SaysOf 24 (Cleaned (Removed 0)) None)
-    ∷ by (Of (Next 1 0)) (Says 25 answer.Nil [])
-    ∷ by (Of (Serve 0 2)) (Says 26 answer.Nil (letter 1 3 26 (msg.ReadGrant (object 2 0 1 0x200000024 1) (msg_field.Int (pos 42) ∷ [])) ∷ []))
-    ∷ by (Takes 1 1) (SaysOf 24 (Cleaned (Removed 0)) None)
-    ∷ by (Of (Next 0 1)) (Says 27 answer.Nil [])
-    ∷ by (Of (Do 1 (command.Read (operand.Register 0)))) (Says 28 answer.Nil [])
-    ∷ by (Of (Do 1 (command.Show (operand.Register 0) 0))) (Says 29 (answer.Value (val.Int (pos 42))) [])
-    ∷ by (Of (Do 1 (command.Done (operand.Register 0)))) (Says 30 answer.Nil [])
+    by (Of (Do 0 (command.New 0 0 1))) (NodeSays 1 answer.Nil [])
+    ∷ by (Of (Do 0 (command.Write (operand.Register 0)))) (NodeSays 2 answer.Nil [])
+    ∷ by (Of (Do 0 (command.Set (operand.Register 0) 0 (operand.Int (pos 42))))) (NodeSays 3 answer.Nil [])
+    ∷ by (Of (Do 0 (command.Done (operand.Register 0)))) (NodeSays 4 answer.Nil [])
+    ∷ by (Of (Do 0 (command.Write (operand.Anchor 0)))) (NodeSays 5 answer.Nil [])
+    ∷ by (Of (Do 0 (command.Set (operand.Anchor 0) 0 (operand.Register 0)))) (NodeSays 6 answer.Nil [])
+    ∷ by (Of (Do 0 (command.Done (operand.Anchor 0)))) (NodeSays 7 answer.Nil [])
+    ∷ by (Of (Do 1 (command.Read (operand.Anchor 0)))) (NodeSays 1 answer.Wait (letter 0 1 1 (msg.ReadReq 1 1) ∷ []))
+    ∷ by (Of (Next 1 0)) (NodeSays 8 answer.Nil [])
+    ∷ by (Of (Serve 0 1)) (NodeSays 9 answer.Nil (letter 1 1 9 (msg.ReadGrant (object 1 0 32 0x100000000 0) (msg_field.Ref (object 2 0 1 0x100000024 0) ∷ replicate 31 msg_field.Null)) ∷ []))
+    ∷ by (Of (Next 0 1)) (NodeSays 10 answer.Nil [])
+    ∷ by (Of (Do 1 (command.Read (operand.Anchor 0)))) (NodeSays 11 answer.Nil [])
+    ∷ by (Of (Do 1 (command.Get 0 (operand.Anchor 0) 0))) (NodeSays 12 (answer.Value (val.Ref 2)) [])
+    ∷ by (Of (Do 1 (command.Done (operand.Anchor 0)))) (NodeSays 13 answer.Nil [])
+    ∷ by (Of (Do 0 (command.Write (operand.Anchor 0)))) (NodeSays 10 answer.Wait [])
+    ∷ by (Of (Serve 0 1)) (NodeSays 11 answer.Nil (letter 1 2 11 (msg.Inval 1) ∷ []))
+    ∷ by (Of (Next 0 1)) (NodeSays 14 answer.Nil (letter 0 2 14 (msg.InvAck 1) ∷ []))
+    ∷ by (Of (Next 1 0)) (NodeSays 15 answer.Nil [])
+    ∷ by (Of (Serve 0 1)) (NodeSays 16 answer.Nil [])
+    ∷ by (Of (Do 0 (command.Write (operand.Anchor 0)))) (NodeSays 17 answer.Nil [])
+    ∷ by (Of (Do 0 (command.Set (operand.Anchor 0) 0 operand.Null))) (NodeSays 18 answer.Nil [])
+    ∷ by (Of (Do 0 (command.Done (operand.Anchor 0)))) (NodeSays 19 answer.Nil [])
+    ∷ by (Of (Do 0 (command.Drop 0))) (NodeSays 20 answer.Nil [])
+    ∷ by (By 0 (Collect 0)) (CollectorSays 21 (Forgot 0) None)
+    ∷ by (By 0 (MakeTable 0 0)) (CollectorSays 22 Nil (Some (table 0 0 1 22 0 0 0 19 [] [])))
+    ∷ by (By 0 (MakeTable 0 1)) (CollectorSays 23 Nil (Some (table 0 1 1 23 0 2 2 20 [] [])))
+    ∷ by (Of (Do 1 (command.Read (operand.Register 0)))) (NodeSays 15 answer.Wait (letter 0 3 15 (msg.ReadReq 2 1) ∷ []))
+    ∷ by (Takes 0 0) (CollectorSays 24 (Cleaned (Removed 0)) None)
+    ∷ by (Of (Next 1 0)) (NodeSays 25 answer.Nil [])
+    ∷ by (Of (Serve 0 2)) (NodeSays 26 answer.Nil (letter 1 3 26 (msg.ReadGrant (object 2 0 1 0x200000024 1) (msg_field.Int (pos 42) ∷ [])) ∷ []))
+    ∷ by (Takes 1 1) (CollectorSays 24 (Cleaned (Removed 0)) None)
+    ∷ by (Of (Next 0 1)) (NodeSays 27 answer.Nil [])
+    ∷ by (Of (Do 1 (command.Read (operand.Register 0)))) (NodeSays 28 answer.Nil [])
+    ∷ by (Of (Do 1 (command.Show (operand.Register 0) 0))) (NodeSays 29 (answer.Value (val.Int (pos 42))) [])
+    ∷ by (Of (Do 1 (command.Done (operand.Register 0)))) (NodeSays 30 answer.Nil [])
     ∷ []
 
 only_a_register_elsewhere : IsSaidOf (one_bunch 2) lines
@@ -57,7 +57,7 @@ only_a_register_elsewhere = refl
 
 -- the nodes at the end
 abbrev pub at_the_end : LinkedPlay
-at_the_end = acted (one_bunch 2) (map (λ l. l.act) lines)
+at_the_end = played_linked (one_bunch 2) (map (λ l. l.move) lines)
 
 left_at_node_0 :
     left_at (at_the_end.nodes 0) (1 ∷ 2 ∷ []) (0x100000000 ∷ 0x100000024 ∷ 0x200000000 ∷ 0x200000024 ∷ []) ((1, 1) ∷ (2, 1) ∷ [])
