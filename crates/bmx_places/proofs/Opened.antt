@@ -6,19 +6,21 @@ use Rattle.bmx_types.specs.Words.{maker, count_of}
 use Rattle.bmx_types.specs.Openings.{IsOpening, bunches_of}
 use Rattle.bmx_types.specs.declared.openings.Birth.{Birth}
 use Rattle.bmx_types.specs.declared.addresses.Place.{Place}
+use Rattle.bmx_types.specs.declared.addresses.Info.{Info}
 use Rattle.bmx_types.specs.declared.values.Val.{Val}
 use Rattle.bmx_types.specs.Updates.{put}
 use Rattle.bmx_owner.specs.declared.entering.Record.{Record}
 use Rattle.bmx_owner.specs.Records.{blank}
 use Rattle.bmx_protocol.specs.Nodes.{Setting, Known, field_of, is_anchor, birth_of, owned_birth, heard_birth, first_known, first_entering}
 use Rattle.bmx_protocol.specs.Places.{Places, has_room, with_segment, with_made, with_placed, no_places, with_births, by_bunch, owner_places, told_place, with_told}
+use Rattle.bmx_protocol.specs.Strays.{clashes}
 use Rattle.bmx_protocol.specs.Steps.{first_node}
 use Rattle.bmx_protocol.specs.Worlds.{World, world_of}
 use Rattle.bmx_protocol.proofs.Births.{In, Distinct, every_in, every_of, in_contains, found, numbered_above, in_bunches, of_bunches, all_bunches, distinct_bunches, learns, learns_in, distinct, ordered, known_first, anchors, anchors_of, known_told}
 use Rattle.bmx_store_laws.specs.Laws.{IsCounted}
-use Rattle.bmx_protocol.proofs.Basics.{Every, none_some, some_same}
-use Rattle.bmx_places.specs.Ledger.{Block, AreBlocks, block_at, LiesIn, IsOf}
-use Rattle.bmx_places.proofs.Blocks.{at_same, at_apart, Keeps, object_keeps}
+use Rattle.bmx_protocol.proofs.Basics.{Every, none_some, some_same, eqb_apart}
+use Rattle.bmx_places.specs.Ledger.{Block, AreBlocks, block_at, LiesIn, IsOf, block_of}
+use Rattle.bmx_places.proofs.Blocks.{at_same, at_apart, Keeps, object_keeps, no_clash}
 use Rattle.bmx_places.proofs.Making.{IsLaterThan, blocks_later, IsHome, with_block, made_or_old, home_made, handed_more, made_blocks, made_keeps}
 use Rattle.bmx_places.proofs.Plain.{AllOf}
 use Rattle.bmx_places.proofs.Kept.{Kept, none_yet}
@@ -184,7 +186,7 @@ module _ (st : Setting) (opening : IsOpening st.nodes st.limit st.births) where
       (distinct_bunches st.births (distinct st opening) (bunches_of st.births)) (omega (arith, few_ordered)) nobody
 
   owner_keeps : Keeps placed.blocks (first_known st 0) owned
-  owner_keeps = keeps_same placed.blocks (learns owned_birth (λ x. None) (ordered st opening)) (first_known st 0) owned (known_first st opening) placed.keeps
+  owner_keeps = keeps_same placed.blocks (learns owned_birth (λ x. None) (ordered st opening)) (first_known st 0) owned (known_first st opening owned_birth) placed.keeps
 
   -- ## other nodes
 
@@ -211,13 +213,39 @@ module _ (st : Setting) (opening : IsOpening st.nodes st.limit st.births) where
       one None = h
       one (Some p) = record { opened = h.opened; above = h.above; within = h.within; few = h.few }
 
+  -- what an anchor is told as to another node that has heard of others clashes with none of them
+  pub told_fits : (me : ℕ) → 0 < me → (bs : List Birth) → Every (λ (b : Birth). In b st.births) bs → (b : Birth) → In b st.births → (info : Info) →
+      info.name ≡ b.name → info.bunch ≡ b.bunch → info.size ≡ length b.fields → owned.place b.name ≡ Some info.place →
+      clashes me (learns heard_birth (λ x. None) bs) (with_told owned no_places bs) info ≡ false
+  told_fits me other bs of b there info named bunched sized placed_at =
+      no_clash st (world_at owned) placed.blocks placed.are me info told (learns heard_birth (λ x. None) bs) (with_told owned no_places bs)
+      (told_keeps bs (λ x. None) no_places of (no_keeps placed.blocks (λ x. None) (λ x. refl))) (λ s. handed bs no_places s ∙ sym (λ i. (cond (eqb_apart me 0 (omega (arith, other)) i) owned no_places).handed s))
+    where
+      l : LiesIn placed.blocks (owned.place b.name) b.name (owned_birth b)
+      l = lies_there b there
+
+      same : l.place ≡ info.place
+      same = some_same (sym l.lies ∙ placed_at)
+
+      told : placed.blocks info.place.address ≡ Some (block_of info)
+      told = ap (λ (p : Place). placed.blocks p.address) (sym same) ∙ l.block
+          ∙ (λ i. Some (record { name = sym named i; bunch = sym bunched i; size = sym sized i; moves = (same i).moves }))
+
+      handed : (bs : List Birth) (a : Places) (s : ℕ) → (with_told owned a bs).handed s ≡ a.handed s
+      handed [] a s = refl
+      handed (c ∷ bs) a s = handed bs (told_place a (owned.place c.name) c) s ∙ one (owned.place c.name)
+        where
+          one : (p : Option Place) → (told_place a p c).handed s ≡ a.handed s
+          one None = refl
+          one (Some p) = refl
+
   -- ## all nodes
 
   node_keeps : (n : ℕ) (t u : Bool) → (n == 0) ≡ t → nat_lt n st.nodes ≡ u →
       Keeps placed.blocks (λ x. cond t (option_map owned_birth (birth_of st x)) (cond (u && is_anchor st x) (option_map heard_birth (birth_of st x)) None))
       (cond t owned (cond u (with_told owned no_places (anchors st opening)) no_places))
   node_keeps n true u e f = owner_keeps
-  node_keeps n false true e f = keeps_same placed.blocks (learns heard_birth (λ x. None) (anchors st opening)) _ (with_told owned no_places (anchors st opening)) (known_told st opening)
+  node_keeps n false true e f = keeps_same placed.blocks (learns heard_birth (λ x. None) (anchors st opening)) _ (with_told owned no_places (anchors st opening)) (known_told st opening heard_birth)
       (told_keeps (anchors st opening) (λ x. None) no_places (anchors_of st opening) (no_keeps placed.blocks (λ x. None) (λ x. refl)))
   node_keeps n false false e f = no_keeps placed.blocks _ (λ x. refl)
 

@@ -201,18 +201,6 @@ module _ (st : Setting) (opening : IsOpening st.nodes st.limit st.births) where
   abbrev pub ordered : List Birth
   ordered = by_bunch st.births (bunches_of st.births)
 
-  -- what node 0 knows at first
-  pub known_first : (x : ℕ) → option_map owned_birth (birth_of st x) ≡ learns owned_birth (λ x. None) ordered x
-  known_first x = by_birth (birth_of st x) refl
-    where
-      by_birth : (b : Option Birth) → birth_of st x ≡ b → option_map owned_birth b ≡ learns owned_birth (λ x. None) ordered x
-      by_birth None e = sym (learns_not owned_birth ordered (λ x. None) x (every_of (λ (b : Birth). b.name ≢ x) ordered
-          (λ b there. every_in (λ (b : Birth). b.name ≢ x) st.births b (not_found st.births x e) (of_bunches st.births (bunches_of st.births) b there).0)))
-      by_birth (Some b) e =
-          let f : In b st.births × (b.name ≡ x) = found st.births x b e in
-          sym (learns_in owned_birth ordered (λ x. None) b (distinct_bunches st.births distinct (bunches_of st.births)) (all_bunches st.births (bunches_of st.births) b f.0 (in_bunches st.births b f.0)))
-          ∙ ap (learns owned_birth (λ x. None) ordered) f.1
-
   -- those of which other nodes have heard
   abbrev pub anchors : List Birth
   anchors = filter (λ b. is_anchor st b.name) st.births
@@ -220,23 +208,38 @@ module _ (st : Setting) (opening : IsOpening st.nodes st.limit st.births) where
   pub anchors_of : Every (λ (b : Birth). In b st.births) anchors
   anchors_of = every_of (λ (b : Birth). In b st.births) anchors (λ b there. (filtered (λ b. is_anchor st b.name) st.births b there).0)
 
-  -- what they know at first
-  pub known_told : (x : ℕ) → cond (is_anchor st x) (option_map heard_birth (birth_of st x)) None ≡ learns heard_birth (λ x. None) anchors x
-  known_told x = by_birth (birth_of st x) refl (is_anchor st x) refl
+  -- births that are those whose names pass a test, told one after another, are known as what their names find
+  pub known_by : {A : Type 0} (f : Birth → A) (test : ℕ → Bool) (bs : List Birth) → Distinct bs →
+      ((b : Birth) → In b bs → In b st.births × (test b.name ≡ true)) → ((b : Birth) → In b st.births → test b.name ≡ true → In b bs) →
+      (x : ℕ) → cond (test x) (option_map f (birth_of st x)) None ≡ learns f (λ x. None) bs x
+  known_by f test bs apart of all x = by_birth (birth_of st x) refl (test x) refl
     where
-      none : (b : Bool) → cond b (option_map heard_birth None) None ≡ None
+      none : (t : Bool) → cond t (option_map f None) None ≡ None
       none true = refl
       none false = refl
 
-      by_birth : (b : Option Birth) → birth_of st x ≡ b → (t : Bool) → is_anchor st x ≡ t → cond t (option_map heard_birth b) None ≡ learns heard_birth (λ x. None) anchors x
-      by_birth None e t is = none t ∙ sym (learns_not heard_birth anchors (λ x. None) x (every_of (λ (b : Birth). b.name ≢ x) anchors
-          (λ b there. every_in (λ (b : Birth). b.name ≢ x) st.births b (not_found st.births x e) (every_in (λ (b : Birth). In b st.births) anchors b anchors_of there))))
+      by_birth : (b : Option Birth) → birth_of st x ≡ b → (t : Bool) → test x ≡ t → cond t (option_map f b) None ≡ learns f (λ x. None) bs x
+      by_birth None e t is = none t ∙ sym (learns_not f bs (λ x. None) x (every_of (λ (b : Birth). b.name ≢ x) bs
+          (λ b there. every_in (λ (b : Birth). b.name ≢ x) st.births b (not_found st.births x e) (of b there).0)))
       by_birth (Some b) e true is =
-          let f : In b st.births × (b.name ≡ x) = found st.births x b e in
-          sym (learns_in heard_birth anchors (λ x. None) b (distinct_filter (λ b. is_anchor st b.name) st.births distinct) (in_filter (λ b. is_anchor st b.name) st.births b f.0 (ap (is_anchor st) f.1 ∙ is)))
-          ∙ ap (learns heard_birth (λ x. None) anchors) f.1
-      by_birth (Some b) e false is = sym (learns_not heard_birth anchors (λ x. None) x (every_of (λ (b : Birth). b.name ≢ x) anchors
-          (λ c there q. true_not_false (sym (filtered (λ b. is_anchor st b.name) st.births c there).1 ∙ ap (is_anchor st) q ∙ is))))
+          let g : In b st.births × (b.name ≡ x) = found st.births x b e in
+          sym (learns_in f bs (λ x. None) b apart (all b g.0 (ap test g.1 ∙ is))) ∙ ap (learns f (λ x. None) bs) g.1
+      by_birth (Some b) e false is = sym (learns_not f bs (λ x. None) x (every_of (λ (b : Birth). b.name ≢ x) bs
+          (λ c there q. true_not_false (sym (of c there).1 ∙ ap test q ∙ is))))
         where
           true_not_false : true ≡ false → ⊥
           true_not_false h = cc
+
+  -- all of them, as they stand and in the order in which they are placed
+  pub known_all : {A : Type 0} (f : Birth → A) (x : ℕ) → option_map f (birth_of st x) ≡ learns f (λ x. None) st.births x
+  known_all f x = known_by f (λ x. true) st.births distinct (λ b there. (there, refl)) (λ b there is. there) x
+
+  pub known_first : {A : Type 0} (f : Birth → A) (x : ℕ) → option_map f (birth_of st x) ≡ learns f (λ x. None) ordered x
+  known_first f x = known_by f (λ x. true) ordered (distinct_bunches st.births distinct (bunches_of st.births))
+      (λ b there. ((of_bunches st.births (bunches_of st.births) b there).0, refl))
+      (λ b there is. all_bunches st.births (bunches_of st.births) b there (in_bunches st.births b there)) x
+
+  -- the anchors
+  pub known_told : {A : Type 0} (f : Birth → A) (x : ℕ) → cond (is_anchor st x) (option_map f (birth_of st x)) None ≡ learns f (λ x. None) anchors x
+  known_told f x = known_by f (is_anchor st) anchors (distinct_filter (λ b. is_anchor st b.name) st.births distinct)
+      (λ b there. filtered (λ b. is_anchor st b.name) st.births b there) (λ b there is. in_filter (λ b. is_anchor st b.name) st.births b there is) x
