@@ -1,2 +1,3 @@
 -- For private functions and proofs alone.
 pub mod Search
+pub mod Sides

@@ -1,6 +1,10 @@
-ghost use Rattle.std.specs.Prelude.{◌≡◌, ℕ, ◌+◌, ◌^◌, ◌≤◌, ◌<◌, Bool, [], slice_get, Some, OnOk, OnErr};
+ghost use Rattle.std.specs.Prelude.{◌≡◌, ◌+◌, ◌^◌, ◌≤◌, ◌<◌, ◌&&◌, not, nat_le, [], slice_get, Some, OnOk, OnErr, IsTrue};
+ghost use Rattle.bmx_inter.specs.Order.{IsInOrder, is_listed};
+ghost use Rattle.bmx_inter.specs.Inter.{scion_pair};
 
-use crate::order::{OfPair, is_listed, is_rising, put};
+use crate::order::{OfBunch, OfPair, is_listed, is_rising};
+use crate::side::{Ends, Side};
+use bmx_mark::Keeps;
 use bmx_types::{BunchNo, Name, NoMemory, Pair, Pairs};
 use std::alloc::Global;
 use std::marker::Model;
@@ -13,18 +17,6 @@ pub struct Stub {
     /// The bunch of the source.
     pub bunch: BunchNo,
     pub target: Name,
-}
-
-impl Stub {
-    ghost use Rattle.bmx_inter.specs.Inter.{is_kept};
-
-    /// Whether a collection of the bunch keeps it: it is of another bunch, or its source is kept and
-    /// has the target in its copy.
-    fn is_kept<E: Keeps>(&self, bunch: BunchNo, keeps: &E) -> bool
-        ensures { result ≡ is_kept bunch (E.is_kept keeps.now) (E.is_held keeps.now) self.now }
-    {
-        self.bunch != bunch || keeps.kept(self.source) && keeps.holds(self.source, self.target)
-    }
 }
 
 impl OfPair for Stub {
@@ -40,6 +32,14 @@ impl OfPair for Stub {
     }
 }
 
+impl OfBunch for Stub {
+    ghost bunch_of = { λ s. s.bunch };
+
+    fn bunch(&self) -> BunchNo {
+        self.bunch
+    }
+}
+
 /// What stands at a node for such a reference on the side of the target, which must stay while it
 /// stands.
 #[derive(Clone, Copy, Debug, PartialEq, Eq)]
@@ -50,17 +50,6 @@ pub struct Scion {
     pub bunch: BunchNo,
     /// The number of the node's step that last stored the reference.
     pub clock: u64,
-}
-
-impl Scion {
-    ghost use Rattle.bmx_inter.specs.Inter.{is_told_of};
-
-    /// Whether a table of the bunch, made in the step of number `clock`, tells whether it is needed.
-    fn is_told_of(&self, bunch: BunchNo, clock: u64) -> bool
-        ensures { result ≡ is_told_of bunch clock self.now }
-    {
-        self.bunch == bunch && self.clock <= clock
-    }
 }
 
 impl OfPair for Scion {
@@ -76,21 +65,47 @@ impl OfPair for Scion {
     }
 }
 
-/// What a collection keeps, and what its objects refer to.
-pub trait Keeps {
-    // The names that are kept.
-    ghost is_kept: { Self → ℕ → Bool };
+impl OfBunch for Scion {
+    ghost bunch_of = { λ s. s.bunch };
 
-    // The references in the copies here: a source, and a target in one of its fields.
-    ghost is_held: { Self → ℕ → ℕ → Bool };
+    fn bunch(&self) -> BunchNo {
+        self.bunch
+    }
+}
 
-    /// Whether the name is kept.
-    fn kept(&self, name: Name) -> bool
-        ensures { result ≡ is_kept self.now name };
+/// A collection, by what it keeps.
+#[derive(Drop)]
+struct Collection<'a, E> {
+    keeps: &'a E,
+}
 
-    /// Whether the copy of the source has the target in a field.
-    fn holds(&self, source: Name, target: Name) -> bool
-        ensures { result ≡ is_held self.now source target };
+impl<E: Keeps> Ends<Stub> for Collection<'_, E> {
+    ghost is_sound = { λ _. Unit {0} };
+
+    ghost is_over = { λ c s. not (E.is_kept c.keeps.now s.source && E.is_held c.keeps.now s.source s.target) };
+
+    fn ends(&self, stub: &Stub) -> bool {
+        !(self.keeps.kept(stub.source) && self.keeps.holds(stub.source, stub.target))
+    }
+}
+
+/// A node's own table: the step in which it was made, the references that it lists, and whether they are
+/// known to rise.
+#[derive(Drop)]
+struct Told<'a> {
+    clock: u64,
+    listed: &'a [Pair],
+    rising: bool,
+}
+
+impl Ends<Scion> for Told<'_> {
+    ghost is_sound = { λ t. IsTrue t.rising → IsInOrder (λ p. p) t.listed.now };
+
+    ghost is_over = { λ t s. nat_le s.clock t.clock && not (is_listed t.listed.now (scion_pair s)) };
+
+    fn ends(&self, scion: &Scion) -> bool {
+        scion.clock <= self.clock && !is_listed(self.listed, self.rising, scion.pair())
+    }
 }
 
 /// Stubs and scions, both by rising source and those of one source by rising target, at most one of
@@ -98,20 +113,17 @@ pub trait Keeps {
 /// references there is room without memory.
 #[derive(Drop)]
 pub struct Inter {
-    stubs: Vec<Stub>,
-    scions: Vec<Scion>,
+    stubs: Side<Stub>,
+    scions: Side<Scion>,
 }
 
 impl Model for Inter {
-    ghost use Rattle.std.specs.Prelude.{◌-◌, min, vec_len, vec_capacity};
-    ghost use Rattle.bmx_inter.specs.Order.{IsInOrder};
-    ghost use Rattle.bmx_inter.specs.Inter.{Paired, stub_pair, scion_pair};
+    ghost use Rattle.std.specs.Prelude.{min};
+    ghost use Rattle.bmx_inter.specs.Inter.{Paired};
 
     ghost Value = { Paired };
 
-    ghost view = { λ a. record { stubs = a.stubs.items; scions = a.scions.items; spare = min (vec_capacity a.stubs - vec_len a.stubs) (vec_capacity a.scions - vec_len a.scions) } };
-
-    ghost invariant = { λ a. (IsInOrder stub_pair a.stubs.items) × (IsInOrder scion_pair a.scions.items) };
+    ghost view = { λ a. record { stubs = a.stubs.list; scions = a.scions.list; spare = min a.stubs.spare a.scions.spare } };
 }
 
 impl Inter {
@@ -126,12 +138,13 @@ impl Inter {
         ensures spare { result.spare ≡ 0 }
     {
         Inter {
-            stubs: Vec::new(alloc),
-            scions: Vec::new(alloc),
+            stubs: Side::new(alloc),
+            scions: Side::new(alloc),
         }
     }
 
-    /// Makes room for so many more references. Linear in what stands where it must move it.
+    /// Makes room for so many more references. Linear in how many more than there was room for, and in
+    /// what stands where it must move it.
     pub fn reserve(&mut self, n: u32) -> Result<(), NoMemory>
         ensures stubs { self.new.stubs ≡ self.old.stubs }
         ensures scions { self.new.scions ≡ self.old.scions }
@@ -139,15 +152,14 @@ impl Inter {
         ensures err { OnErr result (self.new.spare < n) }
         ensures spare { self.old.spare ≤ self.new.spare }
     {
-        self.stubs.reserve(n as usize)?;
-        self.scions.reserve(n as usize)?;
-        Ok(())
+        self.stubs.reserve(n)?;
+        self.scions.reserve(n)
     }
 
     /// Notes that the step of number `clock` stores a reference to the target in the source, an object
     /// of that bunch: its stub and its scion stand, of that bunch, the scion with that number. Where
     /// they stand already they are replaced. Searches in logarithmic time; what is new moves those
-    /// behind it.
+    /// behind it, and what was of another bunch is looked for among what is of that bunch.
     pub fn pair(&mut self, source: Name, bunch: BunchNo, target: Name, clock: u64)
         requires { 0 < self.old.spare }
         ensures stubs { self.new.stubs ≡ stubs_with source bunch target self.old.stubs }
@@ -167,25 +179,28 @@ impl Inter {
             bunch,
             clock,
         };
-        put(&mut self.stubs, stub);
-        put(&mut self.scions, scion);
+        self.stubs.put(stub);
+        self.scions.put(scion);
     }
 
     /// What a collection of the bunch leaves of its stubs: those whose source is kept and has the
-    /// target in its copy. Stubs of other bunches stay, and so do all scions. One pass over the stubs.
+    /// target in its copy. Stubs of other bunches stay, and so do all scions. Looks at the stubs of that
+    /// bunch alone, with a logarithmic search for each; only where some go one pass moves the others
+    /// together.
     pub fn keep<E: Keeps>(&mut self, bunch: BunchNo, keeps: &E)
         ensures stubs { self.new.stubs ≡ stubs_kept bunch (E.is_kept keeps.now) (E.is_held keeps.now) self.old.stubs }
         ensures scions { self.new.scions ≡ self.old.scions }
         ensures spare { self.old.spare ≤ self.new.spare }
     {
-        self.stubs.retain(|s| s.is_kept(bunch, keeps));
+        self.stubs.end(bunch, &Collection { keeps });
     }
 
     /// Ends scions by this node's own table of the bunch, which lists the references that have a stub,
     /// and was made in the step of number `clock`. Removes each scion of that bunch that isn't listed
-    /// and whose own number is at most that one; stubs stay. Answers how many went. One pass over the
-    /// scions, and for each that may go a search of the list: logarithmic where the list rises by
-    /// source and then by target, else linear.
+    /// and whose own number is at most that one; stubs stay. Answers how many went. Looks at the scions of
+    /// that bunch alone, with a logarithmic search for each and one of the list for each that may go:
+    /// logarithmic where the list rises by source and then by target, else linear. Only where some go
+    /// one pass moves the others together.
     pub fn clean(&mut self, bunch: BunchNo, clock: u64, listed: &Pairs) -> u64
         ensures stubs { self.new.stubs ≡ self.old.stubs }
         ensures scions { self.new.scions ≡ scions_cleaned bunch clock listed.now self.old.scions }
@@ -195,10 +210,12 @@ impl Inter {
     {
         let listed = listed.as_slice();
         let rising = is_rising(listed);
-        let before = self.scions.len();
-        self.scions.retain(|s| !(s.is_told_of(bunch, clock)
-            && !is_listed(listed, rising, s.pair())));
-        (before - self.scions.len()) as u64
+        let told = Told {
+            clock,
+            listed,
+            rising,
+        };
+        self.scions.end(bunch, &told)
     }
 
     /// The i-th stub from 0, by rising source and then by rising target; None from their number on.
@@ -206,7 +223,7 @@ impl Inter {
         ensures value { result ≡ slice_get self.now.stubs i }
         ensures order { IsInOrder stub_pair self.now.stubs }
     {
-        self.stubs.get(i as usize).copied()
+        self.stubs.get(i)
     }
 
     /// The i-th scion from 0, by rising source and then by rising target; None from their number on.
@@ -214,7 +231,7 @@ impl Inter {
         ensures value { result ≡ slice_get self.now.scions i }
         ensures order { IsInOrder scion_pair self.now.scions }
     {
-        self.scions.get(i as usize).copied()
+        self.scions.get(i)
     }
 }
 

@@ -4,5 +4,6 @@
 
 mod inter;
 mod order;
+mod side;
 
-pub use inter::{Inter, Keeps, Scion, Stub};
+pub use inter::{Inter, Scion, Stub};

@@ -1,9 +1,9 @@
-ghost use Rattle.std.specs.Prelude.{◌≡◌, ℕ, ◌+◌, ◌≤◌, ◌<◌, IsTrue, MatchResult, vec_len, vec_capacity};
+ghost use Rattle.std.specs.Prelude.{◌≡◌, ℕ, IsTrue, MatchResult};
 ghost use Rattle.bmx_types.specs.declared.names.Pair.{Pair};
-ghost use Rattle.bmx_inter.specs.Order.{is_ahead, is_same, is_listed, IsInOrder, with_one};
+ghost use Rattle.bmx_inter.specs.Order.{is_ahead, is_same, is_listed, IsInOrder};
 ghost use Rattle.bmx_inter.specs.Inside.Search.{StandsAt, FitsAt};
 
-use bmx_types::Pair;
+use bmx_types::{BunchNo, Pair};
 
 /// What is kept for one reference.
 pub trait OfPair {
@@ -13,6 +13,16 @@ pub trait OfPair {
     /// The reference: its source and its target.
     fn pair(&self) -> Pair
         ensures { result ≡ pair_of self.now };
+}
+
+/// What is kept for one reference, of one bunch.
+pub trait OfBunch: OfPair {
+    // The bunch of its source.
+    ghost bunch_of: { Self → ℕ };
+
+    /// The bunch of its source.
+    fn bunch(&self) -> BunchNo
+        ensures { result ≡ bunch_of self.now };
 }
 
 impl OfPair for Pair {
@@ -33,14 +43,14 @@ fn is_ahead(a: Pair, b: Pair) -> bool
 }
 
 /// Whether both are one.
-fn is_same(a: Pair, b: Pair) -> bool
+pub fn is_same(a: Pair, b: Pair) -> bool
     ensures { result ≡ is_same a b }
 {
     a.source == b.source && a.target == b.target
 }
 
 /// Where the one of the pair stands, or else where it would.
-fn search<T: OfPair>(items: &[T], pair: Pair) -> Result<usize, usize>
+pub fn search<T: OfPair>(items: &[T], pair: Pair) -> Result<usize, usize>
     requires { IsInOrder T.pair_of items.now }
     ensures { MatchResult result (StandsAt T.pair_of items.now pair) (FitsAt T.pair_of items.now pair) }
 {
@@ -48,24 +58,6 @@ fn search<T: OfPair>(items: &[T], pair: Pair) -> Result<usize, usize>
     match items.get(i) {
         Some(x) if is_same(x.pair(), pair) => Ok(i),
         _ => Err(i),
-    }
-}
-
-/// Puts one in its place, instead of the one of the same pair. A logarithmic search; a new one moves
-/// those behind it.
-pub fn put<T: OfPair + Drop>(items: &mut Vec<T>, item: T)
-    requires order { IsInOrder T.pair_of items.old.items }
-    requires room { vec_len items.old < vec_capacity items.old }
-    ensures items { items.new.items ≡ with_one T.pair_of item items.old.items }
-    ensures len { vec_len items.new ≤ vec_len items.old + 1 }
-    ensures capacity { vec_capacity items.old ≤ vec_capacity items.new }
-{
-    match search(items.as_slice(), item.pair()) {
-        Ok(i) => items[i] = item,
-        Err(i) => {
-            let inserted = items.insert(i, item).is_ok();
-            prove!(inserted);
-        }
     }
 }
 

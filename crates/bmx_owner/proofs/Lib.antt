@@ -4,4 +4,3 @@ pub mod Counts
 pub mod Places
 pub mod Found
 pub mod Named
-pub mod Walks

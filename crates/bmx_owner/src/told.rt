@@ -7,7 +7,7 @@ ghost use Rattle.bmx_owner.specs.Inside.Search.{StandsAt, FitsAt};
 ghost use Rattle.bmx_owner.specs.Inside.Named.{ends_name, AreElsewhere};
 
 use crate::entering::Record;
-use bmx_shelves::Shelves;
+use bmx_shelves::{Judge, Shelves, end_items};
 use bmx_types::{BunchNo, Name, Names, NodeNo};
 
 /// The shelf of the names that a walk has looked at, behind those of the nodes.
@@ -34,15 +34,23 @@ impl Told<'_> {
             && entry.is_settled(self.sent, self.got)
             && !is_listed(self.listed, entry.name)
     }
+}
 
-    /// Whether it ends the record of that name and its maker.
-    fn ends_name(&self, records: &[Record], name: Name) -> bool
-        requires order { IsInOrder records.now }
-        requires listed { IsStrictlyIncreasing self.now.listed.now }
-        ensures { result ≡ ends_name self.now.bunch self.now.from self.now.sent self.now.got self.now.listed.now records.now name }
-    {
-        match place_of(records, name, self.from) {
-            Ok(i) => self.ends(&records[i]),
+/// The names that go: those whose records a table ends.
+#[derive(Drop)]
+struct Ended<'a> {
+    records: &'a [Record],
+    told: &'a Told<'a>,
+}
+
+impl Judge<Name> for Ended<'_> {
+    ghost is_ready = { λ e. (IsInOrder e.records.now) × (IsStrictlyIncreasing e.told.now.listed.now) };
+
+    ghost is_ended = { λ e name. ends_name e.told.now.bunch e.told.now.from e.told.now.sent e.told.now.got e.told.now.listed.now e.records.now name };
+
+    fn ends(&self, name: Name) -> bool {
+        match place_of(self.records, name, self.told.from) {
+            Ok(i) => self.told.ends(&self.records[i]),
             Err(_) => false,
         }
     }
@@ -61,20 +69,12 @@ pub(crate) fn end_names(names: &mut Shelves<Name>, records: &[Record], told: &To
     ensures spare { names.new.spare ≡ names.old.spare + count_by (λ name. ends_name told.now.bunch told.now.from told.now.sent told.now.got told.now.listed.now records.now name) (on_shelf names.old.shelves told.now.from) }
     ensures none { IsFalse result → count_by (λ name. ends_name told.now.bunch told.now.from told.now.sent told.now.got told.now.listed.now records.now name) (on_shelf names.old.shelves told.now.from) ≡ 0 }
 {
-    let shelf = told.from.get() as u32;
-    let mut any = false;
-    'walk: while let Some(name) = names.front(shelf) {
-        if told.ends_name(records, name) {
-            names.drop_front(shelf);
-            any = true;
-        } else {
-            names.move_front(shelf, SEEN);
-        }
-    }
-    'back: while names.front(SEEN).is_some() {
-        names.move_front(SEEN, shelf);
-    }
-    any
+    end_items(
+        names,
+        told.from.get() as u32,
+        SEEN,
+        &Ended { records, told },
+    )
 }
 
 /// Where the record of the name and the node stands, or else where it would. Takes logarithmic time.

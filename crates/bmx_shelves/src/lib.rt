@@ -4,5 +4,7 @@
 #![tactic(auto)]
 
 mod shelves;
+mod walk;
 
 pub use shelves::Shelves;
+pub use walk::{Judge, end_items};

@@ -1,6 +1,7 @@
 ghost use Rattle.std.specs.Prelude.{◌≡◌, ◌≤◌, ◌==◌, ◌&&◌, IfOk, nat_lt, true};
 
-use crate::{Inter, Keeps, Scion, Stub};
+use crate::{Inter, Scion, Stub};
+use bmx_mark::Keeps;
 use bmx_types::{BunchNo, Name, NodeNo, Pair, Pairs};
 use std::alloc::Global;
 use std::test::Fail;
