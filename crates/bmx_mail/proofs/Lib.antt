@@ -1,3 +1,4 @@
 pub mod Giving
 pub mod Posting
 pub mod Bunches
+pub mod Anchors

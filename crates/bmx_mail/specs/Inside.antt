@@ -1,2 +1,3 @@
 -- For proofs and private functions alone.
 pub mod Posts
+pub mod Anchors

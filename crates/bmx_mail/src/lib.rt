@@ -3,6 +3,7 @@
 #![tactic(auto)]
 
 mod mail;
+mod opening;
 mod outbox;
 
 pub use mail::Mail;
