@@ -1,8 +1,9 @@
 -- What a memory shows to the rules of a node: which objects it knows, where they lie, and what its registers
 -- hold. No word is seen here.
-use Rattle.std.specs.Prelude.{◌≡◌, ℕ, ◌^◌, ◌&&◌, nat_lt, Bool, false, if◌then◌else◌, List, map, replicate, slice_get, slice_set, Option, Some, None, IsSome, is_some, unwrap_or}
+use Rattle.std.specs.Prelude.{◌≡◌, ℕ, ◌^◌, ◌==◌, ◌&&◌, nat_lt, Bool, false, if◌then◌else◌, List, [], ◌∷◌, map, replicate, slice_get, slice_set, Option, Some, None, IsSome, is_some, unwrap_or, pos, refl}
 use Rattle.std.specs.Option.{option_map, option_map_or, option_and_then}
 use Rattle.bmx_types.specs.Updates.{put}
+use Rattle.bmx_types.specs.Words.{address_word}
 use Rattle.bmx_types.specs.declared.addresses.Info.{Info}
 use Rattle.bmx_types.specs.declared.addresses.Place.{Place}
 use Rattle.bmx_types.specs.declared.values.Val.{Val}
@@ -17,7 +18,7 @@ use Rattle.bmx_token.specs.declared.parts.Part.{Part}
 use Rattle.bmx_protocol.specs.declared.views.ViewField.{ViewField}
 use Rattle.bmx_protocol.specs.declared.views.ViewField.TheVariants as field
 use Rattle.bmx_protocol.specs.Nodes.{Known, NodeState, field_of, value_in}
-use Rattle.bmx_protocol.specs.Places.{Places, Header, Standing, Lives, Went, Died, with_made, with_learnt}
+use Rattle.bmx_protocol.specs.Places.{Places, Header, Standing, Lives, Went, Died, with_made, with_learnt, no_places}
 use Rattle.bmx_protocol.specs.Strays.{clashes}
 use Rattle.bmx_protocol.specs.Steps.{nowhere}
 use Rattle.bmx_memory.specs.Contents.{Contents, register_of}
@@ -167,3 +168,46 @@ with_info m info = record m { object = object_told m.object info; places = with_
 pub record Fits (m : Shown) (info : Info) : Type 0 where
   pub parts : ℕ → Part
   pub none : clashes m.me (known_with m.object parts) m.places info ≡ false
+
+-- ## cases
+
+-- an object of two fields, of which the first holds 7, and a register that refers to it
+abbrev pub one_object : Shown
+one_object = record {
+  me = 0;
+  limit = 4;
+  object = λ name. if name == 2 then Some (record { bunch = 0; size = 2; copy = Some (field.Int (pos 7) ∷ field.Null ∷ []) }) else None;
+  places = no_places;
+  register = λ register. if register == 3 then val.Ref 2 else val.Null;
+}
+
+a_field_is_read : value_of one_object 2 0 ≡ Some (val.Int (pos 7))
+a_field_is_read = refl
+
+no_field_is_behind : value_of one_object 2 2 ≡ None
+no_field_is_behind = refl
+
+an_unknown_name_has_no_copy : has_copy one_object 5 ≡ false
+an_unknown_name_has_no_copy = refl
+
+a_stored_value_is_read : value_of (with_stored one_object 2 1 (val.Ref 2)) 2 1 ≡ Some (val.Ref 2)
+a_stored_value_is_read = refl
+
+a_cleared_copy_is_gone : has_copy (with_copy one_object 2 None) 2 ≡ false
+a_cleared_copy_is_gone = refl
+
+a_new_object_is_null : value_of (with_object one_object 5 0 1) 5 0 ≡ Some val.Null
+a_new_object_is_null = refl
+
+a_new_object_lies_first : info_of (with_object one_object 5 0 1) 5 ≡ Some (record { name = 5; bunch = 0; size = 1; place = record { address = address_word 0 1 0; moves = 0 } })
+a_new_object_lies_first = refl
+
+-- node 1 tells of an object that lies in a segment of its own
+abbrev pub told_object : ℕ → ℕ → Info
+told_object name size = record { name = name; bunch = 0; size = size; place = record { address = address_word 1 1 0; moves = 0 } }
+
+what_is_told_has_no_copy : has_copy (with_info one_object (told_object 5 1)) 5 ≡ false
+what_is_told_has_no_copy = refl
+
+what_was_known_keeps_its_copy : value_of (with_info one_object (told_object 2 2)) 2 0 ≡ Some (val.Int (pos 7))
+what_was_known_keeps_its_copy = refl

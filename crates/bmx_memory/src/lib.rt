@@ -8,3 +8,6 @@ mod letters;
 mod memory;
 
 pub use memory::Memory;
+
+#[cfg(test)]
+mod tests;

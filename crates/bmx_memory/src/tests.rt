@@ -1,0 +1,63 @@
+use crate::Memory;
+use bmx_segment::PlaceError;
+use bmx_types::{BunchNo, Name, NoMemory, NodeNo, Val};
+use std::test::Fail;
+
+// What these answer, None or false where they may not be called.
+fn make(memory: &mut Memory, name: Name, bunch: BunchNo) -> Option<Result<(), PlaceError>> {
+    if memory.info(name).is_some() {
+        return None;
+    }
+    Some(memory.make(name, bunch, 2))
+}
+
+fn refer(memory: &mut Memory, name: Name) -> bool {
+    if memory.info(name).is_none() {
+        return false;
+    }
+    memory.set_register(3, Val::Ref(name));
+    true
+}
+
+fn write(memory: &mut Memory, name: Name, number: i64) -> bool {
+    if memory.field(name, 0).is_none() {
+        return false;
+    }
+    memory.write_field(name, 0, Val::Int(number));
+    true
+}
+
+// Node 0 makes 0.2, to which register 3 refers, writes 7 to its first field, tells it, and has no copy at last.
+#[test]
+fn an_object_is_made_and_told(rt: HostRuntime) -> Result<(), Fail> {
+    let alloc = rt.alloc();
+    let me = NodeNo::new(0).ok_or("node 0")?;
+    let bunch = BunchNo::new(1).ok_or("bunch 1")?;
+    let name = Name::new(me, 2).ok_or("0.2")?;
+    let mut memory = Memory::new(alloc, me, 4);
+    let made = make(&mut memory, name, bunch);
+    let written = (refer(&mut memory, name), write(&mut memory, name, 7));
+    let values = (
+        memory.register(3),
+        memory.field(name, 0),
+        memory.field(name, 2),
+    );
+    let size = match memory.info(name) {
+        Some(info) => info.size,
+        None => 0,
+    };
+    let told = match memory.fields(alloc, name) {
+        Ok(fields) => fields.len(),
+        Err(NoMemory) => 0,
+    };
+    let before = memory.has_copy(name);
+    memory.clear_copy(name);
+    let after = (memory.has_copy(name), memory.field(name, 0));
+    assert_eq!(rt; made, Some(Ok(())));
+    assert_eq!(rt; written, (true, true));
+    assert_eq!(rt; values, (Val::Ref(name), Some(Val::Int(7)), None));
+    assert_eq!(rt; (size, told), (2, 2));
+    assert!(rt; before);
+    assert_eq!(rt; after, (false, None));
+    Ok(())
+}
