@@ -6,6 +6,7 @@ pub mod Sweeps
 pub mod Tables
 pub mod Steps
 pub mod Histories
+pub mod Worlds
 pub mod Finding
 pub mod Playing
 pub mod Cases

@@ -1,5 +1,5 @@
 -- A table that node 1 made before it heard of 0.2 again comes late: it ends no record, and a collection keeps 0.2.
-use Rattle.std.specs.Prelude.{◌≡◌, pos, List, [], ◌∷◌, map, replicate, Some, None, refl}
+use Rattle.std.specs.Prelude.{◌≡◌, ℕ, pos, Bool, true, false, List, [], ◌∷◌, map, take, replicate, Some, None, refl}
 use Rattle.bmx_types.specs.declared.values.Val.TheVariants as val
 use Rattle.bmx_types.specs.declared.commands.Operand.TheVariants as operand
 use Rattle.bmx_types.specs.declared.commands.Command.TheVariants as command
@@ -7,6 +7,7 @@ use Rattle.bmx_msg.specs.declared.letters.Field.TheVariants as msg_field
 use Rattle.bmx_msg.specs.declared.letters.Msg.TheVariants as msg
 use Rattle.bmx_clean.specs.declared.cleaner.Applied.TheVariants.{Removed}
 use Rattle.bmx_protocol.specs.declared.inputs.NodeAnswer.TheVariants as answer
+use Rattle.bmx_clean.specs.Cleaning.{ends_record}
 use Rattle.bmx_protocol.specs.Cases.{Do, Serve, Next, one_bunch}
 use Rattle.bmx_collection.specs.Steps.{Collect, MakeTable, Forgot, Cleaned, Nil}
 use Rattle.bmx_collection.specs.Playing.{Of, By, Takes, NodeSays, CollectorSays, LinkedLine, by, IsSaidOf, LinkedPlay, played_linked}
@@ -78,6 +79,21 @@ lines =
 
 a_late_table : IsSaidOf (one_bunch 2) lines
 a_late_table = refl
+
+-- when the table of node 1 comes at last it ends nothing: 0.2 isn't listed, but was given again by letter 3, of which the
+-- table doesn't know. Had no letter but the first given it, the record would go
+abbrev pub before_it_comes : LinkedPlay
+before_it_comes = played_linked (one_bunch 2) (map (λ l. l.move) (take 46 lines))
+
+abbrev pub is_ended : ℕ → List Bool
+is_ended sent =
+    map (λ t. ends_record ((before_it_comes.nodes 0).state.taken 1) t (record { name = 2; bunch = 0; from = 1; sent = sent; got = 0 })) (take 1 before_it_comes.tables)
+
+the_record_then : (before_it_comes.nodes 0).state.entering 2 1 ≡ Some (record { name = 2; bunch = 0; from = 1; sent = 3; got = 0 })
+the_record_then = refl
+
+it_ends_nothing : (is_ended 3 ≡ false ∷ []) × (is_ended 1 ≡ true ∷ [])
+it_ends_nothing = (refl, refl)
 
 -- the nodes at the end
 abbrev pub at_the_end : LinkedPlay

@@ -1,0 +1,73 @@
+-- What the laws over all histories with collectors are to say besides those that hold without: pairs stand for
+-- references between bunches, and no table that was made so far can end what is needed. Nothing here is proved yet.
+use Rattle.std.specs.Prelude.{◌≡◌, ℕ, ◌<◌, ◌≢◌, true, false, List, Contains, Some, IsSome}
+use Rattle.bmx_table.specs.declared.tables.Table.{Table}
+use Rattle.bmx_msg.specs.declared.letters.Letter.{Letter}
+use Rattle.bmx_msg.specs.Letters.{given}
+use Rattle.bmx_owner.specs.declared.entering.Record.{Record}
+use Rattle.bmx_inter.specs.declared.inter.Scion.{Scion}
+use Rattle.bmx_inter.specs.Order.{find_one}
+use Rattle.bmx_inter.specs.Inter.{stub_pair, scion_pair}
+use Rattle.bmx_clean.specs.Cleaning.{ends_record, ends_scion}
+use Rattle.bmx_protocol.specs.Nodes.{Setting, Known}
+use Rattle.bmx_protocol.specs.Worlds.{World, HasParent, IsHandedOver}
+use Rattle.bmx_protocol.specs.Histories.{in_flight}
+use Rattle.bmx_collection.specs.Links.{Links, bunch_at}
+use Rattle.bmx_collection.specs.Reach.{refers}
+use Rattle.bmx_collection.specs.Steps.{LinkedNode}
+use Rattle.bmx_collection.specs.Histories.{LinkedEvent, plain_events, tables_made}
+
+-- all nodes and the letters in flight, without links; with them; and the tables that were made
+pub record LinkedWorld : Type 0 where
+  pub world : World
+  pub links : ℕ → Links
+  pub tables : List Table
+
+-- the world of nodes after a history with collectors
+abbrev pub linked_world_of : (ℕ → LinkedNode) → List LinkedEvent → LinkedWorld
+linked_world_of nodes history = record {
+  world = record {
+    state = λ n. (nodes n).state;
+    places = λ n. (nodes n).places;
+    channel = λ n m. in_flight n m (plain_events history);
+  };
+  links = λ n. (nodes n).links;
+  tables = tables_made history;
+}
+
+-- ## pairs
+
+-- the stub and the scion of a reference stand
+pub record HasPair (l : Links) (source target : ℕ) : Type 0 where
+  pub stub : IsSome (find_one stub_pair l.stubs source target)
+  pub scion : IsSome (find_one scion_pair l.scions source target)
+
+-- each reference from a copy to an object of another bunch has its pair at that node
+abbrev pub PairsStand : Setting → LinkedWorld → Type 0
+PairsStand st w =
+    (n source target : ℕ) → n < st.nodes → refers (w.world.state n) source target ≡ true →
+    bunch_at (w.world.state n) source ≢ bunch_at (w.world.state n) target → HasPair (w.links n) source target
+
+-- ## tables
+
+-- the record of a name from a node is needed here: that node would ask here for it, and isn't handing it over; or a
+-- letter that gives the name to that node is in flight
+pub data IsRecordNeeded (w : World) (here node name : ℕ) : Type 0 where
+  ByItsParent : (k : Known) → HasParent w name node here k → (IsHandedOver w name node here → ⊥) → IsRecordNeeded w here node name
+  ByALetter : (l : Letter) → Contains (w.channel here node) l → Contains (given l.msg) name → IsRecordNeeded w here node name
+
+-- a table, if it were taken now, ends no record that is needed
+abbrev pub EndsNoNeededRecord : LinkedWorld → Table → Type 0
+EndsNoNeededRecord w t =
+    (name : ℕ) (r : Record) → (w.world.state t.to).entering name t.from ≡ Some r → IsRecordNeeded w.world t.to t.from name →
+    ends_record ((w.world.state t.to).taken t.from) t r ≡ false
+
+-- nor a scion whose stub stands
+abbrev pub EndsNoNeededScion : LinkedWorld → Table → Type 0
+EndsNoNeededScion w t =
+    (c : Scion) → Contains (w.links t.to).scions c → IsSome (find_one stub_pair (w.links t.to).stubs c.source c.target) →
+    ends_scion ((w.world.state t.to).taken t.from) t c ≡ false
+
+-- no table that was made so far does harm, however late and often it comes
+abbrev pub NoTableHarms : LinkedWorld → Type 0
+NoTableHarms w = (t : Table) → Contains w.tables t → EndsNoNeededRecord w t × EndsNoNeededScion w t
