@@ -1,6 +1,6 @@
 -- What a node keeps of references between bunches, beside its state: a stub and a scion for each, and how many
 -- tables it has made. A store and a grant make them.
-use Rattle.std.specs.Prelude.{◌≡◌, ℕ, ◌+◌, if◌then◌else◌, List, [], ◌∷◌, filter_map, Option, None}
+use Rattle.std.specs.Prelude.{◌≡◌, refl, ℕ, ◌+◌, if◌then◌else◌, List, [], ◌∷◌, filter_map, Option, None}
 use Rattle.std.specs.Option.{option_map, option_map_or}
 use Rattle.std.specs.List.{fold}
 use Rattle.bmx_types.specs.declared.addresses.Info.{Info}
@@ -9,6 +9,7 @@ use Rattle.bmx_graph.specs.Step.{effect}
 use Rattle.bmx_graph.specs.declared.effects.Effect.{Effect}
 use Rattle.bmx_graph.specs.declared.effects.Effect.TheVariants as graph_effect
 use Rattle.bmx_msg.specs.declared.letters.Field.{Field}
+use Rattle.bmx_msg.specs.declared.letters.Field.TheVariants as msg_field
 use Rattle.bmx_msg.specs.declared.letters.Msg.{Msg}
 use Rattle.bmx_inter.specs.declared.inter.Stub.{Stub}
 use Rattle.bmx_inter.specs.declared.inter.Scion.{Scion}
@@ -86,3 +87,19 @@ pairs_of me s (input.Take from letter) a = if is_taken a then pairs_of_message l
 -- the links after such an input, in the step of the next number
 abbrev pub links_after : ℕ → NodeState → Links → Input → NodeAnswer → Links
 links_after me s l i a = fold (with_pair (s.clock + 1)) l (pairs_of me s i a)
+
+-- ## cases
+
+-- an object of bunch 1
+an_object : Info
+an_object = record { name = 9; bunch = 1; size = 1; place = nowhere }
+
+-- of the fields of object 3 those need a pair that lead into another bunch; both its fields that do have one pair
+across : (pairs_in 3 0 (msg_field.Null ∷ msg_field.Ref an_object ∷ []) ≡ stub_of 3 0 9 ∷ []) × (pairs_in 3 1 (msg_field.Ref an_object ∷ []) ≡ [])
+unfolding an_object
+across = (refl, refl)
+
+one_pair : fold (with_pair 7) no_links (pairs_in 3 0 (msg_field.Ref an_object ∷ msg_field.Ref an_object ∷ []))
+    ≡ record { stubs = stub_of 3 0 9 ∷ []; scions = record { target = 9; source = 3; bunch = 0; clock = 7 } ∷ []; tables = λ n. 0 }
+unfolding an_object
+one_pair = refl

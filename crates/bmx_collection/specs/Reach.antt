@@ -1,6 +1,6 @@
 -- What a collection of a bunch has to keep at a node: the least set that has the roots there and, with an object,
 -- those of the bunch to which its copy refers.
-use Rattle.std.specs.Prelude.{◌≡◌, ℕ, ◌<◌, ◌==◌, ◌&&◌, ◌||◌, not, nat_lt, Bool, true, false, List, length, Contains, Some, is_some}
+use Rattle.std.specs.Prelude.{None, ◌≡◌, refl, [], ◌∷◌, if◌then◌else◌, ℕ, ◌<◌, ◌==◌, ◌&&◌, ◌||◌, not, nat_lt, Bool, true, false, List, length, Contains, Some, is_some}
 use Rattle.std.specs.Option.{option_map_or}
 use Rattle.std.specs.List.{list_any}
 use Rattle.bmx_types.specs.Words.{anchor_of}
@@ -12,7 +12,10 @@ use Rattle.bmx_inter.specs.declared.inter.Scion.{Scion}
 use Rattle.bmx_protocol.specs.declared.views.ViewField.{ViewField}
 use Rattle.bmx_protocol.specs.declared.views.ViewField.TheVariants as field
 use Rattle.bmx_protocol.specs.Nodes.{NodeState, Known}
-use Rattle.bmx_collection.specs.Links.{Links}
+use Rattle.bmx_collection.specs.Links.{Links, no_links}
+use Rattle.std.proofs.Common.{lit<}
+use Rattle.bmx_types.specs.declared.numbers.Mode.TheVariants as mode
+use Rattle.bmx_token.specs.Tokens.{owner_part, child_part}
 
 -- ## entries
 
@@ -73,3 +76,58 @@ pub data IsReachedHere (s : NodeState) (l : Links) (bunch : ℕ) : ℕ → Type 
 pub record MayBeKept (s : NodeState) (l : Links) (bunch : ℕ) (kept : List ℕ) : Type 0 where
   pub rooted : (name : ℕ) → is_entry s bunch name ≡ true → IsRoot s l bunch name → Contains kept name
   pub closed : (from name : ℕ) → Contains kept from → is_entry s bunch name ≡ true → refers s from name ≡ true → Contains kept name
+
+-- ## cases
+
+-- each of these is busy by itself; a token at rest isn't, also where others read
+busy_tokens :
+    (is_busy (record owner_part { held = Some mode.Read }) ≡ true)
+    × (is_busy (record owner_part { want = Some mode.Write }) ≡ true)
+    × (is_busy (record (child_part 0) { due = Some 0 }) ≡ true)
+    × (is_busy (record owner_part { queue = record { asker = 1; mode = mode.Read } ∷ [] }) ≡ true)
+    × (is_busy (record owner_part { waiting = 1 ∷ [] }) ≡ true)
+busy_tokens = (refl, refl, refl, refl, refl)
+
+idle_tokens : (is_busy owner_part ≡ false) × (is_busy (child_part 0) ≡ false) × (is_busy (record owner_part { readers = 1 ∷ 2 ∷ [] }) ≡ false)
+idle_tokens = (refl, refl, refl)
+
+-- a node with the anchor 1 of bunch 0, which refers to 3, and 3 and 4 of bunch 0, and 5 of bunch 1, to which 3 refers;
+-- node 1 was told of 4
+object_with : ℕ → List ViewField → Known
+object_with bunch fields = record { bunch = bunch; size = 2; copy = Some fields; part = owner_part }
+
+a_node : NodeState
+a_node = record {
+  known = λ x.
+      if x == 1 then Some (object_with 0 (field.Ref 3 ∷ field.Null ∷ []))
+      else (if x == 3 then Some (object_with 0 (field.Null ∷ field.Ref 5 ∷ []))
+      else (if x == 4 then Some (object_with 0 [])
+      else (if x == 5 then Some (object_with 1 []) else None)));
+  register = λ r. val.Null;
+  entering = λ x m. if x == 4 && m == 1 then Some (record { name = 4; bunch = 0; from = 1; sent = 1; got = 0 }) else None;
+  issued = λ m. 0;
+  taken = λ m. 0;
+  clock = 0;
+  made = 5;
+}
+
+the_anchor_is_reached : IsReachedHere a_node no_links 0 1
+unfolding a_node object_with
+the_anchor_is_reached = Root refl (IsAnchor refl)
+
+in_the_anchors_field : IsReachedHere a_node no_links 0 3
+unfolding a_node object_with
+in_the_anchors_field = InField 1 refl the_anchor_is_reached refl
+
+by_its_record : IsReachedHere a_node no_links 0 4
+unfolding a_node object_with
+by_its_record = Root refl (IsRecorded 1 _ refl)
+
+-- what 3 refers to in the other bunch is no entry of this one; a scion makes it a root of its own
+not_of_this_bunch : is_entry a_node 0 5 ≡ false
+unfolding a_node object_with
+not_of_this_bunch = refl
+
+by_its_scion : IsReachedHere a_node (record no_links { scions = record { target = 5; source = 3; bunch = 0; clock = 1 } ∷ [] }) 1 5
+unfolding a_node object_with
+by_its_scion = Root refl (HasScion (record { target = 5; source = 3; bunch = 0; clock = 1 }) (0, lit< tt, refl) refl)

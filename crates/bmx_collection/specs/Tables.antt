@@ -1,16 +1,20 @@
 -- The table of a bunch that a node makes for a node, as a snapshot of its state; which tables are stray; and what one
 -- that is taken ends, by the cleaner's definition (bmx_clean).
-use Rattle.std.specs.Prelude.{ℕ, ◌+◌, ◌==◌, ◌&&◌, ◌||◌, not, nat_lt, nat_le, Bool, true, List, [], ◌∷◌, map, filter}
+use Rattle.std.specs.Prelude.{◌≡◌, refl, false, ◌^◌, ℕ, ◌+◌, ◌==◌, ◌&&◌, ◌||◌, not, nat_lt, nat_le, Bool, true, List, [], ◌∷◌, map, filter}
 use Rattle.bmx_types.specs.declared.names.Pair.{Pair}
 use Rattle.bmx_types.specs.Updates.{put}
 use Rattle.bmx_table.specs.declared.tables.Table.{Table}
 use Rattle.bmx_table.specs.Tables.{own_alone}
+use Rattle.bmx_inter.specs.declared.inter.Stub.{Stub}
 use Rattle.bmx_inter.specs.Order.{is_ahead}
 use Rattle.bmx_inter.specs.Inter.{stub_pair}
 use Rattle.bmx_clean.specs.Cleaning.{record_left, scions_left}
 use Rattle.bmx_protocol.specs.Nodes.{Setting, NodeState}
 use Rattle.bmx_protocol.specs.Strays.{too_large, is_no_node}
 use Rattle.bmx_collection.specs.Links.{Links}
+use Rattle.bmx_protocol.specs.Nodes.{first_state}
+use Rattle.bmx_protocol.specs.Cases.{one_bunch}
+use Rattle.bmx_collection.specs.Links.{no_links}
 
 -- ## making one
 
@@ -65,3 +69,31 @@ state_cleaned t s = record s { entering = λ name node. record_left (s.taken t.f
 
 abbrev pub links_cleaned : Table → NodeState → Links → Links
 links_cleaned t s l = record l { scions = scions_left (s.taken t.from) t l.scions }
+
+-- ## cases
+
+-- node 1 has a stub of a reference out of bunch 0 and one out of bunch 1: its table of bunch 0 for itself lists the
+-- first, one for node 0 lists none
+a_stub : ℕ → Stub
+a_stub bunch = record { source = 3 + bunch; bunch = bunch; target = 9 }
+
+abbrev stubs_listed : ℕ → List Pair
+stubs_listed to = (table_of 1 (first_state (one_bunch 2) 1) (record no_links { stubs = a_stub 0 ∷ a_stub 1 ∷ [] }) 5 0 to []).stubs
+
+to_itself_alone : (stubs_listed 1 ≡ record { source = 3; target = 9 } ∷ []) × (stubs_listed 0 ≡ [])
+unfolding a_stub
+to_itself_alone = (refl, refl)
+
+-- the first table of node 1 for node 0 fits node 0; it is stray where it is for another node, from no node, of too
+-- large a stamp, or where its names don't rise
+abbrev a_table : Table
+a_table = table_of 1 (first_state (one_bunch 2) 1) no_links 5 0 0 (1 ∷ 4 ∷ [])
+
+stray_tables :
+    (is_stray_table (one_bunch 2) 0 a_table ≡ false)
+    × (is_stray_table (one_bunch 2) 1 a_table ≡ true)
+    × (is_stray_table (one_bunch 2) 0 (record a_table { from = 2 }) ≡ true)
+    × (is_stray_table (one_bunch 2) 0 (record a_table { stamp = 2 ^ 62 }) ≡ true)
+    × (is_stray_table (one_bunch 2) 0 (record a_table { names = 4 ∷ 4 ∷ [] }) ≡ true)
+    × (is_stray_table (one_bunch 2) 0 (record a_table { stubs = record { source = 3; target = 9 } ∷ record { source = 3; target = 8 } ∷ [] }) ≡ true)
+stray_tables = (refl, refl, refl, refl, refl, refl)

@@ -1,14 +1,16 @@
 -- What a collection makes of the places: each object that is owned and kept moves to a segment made for it, the header
 -- where it lay leads there, and the header of each forgotten object is dead.
-use Rattle.std.specs.Prelude.{ℕ, zero, suc, ◌+◌, nat_lt, nat_le, Bool, true, if◌then◌else◌, List, sum_by, Option, Some, None, is_some}
+use Rattle.std.specs.Prelude.{false, [], ◌∷◌, ◌≡◌, refl, ◌&&◌, ◌*◌, ℕ, zero, suc, ◌+◌, nat_lt, nat_le, Bool, true, if◌then◌else◌, List, sum_by, Option, Some, None, is_some}
 use Rattle.std.specs.Option.{option_map, option_map_or}
 use Rattle.std.specs.List.{fold}
 use Rattle.bmx_types.specs.Words.{address_word}
 use Rattle.bmx_types.specs.declared.addresses.Place.{Place}
+use Rattle.bmx_types.specs.declared.values.Val.TheVariants as val
 use Rattle.bmx_types.specs.Updates.{put, put_at}
 use Rattle.bmx_space.specs.Spaces.{segments_for}
 use Rattle.bmx_protocol.specs.Nodes.{NodeState}
-use Rattle.bmx_protocol.specs.Places.{Places, Header, Died, with_went, with_object}
+use Rattle.bmx_protocol.specs.Places.{no_places, Places, Header, Died, with_went, with_object}
+use Rattle.bmx_token.specs.Tokens.{owner_part}
 
 -- ## what is forgotten
 
@@ -84,3 +86,45 @@ abbrev pub places_collected : ℕ → NodeState → Places → ℕ → List ℕ 
 places_collected me s a bunch owned gone moved =
     let b : Places = with_segments me (fold with_dead a gone) (segments_for (words_for s owned)) in
     opened_last (fold (move me s) (record { places = b; at = a.made + 1; used = None }) moved) bunch
+
+-- ## cases
+
+-- a node that owns 30 objects of 32 fields, each in segment 1: they take 1,080 words, so that two segments are needed
+thirty : NodeState
+thirty = record {
+  known = λ x. if nat_lt 0 x && nat_lt x 31 then Some (record { bunch = 0; size = 32; copy = None; part = owner_part }) else None;
+  register = λ r. val.Null;
+  entering = λ x m. None;
+  issued = λ m. 0;
+  taken = λ m. 0;
+  clock = 0;
+  made = 30;
+}
+
+placed : Places
+placed = record no_places { made = 2; place = λ x. if nat_lt 0 x && nat_lt x 31 then Some (record { address = address_word 0 1 (36 * x); moves = 0 }) else None }
+
+thirty_names : List ℕ
+thirty_names =
+    1 ∷ 2 ∷ 3 ∷ 4 ∷ 5 ∷ 6 ∷ 7 ∷ 8 ∷ 9 ∷ 10 ∷ 11 ∷ 12 ∷ 13 ∷ 14 ∷ 15 ∷ 16 ∷ 17 ∷ 18 ∷ 19 ∷ 20 ∷ 21 ∷ 22 ∷ 23 ∷ 24 ∷ 25 ∷ 26 ∷ 27 ∷ 28 ∷ 29 ∷ 30
+    ∷ []
+
+two_are_needed : (is_too_large 4 thirty placed thirty_names ≡ false) × (is_too_large 3 thirty placed thirty_names ≡ true)
+unfolding thirty placed thirty_names
+two_are_needed = (refl, refl)
+
+-- 28 of them fill segment 3 but for 16 words, the others follow in segment 4, which is open from then on
+abbrev moved_all : Places
+moved_all = places_collected 0 thirty placed 0 thirty_names [] thirty_names
+
+in_two_segments :
+    (moved_all.place 28 ≡ Some (record { address = address_word 0 3 972; moves = 1 }))
+    × (moved_all.place 29 ≡ Some (record { address = address_word 0 4 0; moves = 1 }))
+    × (moved_all.opened 0 ≡ Some 4) × (moved_all.handed 3 ≡ 1008) × (moved_all.handed 4 ≡ 72) × (moved_all.made ≡ 4)
+unfolding thirty placed thirty_names
+in_two_segments = (refl, refl, refl, refl, refl, refl)
+
+-- what is open stays open
+stays_open : (places_collected 0 thirty (record placed { opened = λ b. Some 1 }) 0 thirty_names [] thirty_names).opened 0 ≡ Some 1
+unfolding thirty placed thirty_names
+stays_open = refl
