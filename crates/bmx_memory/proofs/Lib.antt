@@ -9,3 +9,4 @@ pub mod Making
 pub mod Learning
 pub mod Told
 pub mod Installed
+pub mod Fitting

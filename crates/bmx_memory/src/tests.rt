@@ -1,6 +1,8 @@
 use crate::Memory;
+use bmx_msg::{Fields, Msg};
 use bmx_segment::PlaceError;
-use bmx_types::{BunchNo, Name, NoMemory, NodeNo, Val};
+use bmx_types::{Address, BunchNo, Info, Items, Name, NoMemory, NodeNo, Place, Val};
+use std::alloc::Global;
 use std::test::Fail;
 
 // What these answer, None or false where they may not be called.
@@ -59,5 +61,75 @@ fn an_object_is_made_and_told(rt: HostRuntime) -> Result<(), Fail> {
     assert_eq!(rt; (size, told), (2, 2));
     assert!(rt; before);
     assert_eq!(rt; after, (false, None));
+    Ok(())
+}
+
+// An object that hasn't moved.
+fn told(name: Name, bunch: BunchNo, address: Address, size: u8) -> Info {
+    let place = Place { address, moves: 0 };
+    Info {
+        name,
+        bunch,
+        size,
+        place,
+    }
+}
+
+// Hears of an object, where that doesn't clash.
+fn hear(alloc: Global, memory: &mut Memory, info: &Info) -> Result<bool, NoMemory> {
+    if info.size > 32 {
+        return Ok(false);
+    }
+    let fields: Fields = Items::new(alloc);
+    let clashes = memory.clashes(&Msg::ReadGrant {
+        info: *info,
+        fields,
+    });
+    if clashes {
+        return Ok(false);
+    }
+    memory.reserve(1)?;
+    memory.learn(info);
+    Ok(true)
+}
+
+// Gives a name a copy without fields, where its object has none.
+fn fill(alloc: Global, memory: &mut Memory, name: Name) -> Option<bool> {
+    let info = memory.info(name)?;
+    if info.size > 0 {
+        return Some(false);
+    }
+    let fields: Fields = Items::new(alloc);
+    memory.install(name, &fields);
+    Some(true)
+}
+
+// Node 0 hears of an object without fields in a segment of node 1, twice and then of another size, and gets a copy.
+#[test]
+fn an_object_is_heard_of(rt: HostRuntime) -> Result<(), Fail> {
+    let alloc = rt.alloc();
+    let me = NodeNo::new(0).ok_or("node 0")?;
+    let other = NodeNo::new(1).ok_or("node 1")?;
+    let bunch = BunchNo::new(1).ok_or("bunch 1")?;
+    let name = Name::new(other, 2).ok_or("1.2")?;
+    let address = Address::new(other, 1, 0).ok_or("a word of node 1")?;
+    let first = told(name, bunch, address, 0);
+    let larger = told(name, bunch, address, 1);
+    let mut memory = Memory::new(alloc, me, 4);
+    let heard = (
+        hear(alloc, &mut memory, &first),
+        hear(alloc, &mut memory, &first),
+        hear(alloc, &mut memory, &larger),
+    );
+    let lies = match memory.info(name) {
+        Some(info) => info.place.address == address,
+        None => false,
+    };
+    let before = memory.has_copy(name);
+    let filled = fill(alloc, &mut memory, name);
+    let after = memory.has_copy(name);
+    assert_eq!(rt; heard, (Ok(true), Ok(true), Ok(false)));
+    assert!(rt; lies);
+    assert_eq!(rt; (before, filled, after), (false, Some(true), true));
     Ok(())
 }
