@@ -1,5 +1,6 @@
 use crate::{Mail, Outbox};
 use bmx_msg::{Field, Fields, Msg};
+use bmx_protocol::Numbers;
 use bmx_types::{Address, BunchNo, Info, Items, Name, NoMemory, NodeNo, Place};
 use std::alloc::Global;
 use std::test::Fail;
@@ -40,6 +41,14 @@ fn is_first_letter(outbox: Outbox) -> bool {
     first && letters.len() == 1
 }
 
+// How many counts are listed, 9 where there is no memory.
+fn counts(numbers: Result<Numbers, NoMemory>) -> usize {
+    match numbers {
+        Ok(numbers) => numbers.len(),
+        Err(NoMemory) => 9,
+    }
+}
+
 // A count of letters taken that is far from its end.
 fn took(mail: &mut Mail, from: NodeNo) -> bool {
     if mail.taken(from) > 7 {
@@ -63,11 +72,16 @@ fn a_grant_is_recorded_and_counted(rt: HostRuntime) -> Result<(), Fail> {
         Ok(records) => records.len(),
         Err(NoMemory) => 9,
     };
+    let listed = (
+        counts(mail.all_issued(alloc, 3)),
+        counts(mail.all_taken(alloc, 2)),
+    );
     assert_eq!(rt; sent, Ok(true));
     assert!(rt; taken);
     assert_eq!(rt; issued, (1, 0));
     assert_eq!(rt; counted, (0, 1));
     assert_eq!(rt; records, 2);
+    assert_eq!(rt; listed, (3, 2));
     Ok(())
 }
 
