@@ -6,9 +6,9 @@ use Rattle.bmx_clean.specs.declared.cleaner.Applied.TheVariants.{Removed}
 use Rattle.bmx_protocol.specs.Cases.{one_bunch}
 use Rattle.bmx_collection.specs.Steps.{LinkedNode, first_linked, Collect, Forgot, Cleaned, IsCollectorStep}
 use Rattle.bmx_collection.specs.Playing.{Said, CollectorSays, LinkedLine, IsSaidOf}
-use Rattle.bmx_collection.specs.Cases.ALateTable as late
-use Rattle.bmx_collection.specs.Cases.AFullCollection as full
-use Rattle.bmx_collection.specs.Cases.OnlyARegisterElsewhere as elsewhere
+use Rattle.bmx_collection.specs.Cases.ALateTable as late_table
+use Rattle.bmx_collection.specs.Cases.AFullCollection as full_collection
+use Rattle.bmx_collection.specs.Cases.OnlyARegisterElsewhere as register_elsewhere
 
 -- the lines with something else said of one of them, counted from 0
 abbrev pub with_said : List LinkedLine → ℕ → Said → List LinkedLine
@@ -26,6 +26,6 @@ pub record FirstCollectionIsAStep : Type 0 where
 -- lacking; that an object was forgotten that a record keeps
 pub record RunsTell : Type 0 where
   pub first : FirstCollectionIsAStep
-  pub late : IsSaidOf (one_bunch 2) (with_said late.lines 46 (CollectorSays 37 (Cleaned (Removed 1)) None)) → ⊥
-  pub full : IsSaidOf (record (one_bunch 1) { limit = 2 }) (with_said full.lines 6 (CollectorSays 7 (Forgot 0) None)) → ⊥
-  pub kept : IsSaidOf (one_bunch 2) (with_said elsewhere.lines 23 (CollectorSays 21 (Forgot 1) None)) → ⊥
+  pub late : IsSaidOf (one_bunch 2) (with_said late_table.lines 46 (CollectorSays 37 (Cleaned (Removed 1)) None)) → ⊥
+  pub full : IsSaidOf (record (one_bunch 1) { limit = 2 }) (with_said full_collection.lines 6 (CollectorSays 7 (Forgot 0) None)) → ⊥
+  pub kept : IsSaidOf (one_bunch 2) (with_said register_elsewhere.lines 23 (CollectorSays 21 (Forgot 1) None)) → ⊥
