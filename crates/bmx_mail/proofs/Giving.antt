@@ -10,7 +10,7 @@ use Rattle.bmx_msg.specs.Letters.{target_of, targets}
 use Rattle.bmx_owner.specs.declared.entering.Record.{Record}
 use Rattle.bmx_owner.specs.Records as owner
 use Rattle.bmx_protocol.specs.Rules.{info_in}
-use Rattle.bmx_mail.specs.Mails.{with_given}
+use Rattle.bmx_mail.specs.Mails.{with_names_given}
 
 append_nil : {A : Type 0} (xs : List A) → xs ++ [] ≡ xs
 append_nil [] = refl
@@ -48,14 +48,14 @@ module _ (fields : List Field) (k : ℕ) (f : Field) (lt : k < length fields) (i
 
   -- it is recorded
   pub given_more : (records now new : List Record) (to seq : ℕ) (info : Info) → f ≡ Ref info →
-      now ≡ with_given records (filter_map info_in (take k fields)) to seq → new ≡ owner.given now info.name info.bunch to seq →
-      new ≡ with_given records (filter_map info_in (take (k + 1) fields)) to seq
+      now ≡ with_names_given records (filter_map info_in (take k fields)) to seq → new ≡ owner.given now info.name info.bunch to seq →
+      new ≡ with_names_given records (filter_map info_in (take (k + 1) fields)) to seq
   given_more records now new to seq info ref before after =
       let one : List Record → Info → List Record = λ rs i. owner.given rs i.name i.bunch to seq in
       after
       ∙ ap (λ rs. one rs info) before
       ∙ sym (fold-append one records (filter_map info_in (take k fields)) (info ∷ []))
-      ∙ ap (λ l. with_given records l to seq) (sym (more info_in ∙ ap (λ x. filter_map info_in (take k fields) ++ filter_map info_in (x ∷ [])) ref))
+      ∙ ap (λ l. with_names_given records l to seq) (sym (more info_in ∙ ap (λ x. filter_map info_in (take k fields) ++ filter_map info_in (x ∷ [])) ref))
 
   pub spare_more : (room left rest : ℕ) (info : Info) → f ≡ Ref info → room ≤ left + length (targets (take k fields)) → left ≤ rest + 1 →
       room ≤ rest + length (targets (take (k + 1) fields))
@@ -84,8 +84,8 @@ module _ (fields : List Field) (k : ℕ) (f : Field) (lt : k < length fields) (i
       by (Ref info) not = absurd (not info refl)
 
   pub given_same : (records now : List Record) (to seq : ℕ) → ((info : Info) → f ≡ Ref info → ⊥) →
-      now ≡ with_given records (filter_map info_in (take k fields)) to seq → now ≡ with_given records (filter_map info_in (take (k + 1) fields)) to seq
-  given_same records now to seq not before = before ∙ ap (λ l. with_given records l to seq) (sym (same info_in (no_info not)))
+      now ≡ with_names_given records (filter_map info_in (take k fields)) to seq → now ≡ with_names_given records (filter_map info_in (take (k + 1) fields)) to seq
+  given_same records now to seq not before = before ∙ ap (λ l. with_names_given records l to seq) (sym (same info_in (no_info not)))
 
   pub spare_same : (room left : ℕ) → ((info : Info) → f ≡ Ref info → ⊥) → room ≤ left + length (targets (take k fields)) → room ≤ left + length (targets (take (k + 1) fields))
   spare_same room left not used =

@@ -21,7 +21,7 @@ use Rattle.bmx_protocol.specs.Changes.{Change, Gives, Issues, after_change, afte
 use Rattle.bmx_protocol.specs.Rules.{Draft, info_in}
 use Rattle.bmx_protocol.specs.Steps.{numbered, sent_changes}
 use Rattle.bmx_protocol.proofs.Changing.{after_append}
-use Rattle.bmx_mail.specs.Mails.{MailState, issued_of, taken_of, with_mail, Tracks, AreOfBunches, TellsBunches, given_infos, with_given, next_letter}
+use Rattle.bmx_mail.specs.Mails.{MailState, issued_of, taken_of, with_mail, Tracks, AreOfBunches, TellsBunches, given_infos, with_names_given, next_letter}
 use Rattle.bmx_mail.specs.Inside.Posts.{TellBunches, issued_after, Posts}
 
 -- one count of a list changes
@@ -69,7 +69,7 @@ module _ (s : NodeState) (issued taken : ℕ → ℕ) (to seq : ℕ) where
       ∙ sym (find_record-given records info.name info.bunch to seq) in
       ap (λ (e : ℕ → ℕ → _). record s { entering = e; issued = issued; taken = taken }) entering
 
-  all_given : (given : List Info) (records : List Record) → AreOfBunches s given → after_changes (at records) (changes_given given) ≡ at (with_given records given to seq)
+  all_given : (given : List Info) (records : List Record) → AreOfBunches s given → after_changes (at records) (changes_given given) ≡ at (with_names_given records given to seq)
   unfolding changes_given
   all_given [] records h = refl
   all_given (info ∷ given) records h =
@@ -78,14 +78,14 @@ module _ (s : NodeState) (issued taken : ℕ → ℕ) (to seq : ℕ) where
 
 -- a letter is recorded and counted
 pub letter_tracked : (old new : MailState) (stamp to : ℕ) (msg : Msg) →
-    new.records ≡ with_given old.records (given_infos msg) to (issued_of old to + 1) →
+    new.records ≡ with_names_given old.records (given_infos msg) to (issued_of old to + 1) →
     issued_of new ≡ put (issued_of old) to (issued_of old to + 1) → new.taken ≡ old.taken →
     Tracks old new (sent_changes (next_letter old stamp to msg)) (λ s. TellsBunches s msg)
 unfolding at changes_given
 letter_tracked old new stamp to msg records issued taken s h =
     let seq : ℕ = issued_of old to + 1 in
     let names : List Change = map (λ name. Gives name to seq) (given msg) in
-    let recorded : after_changes (with_mail s old) names ≡ record s { entering = find_record (with_given old.records (given_infos msg) to seq); issued = issued_of old; taken = taken_of old } =
+    let recorded : after_changes (with_mail s old) names ≡ record s { entering = find_record (with_names_given old.records (given_infos msg) to seq); issued = issued_of old; taken = taken_of old } =
     ap (λ l. after_changes (with_mail s old) (map (λ name. Gives name to seq) l)) (names_given msg)
     ∙ all_given s (issued_of old) (taken_of old) to seq (given_infos msg) old.records (bunches_given s msg h) in
     after_append (with_mail s old) names (Issues to ∷ [])
@@ -94,7 +94,7 @@ letter_tracked old new stamp to msg records issued taken s h =
 
 -- so it is by a mail that was looked at, and of which the records and one count were written
 pub posted : (view old : MailState) (records : List Record) (spare stamp to read written : ℕ) (msg : Msg) → view ≡ old → read ≡ to → written ≡ to →
-    to < length view.issued → records ≡ with_given view.records (given_infos msg) to (issued_of view read + 1) →
+    to < length view.issued → records ≡ with_names_given view.records (given_infos msg) to (issued_of view read + 1) →
     Tracks old (record { records = records; spare = spare; issued = slice_set view.issued written (issued_of view read + 1); taken = view.taken })
     (sent_changes (next_letter old stamp to msg)) (λ s. TellsBunches s msg)
 posted view old records spare stamp to read written msg same here there few given =
@@ -102,7 +102,7 @@ posted view old records spare stamp to read written msg same here there few give
     let count : issued_of new ≡ put (issued_of view) to (issued_of view to + 1) =
     (λ j. slice_index (slice_set view.issued (there j) (issued_of view (here j) + 1))) ∙ counted view.issued to (issued_of view to + 1) few in
     subst (λ (m : MailState). Tracks m new (sent_changes (next_letter m stamp to msg)) (λ s. TellsBunches s msg)) same
-    (letter_tracked view new stamp to msg (given ∙ ap (λ (n : ℕ). with_given view.records (given_infos msg) to (issued_of view n + 1)) here) count refl)
+    (letter_tracked view new stamp to msg (given ∙ ap (λ (n : ℕ). with_names_given view.records (given_infos msg) to (issued_of view n + 1)) here) count refl)
 
 -- ## letters one after another
 

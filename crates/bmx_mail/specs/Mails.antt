@@ -85,8 +85,8 @@ given_infos (Inval name) = []
 given_infos (InvAck name) = []
 
 -- the records after letter number seq gave a node the names of objects
-abbrev pub with_given : List Record → List Info → ℕ → ℕ → List Record
-with_given records given to seq = fold (λ (rs : List Record) (info : Info). owner.given rs info.name info.bunch to seq) records given
+abbrev pub with_names_given : List Record → List Info → ℕ → ℕ → List Record
+with_names_given records given to seq = fold (λ (rs : List Record) (info : Info). owner.given rs info.name info.bunch to seq) records given
 
 -- a message as the next letter to a node, of a stamp
 abbrev pub next_letter : MailState → ℕ → ℕ → Msg → Sending
@@ -108,13 +108,13 @@ the_next_has_the_next_number = refl
 abbrev pub told_of : ℕ → ℕ → Info
 told_of name bunch = record { name = name; bunch = bunch; size = 1; place = record { address = 0; moves = 0 } }
 
-a_read_gives_both : with_given [] (given_infos (ReadGrant (told_of 5 0) (Ref (told_of 6 1) ∷ []))) 1 3
+a_read_gives_both : with_names_given [] (given_infos (ReadGrant (told_of 5 0) (Ref (told_of 6 1) ∷ []))) 1 3
     ≡ record { name = 5; bunch = 0; from = 1; sent = 3; got = 0 } ∷ record { name = 6; bunch = 1; from = 1; sent = 3; got = 0 } ∷ []
 a_read_gives_both = refl
 
-a_write_gives_its_targets : with_given [] (given_infos (WriteGrant (told_of 5 0) (Ref (told_of 6 1) ∷ []))) 1 3
+a_write_gives_its_targets : with_names_given [] (given_infos (WriteGrant (told_of 5 0) (Ref (told_of 6 1) ∷ []))) 1 3
     ≡ record { name = 6; bunch = 1; from = 1; sent = 3; got = 0 } ∷ []
 a_write_gives_its_targets = refl
 
-an_invalidation_gives_nothing : with_given [] (given_infos (Inval 5)) 1 3 ≡ []
+an_invalidation_gives_nothing : with_names_given [] (given_infos (Inval 5)) 1 3 ≡ []
 an_invalidation_gives_nothing = refl

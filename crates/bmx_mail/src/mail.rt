@@ -5,7 +5,7 @@ ghost use Rattle.bmx_owner.specs.Records.{record_or_blank, IsInOrder};
 ghost use Rattle.bmx_protocol.specs.Nodes.{AreNumbers};
 ghost use Rattle.bmx_protocol.specs.Changes.{Gets, Takes};
 ghost use Rattle.bmx_protocol.specs.Steps.{sent_changes};
-ghost use Rattle.bmx_mail.specs.Mails.{entering_of, issued_of, taken_of, CanIssue, Tracks, KnowsBunch, TellsBunches, given_infos, with_given, next_letter};
+ghost use Rattle.bmx_mail.specs.Mails.{entering_of, issued_of, taken_of, CanIssue, Tracks, KnowsBunch, TellsBunches, given_infos, with_names_given, next_letter};
 
 use crate::outbox::Outbox;
 use bmx_msg::{Field, Letter, Msg};
@@ -147,7 +147,7 @@ impl Mail {
         requires counts { CanIssue self.old outbox.old.room }
         ensures outbox { outbox.new ≡ record outbox.old { letters = outbox.old.letters ++ next_letter self.old outbox.old.stamp to msg ∷ []; room = outbox.old.room - 1 } }
         ensures change { Tracks self.old self.new (sent_changes (next_letter self.old outbox.old.stamp to msg)) (λ s. TellsBunches s msg) }
-        ensures records { self.new.records ≡ with_given self.old.records (given_infos msg) to (issued_of self.old to + 1) }
+        ensures records { self.new.records ≡ with_names_given self.old.records (given_infos msg) to (issued_of self.old to + 1) }
         ensures issued { issued_of self.new ≡ put (issued_of self.old) to (issued_of self.old to + 1) }
         ensures taken { self.new.taken ≡ self.old.taken }
         ensures counts { CanIssue self.new outbox.new.room }
@@ -196,7 +196,7 @@ fn can_issue(issued: &[u64], room: usize) -> bool
 /// Notes that letter number `seq` gives a node the names that a message gives.
 fn give_all(records: &mut Records, msg: &Msg, to: NodeNo, seq: u64)
     requires { length (given msg.now) ≤ records.old.spare }
-    ensures list { records.new.list ≡ with_given records.old.list (given_infos msg.now) to seq }
+    ensures list { records.new.list ≡ with_names_given records.old.list (given_infos msg.now) to seq }
     ensures spare { records.old.spare ≤ records.new.spare + length (given msg.now) }
 {
     match msg {
@@ -212,7 +212,7 @@ fn give_all(records: &mut Records, msg: &Msg, to: NodeNo, seq: u64)
 /// Notes that letter number `seq` gives a node the names to which fields refer.
 fn give_fields(records: &mut Records, fields: &[Field], to: NodeNo, seq: u64)
     requires { length (targets fields.now) ≤ records.old.spare }
-    ensures list { records.new.list ≡ with_given records.old.list (filter_map info_in fields.now) to seq }
+    ensures list { records.new.list ≡ with_names_given records.old.list (filter_map info_in fields.now) to seq }
     ensures spare { records.old.spare ≤ records.new.spare + length (targets fields.now) }
 {
     for field in fields {
