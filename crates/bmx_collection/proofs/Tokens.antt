@@ -66,7 +66,7 @@ same_leaves : (s u : NodeState) → u.known ≡ s.known → LeavesTokens s u
 same_leaves s u same = record {
   stands = λ name k e. ap (λ (f : ℕ → Option Known). f name) (sym same) ∙ e;
   idle = λ name k e gone. absurd (not_both name k e gone);
-  untold = λ name node k e gone. absurd (not_both name k e gone);
+  unrecorded = λ name node k e gone. absurd (not_both name k e gone);
 }
   where
     not_both : (name : ℕ) (k : Known) → s.known name ≡ Some k → u.known name ≡ None → ⊥
@@ -86,7 +86,7 @@ module _ (s : NodeState) (l : Links) (bunch : ℕ) (kept : List ℕ) (all : AreA
   forgetting_leaves = record {
     stands = λ name k e. left_was bunch (is_listed kept name) (s.known name) k e;
     idle = λ name k e gone. quiet name k e gone (is_busy k.part) refl;
-    untold = λ name node k e gone. none name node k e gone (s.entering name node) refl;
+    unrecorded = λ name node k e gone. none name node k e gone (s.entering name node) refl;
   }
     where
       quiet : (name : ℕ) (k : Known) → s.known name ≡ Some k → (forgotten bunch kept s).known name ≡ None →

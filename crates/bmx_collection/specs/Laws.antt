@@ -44,11 +44,11 @@ pub record IsSilent (old new : NodeState) : Type 0 where
   pub clock : new.clock ≡ old.clock + 1
 
 -- no token is touched: an entry that stands is as it was, its token and its fields among it, and of one that goes
--- nothing was going on and no other node had been told
+-- nothing was going on, and no record of it stood
 pub record LeavesTokens (old new : NodeState) : Type 0 where
   pub stands : (name : ℕ) (k : Known) → new.known name ≡ Some k → old.known name ≡ Some k
   pub idle : (name : ℕ) (k : Known) → old.known name ≡ Some k → new.known name ≡ None → is_busy k.part ≡ false
-  pub untold : (name node : ℕ) (k : Known) → old.known name ≡ Some k → new.known name ≡ None → old.entering name node ≡ None
+  pub unrecorded : (name node : ℕ) (k : Known) → old.known name ≡ Some k → new.known name ≡ None → old.entering name node ≡ None
 
 -- a collector's step issues no letter and touches no token
 abbrev pub CollectorTouchesNoToken : Type 0

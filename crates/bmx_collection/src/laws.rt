@@ -13,7 +13,7 @@ pub fn collector_refusal_keeps()
 {}
 
 /// The law that a collector's step issues no letter and touches no token: an entry that stands is as it was, and one
-/// that goes was idle and untold. It does nothing.
+/// that goes was idle and had no record. It does nothing.
 pub fn collector_touches_no_token()
     ensures { CollectorTouchesNoToken }
 {}
