@@ -13,6 +13,14 @@ fn make(memory: &mut Memory, name: Name, bunch: BunchNo) -> Option<Result<(), Pl
     Some(memory.make(name, bunch, 2))
 }
 
+fn birth(memory: &mut Memory, name: Name, bunch: BunchNo) -> Option<Result<(), NoMemory>> {
+    let made = memory.replica().segments().made();
+    if made >= 65535 || memory.info(name).is_some() {
+        return None;
+    }
+    Some(memory.make_birth(name, bunch, 2))
+}
+
 fn refer(memory: &mut Memory, name: Name) -> bool {
     if memory.info(name).is_none() {
         return false;
@@ -29,14 +37,16 @@ fn write(memory: &mut Memory, name: Name, number: i64) -> bool {
     true
 }
 
-// Node 0 makes 0.2, to which register 3 refers, writes 7 to its first field, tells it, and has no copy at last.
+// Node 0 opens with 0.1 and makes 0.2, to which register 3 refers, writes 7 to its first field, tells it, and has no copy at last.
 #[test]
 fn an_object_is_made_and_told(rt: HostRuntime) -> Result<(), Fail> {
     let alloc = rt.alloc();
     let me = NodeNo::new(0).ok_or("node 0")?;
     let bunch = BunchNo::new(1).ok_or("bunch 1")?;
     let name = Name::new(me, 2).ok_or("0.2")?;
+    let anchor = Name::new(me, 1).ok_or("0.1")?;
     let mut memory = Memory::new(alloc, me, 4);
+    let born = birth(&mut memory, anchor, bunch);
     let made = make(&mut memory, name, bunch);
     let written = (refer(&mut memory, name), write(&mut memory, name, 7));
     let values = (
@@ -55,6 +65,7 @@ fn an_object_is_made_and_told(rt: HostRuntime) -> Result<(), Fail> {
     let before = memory.has_copy(name);
     memory.clear_copy(name);
     let after = (memory.has_copy(name), memory.field(name, 0));
+    assert_eq!(rt; born, Some(Ok(())));
     assert_eq!(rt; made, Some(Ok(())));
     assert_eq!(rt; written, (true, true));
     assert_eq!(rt; values, (Val::Ref(name), Some(Val::Int(7)), None));
