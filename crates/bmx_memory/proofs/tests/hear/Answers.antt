@@ -1,5 +1,4 @@
 use Rattle.std.proofs.Common.{ℕ, sym, subst, ◌∙◌}
-use Rattle.bmx_types.specs.declared.addresses.Info.{Info}
 use Rattle.bmx_token.specs.declared.parts.Part.{Part}
 use Rattle.bmx_token.specs.Tokens.{owner_part}
 use Rattle.bmx_memory.specs.Shown.{Shown, Fits, shown}
