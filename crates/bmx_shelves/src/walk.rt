@@ -1,4 +1,4 @@
-ghost use Rattle.std.specs.Prelude.{◌≡◌, ◌≢◌, ℕ, ◌+◌, ◌<◌, Bool, not, [], filter, count_by, length, IsFalse};
+ghost use Rattle.std.specs.Prelude.{◌≡◌, ◌≢◌, ℕ, ◌+◌, ◌<◌, Bool, not, [], filter, count_by, length, IsFalse, IsTrue};
 ghost use Rattle.bmx_shelves.specs.Shelves.{on_shelf};
 
 use crate::shelves::Shelves;
@@ -35,6 +35,7 @@ pub fn end_items<T: Copy, J: Judge<T>>(
     ensures others { (m : ℕ) → m ≢ shelf → on_shelf shelves.new.shelves m ≡ on_shelf shelves.old.shelves m }
     ensures spare { shelves.new.spare ≡ shelves.old.spare + count_by (J.is_ended judge.now) (on_shelf shelves.old.shelves shelf) }
     ensures none { IsFalse result → count_by (J.is_ended judge.now) (on_shelf shelves.old.shelves shelf) ≡ 0 }
+    ensures some { IsTrue result → 0 < count_by (J.is_ended judge.now) (on_shelf shelves.old.shelves shelf) }
 {
     let mut any = false;
     'walk: while let Some(item) = shelves.front(shelf) {

@@ -30,6 +30,8 @@ walk-preserved-then-ends g c =
           ∙ before.kept;
       room = omega (arith, fewer, now, roomier, had);
       none = λ e. cc;
+      roomier = let had_room = before.roomier in omega (arith, roomier, had_room);
+      some = λ _. let had_room = before.roomier in omega (arith, roomier, had_room);
     }
 
 pub walk-preserved : goal.walk-preserved
@@ -57,6 +59,8 @@ walk-preserved g c =
           ∙ before.kept;
       room = omega (arith, same, now, room, had);
       none = λ e. now ∙ sym same ∙ before.none e;
+      roomier = let had_room = before.roomier in omega (arith, room, had_room);
+      some = λ e. let had_room = before.some e in omega (arith, room, had_room);
     }
 
 pub returns-clause-shelf : goal.returns-clause-shelf
@@ -102,3 +106,10 @@ returns-clause-none g c = λ h.
     let walked = c.walk.shelves.shelves in
     let left : on_shelf walked c.args.shelf ≡ [] = front_none (on_shelf walked c.args.shelf) (sym c.in_default.is ∙ c.front.ensures) in
     sym (c.walk.invariant.none h) ∙ ap (count_by ends) left
+
+pub returns-clause-some : goal.returns-clause-some
+returns-clause-some g c = λ h.
+    let more = c.walk.invariant.some h in
+    let same = c.back.invariant.room in
+    let all = returns-clause-spare g c in
+    omega (arith, more, same, all)

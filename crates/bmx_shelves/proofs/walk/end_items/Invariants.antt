@@ -1,4 +1,4 @@
-use Rattle.std.proofs.Common.{◌≡◌, ◌≢◌, ℕ, ◌+◌, false, not, ◌++◌, length, filter, count_by}
+use Rattle.std.proofs.Common.{◌≡◌, ◌≢◌, ℕ, ◌+◌, ◌<◌, ◌≤◌, true, false, not, ◌++◌, length, filter, count_by}
 use Rattle.bmx_shelves.specs.Shelves.{on_shelf}
 use Rattle.bmx_shelves.proofs.walk.end_items.Given as goal
 
@@ -13,6 +13,8 @@ invariant-walk g l =
       kept : on_shelf l.shelves.shelves l.fn.aside ++ filter (λ x. not (ends x)) left ≡ filter (λ x. not (ends x)) before;
       room : l.shelves.spare + count_by ends left ≡ l.initial.shelves.spare + count_by ends before;
       none : l.any ≡ false → count_by ends left ≡ count_by ends before;
+      roomier : l.initial.shelves.spare ≤ l.shelves.spare;
+      some : l.any ≡ true → l.initial.shelves.spare < l.shelves.spare;
     }
 
 abbrev pub decreases-walk : goal.decreases-walk
