@@ -234,6 +234,3 @@ impl Inter {
         self.scions.get(i)
     }
 }
-
-#[cfg(test)]
-mod tests;
