@@ -113,6 +113,11 @@ values_of m name = option_and_then (λ (o : Object). option_map (map value_in) o
 abbrev pub value_of : Shown → ℕ → ℕ → Option Val
 value_of m name i = option_and_then (λ fields. slice_get fields i) (values_of m name)
 
+-- what registers and copies refer to has an entry
+pub record AllHaveEntries (m : Shown) : Type 0 where
+  pub registers : (r : ℕ) → HasEntry m (m.register r)
+  pub fields : (name i : ℕ) (v : Val) → value_of m name i ≡ Some v → HasEntry m v
+
 -- the name has a copy
 abbrev pub has_copy : Shown → ℕ → Bool
 has_copy m name = option_map_or (λ (o : Object). is_some o.copy) (m.object name) false

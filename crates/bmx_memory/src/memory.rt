@@ -3,7 +3,7 @@ ghost use Rattle.bmx_types.specs.declared.values.Val.TheVariants.{Null};
 ghost use Rattle.bmx_protocol.specs.Places.{no_places, is_full};
 ghost use Rattle.bmx_segment.specs.declared.segments.PlaceError.TheVariants.{Full};
 ghost use Rattle.bmx_memory.specs.Contents.{room_of};
-ghost use Rattle.bmx_memory.specs.Shown.{shown, HasEntry, value_of, has_copy, info_of, with_register, with_copy, with_stored, with_object, with_info, Fits};
+ghost use Rattle.bmx_memory.specs.Shown.{shown, HasEntry, AllHaveEntries, value_of, has_copy, info_of, with_register, with_copy, with_stored, with_object, with_info, Fits};
 ghost use Rattle.bmx_memory.specs.Meaning.{MeansWhole};
 
 use bmx_replica::{Replica, Words};
@@ -46,6 +46,7 @@ impl Memory {
     pub fn replica(&self) -> &Replica
         ensures value { result.now ≡ self.now.replica }
         ensures whole { MeansWhole self.now }
+        ensures known { AllHaveEntries (shown self.now) }
     {
         &self.replica
     }
