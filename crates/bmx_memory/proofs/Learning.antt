@@ -15,7 +15,7 @@ use Rattle.bmx_segment.specs.declared.headers.Header.{Header as HeaderWords}
 use Rattle.bmx_segment.specs.declared.headers.State.TheVariants.{Live, Forwarded, Dead}
 use Rattle.bmx_replica.specs.Slots.{address_of}
 use Rattle.bmx_replica.specs.Layouts.{Moves, MapsThen, blank_header, kinds_in}
-use Rattle.bmx_replica.specs.Replicas.{Holding, Entry, IsObject, IsReplica, Accepts, Learns, Places as PlacesAnew, at_place, learned, entry_of}
+use Rattle.bmx_replica.specs.Replicas.{Holding, Entry, IsObject, IsReplica, Accepts, Learns, TakesPlace, at_place, learned, entry_of}
 use Rattle.bmx_replica.specs.declared.replica.LearnError.{LearnError}
 use Rattle.bmx_replica.specs.declared.replica.LearnError.TheVariants.{NoMemory, Clash}
 use Rattle.bmx_replica.specs.Inside.Replicas.{IsFound}
@@ -79,7 +79,7 @@ module _ (old new : Holding) (i : Info) (small : segment_of i.place.address < 2 
 
 -- ---- a new name
 
-learnt_none : (old new : Holding) (i : Info) → segment_of i.place.address < 2 ^ 16 → PlacesAnew old new i None → Puts (entry_of old) (entry_of new) i.name (Some (learned i None))
+learnt_none : (old new : Holding) (i : Info) → segment_of i.place.address < 2 ^ 16 → TakesPlace old new i None → Puts (entry_of old) (entry_of new) i.name (Some (learned i None))
     → After old new (with_object (places_of old) i.name i.size i.place)
 learnt_none old new i small m puts =
     let lays = m.changes in
@@ -196,18 +196,18 @@ module _ (old new : Holding) (i : Info) (small : segment_of i.place.address < 2 
   after_some e is false test =
       after_old
       (subst (λ b. MatchBool b (IsObject old i.name (λ a h. MapsThen old.heap new.heap i.place.address (λ before after. Moves before after a i.place h))) (new ≡ old)) test
-      (subst (PlacesAnew old new i) is l.places))
+      (subst (TakesPlace old new i) is l.places))
   after_some e is true test =
       let s = entry_stands old i.name e kept is in
       let accepted = subst (Accepts old.heap i) is l.accepted in
       let newer = accepted.2 (ltb-true e.place.moves i.place.moves test) in
       let P : ℕ → HeaderWords → Type 0 = λ a h. MapsThen old.heap new.heap i.place.address (λ before after. Moves before after a i.place h) in
-      let moves : IsObject old i.name P = subst (λ b. MatchBool b (IsObject old i.name P) (new ≡ old)) test (subst (PlacesAnew old new i) is l.places) in
+      let moves : IsObject old i.name P = subst (λ b. MatchBool b (IsObject old i.name P) (new ≡ old)) test (subst (TakesPlace old new i) is l.places) in
       learnt_newer old new i small e s accepted.1 newer.0 (object_is old i.name s.slot s.header P s.found moves)
       (λ q. l.entry q ∙ ap (λ o. put (entry_of old) i.name (Some (learned i o)) q) is ∙ ap (λ b. put (entry_of old) i.name (Some (cond b (at_place i.place e) e)) q) test)
 
   after_any : (o : Option Entry) → entry_of old i.name ≡ o → After old new (learn_at (places_of old) i (option_map (λ (e : Entry). e.place) o))
-  after_any None is = learnt_none old new i small (subst (PlacesAnew old new i) is l.places) (λ q. l.entry q ∙ ap (λ o. put (entry_of old) i.name (Some (learned i o)) q) is)
+  after_any None is = learnt_none old new i small (subst (TakesPlace old new i) is l.places) (λ q. l.entry q ∙ ap (λ o. put (entry_of old) i.name (Some (learned i o)) q) is)
   after_any (Some e) is = after_some e is (nat_lt e.place.moves i.place.moves) refl
 
   after_learnt : After old new (with_learnt (places_of old) i)

@@ -14,7 +14,7 @@ use Rattle.bmx_segment.specs.declared.headers.Header.{Header}
 use Rattle.bmx_segment.specs.declared.headers.State.TheVariants.{Live, Dead}
 use Rattle.bmx_replica.specs.Slots.{slot_of, address_of}
 use Rattle.bmx_replica.specs.Layouts.{Moves, MapsThen, CanLie, kinds_in, moves_in, with_kinds, blank_header}
-use Rattle.bmx_replica.specs.Replicas.{Holding, Entry, entry_of, entry_in, field_of, value_in, word_in, with_value, without_copy, at_place, blank_entry, IsReplica, IsField, HandsOut, WritesField, ClearsCopy, MakesObject, MovesObject, Forgets, Learns, Accepts, Places, learned, IsObject}
+use Rattle.bmx_replica.specs.Replicas.{Holding, Entry, entry_of, entry_in, field_of, value_in, word_in, with_value, without_copy, at_place, blank_entry, IsReplica, IsField, HandsOut, WritesField, ClearsCopy, MakesObject, MovesObject, Forgets, Learns, Accepts, TakesPlace, learned, IsObject}
 use Rattle.bmx_replica.specs.Inside.Layouts.{Readies}
 use Rattle.std.specs.Prelude.{nat_lt, if◌then◌else◌}
 use Rattle.std.specs.Bool.{MatchBool}
@@ -210,7 +210,7 @@ module _ (old new : Holding) (mid : Heap) (i : Info) (kept : IsReplica old.slots
     Learns-new spare =
         let none : entry_of old i.name ≡ None = entry_none old.slots old.heap.blocks i.name absent in
         let A : Option Entry → Type 0 = λ o. Accepts old.heap i o in
-        let Q : Option Entry → Type 0 = λ o. Places old new i o in
+        let Q : Option Entry → Type 0 = λ o. TakesPlace old new i o in
         let last : Some (entry_in new.heap.blocks (record { address = i.place.address; has_copy = false }) (blank_header i)) ≡ Some (learned i (entry_of old i.name)) = ap (λ (o : Option Entry). Some (learned i o)) (sym none) in
         record {
           accepted = subst A (sym none) (rd.lies can);
@@ -238,7 +238,7 @@ module _ (old new : Holding) (mid : Heap) (i : Info) (kept : IsReplica old.slots
         let e : Entry = entry_in old.heap.blocks s h in
         let lie : CanLie old.heap i.place.address i.name i.size = rd.lies (subst (λ (m : ℕ). CanSet mid i.place.address m i.size) found.named (subst (λ (z : ℕ). CanSet mid i.place.address h.name z) size can)) in
         let A : Option Entry → Type 0 = λ o. Accepts old.heap i o in
-        let Q : Option Entry → Type 0 = λ o. Places old new i o in
+        let Q : Option Entry → Type 0 = λ o. TakesPlace old new i o in
         let accepted : A (Some e) = (bunch, size, λ lt. (off, lie)) in
         let test : nat_lt (moves_in h.state) i.place.moves ≡ true = lt-ltb (moves_in h.state) i.place.moves newer in
         let grown : learned i (Some e) ≡ at_place i.place e = ap (λ b. if b then at_place i.place e else e) test in
@@ -262,7 +262,7 @@ Learns-old r i s h found bunch size older =
     let had = entry_at-found r.slots r.heap.blocks i.name s h found in
     let e : Entry = entry_in r.heap.blocks s h in
     let A : Option Entry → Type 0 = λ o. Accepts r.heap i o in
-    let Q : Option Entry → Type 0 = λ o. Places r r i o in
+    let Q : Option Entry → Type 0 = λ o. TakesPlace r r i o in
     let accepted : A (Some e) = (bunch, size, λ lt. absurd (omega arith)) in
     let test : nat_lt (moves_in h.state) i.place.moves ≡ false = le-ltb (moves_in h.state) i.place.moves older in
     let same : learned i (Some e) ≡ e = ap (λ b. if b then at_place i.place e else e) test in

@@ -15,7 +15,7 @@ use Rattle.bmx_segment.specs.Stores.{header_at, Lays}
 use Rattle.bmx_segment.specs.Heaps.{Heap, handed_in, own_at}
 use Rattle.bmx_replica.specs.Slots.{slot_of, address_of}
 use Rattle.bmx_replica.specs.Layouts.{Ground, ground_of, LiesOn, MapsThen, Moves, blank_header, kinds_in}
-use Rattle.bmx_replica.specs.Replicas.{Holding, Entry, IsReplica, IsObject, Learns, Places, Accepts, AcceptsOn, entry_of, entry_in, learned}
+use Rattle.bmx_replica.specs.Replicas.{Holding, Entry, IsReplica, IsObject, Learns, TakesPlace, Accepts, AcceptsOn, entry_of, entry_in, learned}
 use Rattle.bmx_replica.specs.Letters.{Sketch, sketch_of, is_newer, with_object, with_learned, CanLearn}
 use Rattle.bmx_replica.specs.Inside.Replicas.{IsFound}
 use Rattle.bmx_replica.specs.declared.directory.Slot.{Slot}
@@ -150,7 +150,7 @@ module _ (old new : Holding) (i : Info) (kept : IsReplica old.slots old.heap.blo
             ];
       }
 
-  of_none : (o : Option Entry) → entry_of old i.name ≡ o → Accepts old.heap i o → Places old new i o → IsLike (if is_newer i o then with_object (ground_of old.heap) i else ground_of old.heap) (ground_of new.heap)
+  of_none : (o : Option Entry) → entry_of old i.name ≡ o → Accepts old.heap i o → TakesPlace old new i o → IsLike (if is_newer i o then with_object (ground_of old.heap) i else ground_of old.heap) (ground_of new.heap)
   of_none None is a placed = of_new placed
   of_none (Some e) is a placed =
       elim (cases_lt e.place.moves i.place.moves) [

@@ -19,7 +19,7 @@ use Rattle.bmx_replica.specs.Slots.{slot_of, address_of}
 use Rattle.bmx_replica.specs.Inside.Slots.{PutsSlot}
 use Rattle.bmx_replica.specs.Chains.{is_live, name_at, living, living_at, Ends, EndsLive, Means, Reaches}
 use Rattle.bmx_replica.specs.Layouts.{kinds_in, moves_in}
-use Rattle.bmx_replica.specs.Replicas.{Holding, Keeps, IsObject, IfObject, IsReplica, IsField, Entry, entry_in, entry_at, field_at, value_in, values_of}
+use Rattle.bmx_replica.specs.Replicas.{Holding, KeepsWords, IsObject, IfObject, IsReplica, IsField, Entry, entry_in, entry_at, field_at, value_in, values_of}
 use Rattle.bmx_replica.specs.Inside.Replicas.{IsFound}
 use Rattle.bmx_replica.specs.declared.directory.Slot.{Slot}
 use Rattle.bmx_replica.proofs.Chained.{map_some, named, name_at-from, alive, living_at-from, not_live, Lives, Lives-here, Lives-on, Leads-kept, Leads-name, Leads-there, Means-from, name_at-means}
@@ -367,7 +367,7 @@ module _ (slots slots' : List (ℕ × Slot)) (old new : List Block) (n : ℕ) (s
       ]
 
 -- what all that keeps
-pub Keeps-stands : (old new : Holding) (n : ℕ) (s : Slot) (h : Header) → Stands new.slots old.slots old.heap.blocks new.heap.blocks n s h → Keeps old new
+pub Keeps-stands : (old new : Holding) (n : ℕ) (s : Slot) (h : Header) → Stands new.slots old.slots old.heap.blocks new.heap.blocks n s h → KeepsWords old new
 Keeps-stands old new n s h so = record {
   names = λ x m e. names_kept old.slots new.slots old.heap.blocks new.heap.blocks n s h so x m e;
   meaning = λ x m e. Means-stands old.slots new.slots old.heap.blocks new.heap.blocks n s h so x m e;

@@ -110,7 +110,7 @@ abbrev pub KeepsReachOfOthers : Holding → Holding → ℕ → Type 0
 KeepsReachOfOthers old new name = (w other : ℕ) → other ≢ name → Reaches old.heap.blocks w other → Reaches new.heap.blocks w other
 
 -- what changes of objects keep: each header its name, each word its meaning, and what it reaches
-pub record Keeps (old new : Holding) : Type 0 where
+pub record KeepsWords (old new : Holding) : Type 0 where
   pub names : KeepsNames old new
   pub meaning : KeepsMeaning old new
   pub reach : KeepsReach old new
@@ -236,7 +236,7 @@ pub record WritesField (old new : Holding) (name i : ℕ) (v : Val) : Type 0 whe
   pub entry : Puts (entry_of old) (entry_of new) name (option_map (with_value i v) (entry_of old name))
   pub written : IsSomeAnd (address_of old.slots name) (λ a. Writes old.heap.blocks new.heap.blocks a i (kind_number (word_in old v).kind) (word_in old v).word)
   pub rest : new ≡ record old { heap = record old.heap { blocks = new.heap.blocks } }
-  pub keeps : Keeps old new
+  pub keeps : KeepsWords old new
 
 -- a name has no copy from now on: the kinds and the words of its object's fields are 0; without an entry
 -- nothing changes
@@ -245,7 +245,7 @@ pub record ClearsCopy (old new : Holding) (name : ℕ) : Type 0 where
   pub cleared : IfObject old name (new ≡ old) (λ a h. Lays old.heap.blocks new.heap.blocks a (with_kinds h 0) (λ _. 0))
   pub heap : new.heap ≡ record old.heap { blocks = new.heap.blocks }
   pub spare : new.spare ≡ old.spare
-  pub keeps : Keeps old new
+  pub keeps : KeepsWords old new
 
 -- a name has a copy with those values from now on: its object has their words and their kinds
 pub record Installs (old new : Holding) (name : ℕ) (fields : List Val) : Type 0 where
@@ -253,7 +253,7 @@ pub record Installs (old new : Holding) (name : ℕ) (fields : List Val) : Type 
   pub laid : IsObject old name (λ a h. Lays old.heap.blocks new.heap.blocks a (with_kinds h (kinds_of (map (word_in old) fields))) (λ i. slice_index (map (λ v. (word_in old v).word) fields) i))
   pub heap : new.heap ≡ record old.heap { blocks = new.heap.blocks }
   pub spare : new.spare ≡ old.spare
-  pub keeps : Keeps old new
+  pub keeps : KeepsWords old new
 
 -- an object of the bunch is made under the name, in words that are handed out
 pub record MakesObject (old new : Holding) (name bunch size : ℕ) : Type 0 where
@@ -264,13 +264,13 @@ pub record MakesObject (old new : Holding) (name bunch size : ℕ) : Type 0 wher
   pub heap : new.heap ≡ record mid { blocks = new.heap.blocks }
   pub entry : Puts (entry_of old) (entry_of new) name (Some (blank_entry bunch size at))
   pub spare : old.spare ≤ new.spare + 1
-  pub keeps : Keeps old new
+  pub keeps : KeepsWords old new
 
 -- what an Info changes beside an entry: a new object is laid, an older place's object moves, each in a
 -- segment that is mapped; or nothing
-abbrev pub Places : Holding → Holding → Info → Option Entry → Type 0
-Places old new i None = MapsThen old.heap new.heap i.place.address (λ before after. Lays before after i.place.address (blank_header i) (λ _. 0))
-Places old new i (Some e) =
+abbrev pub TakesPlace : Holding → Holding → Info → Option Entry → Type 0
+TakesPlace old new i None = MapsThen old.heap new.heap i.place.address (λ before after. Lays before after i.place.address (blank_header i) (λ _. 0))
+TakesPlace old new i (Some e) =
     MatchBool (nat_lt e.place.moves i.place.moves)
     (IsObject old i.name (λ a h. MapsThen old.heap new.heap i.place.address (λ before after. Moves before after a i.place h)))
     (new ≡ old)
@@ -279,9 +279,9 @@ Places old new i (Some e) =
 pub record Learns (old new : Holding) (i : Info) : Type 0 where
   pub accepted : Accepts old.heap i (entry_of old i.name)
   pub entry : Puts (entry_of old) (entry_of new) i.name (Some (learned i (entry_of old i.name)))
-  pub places : Places old new i (entry_of old i.name)
+  pub places : TakesPlace old new i (entry_of old i.name)
   pub spare : old.spare ≤ new.spare + 1
-  pub keeps : Keeps old new
+  pub keeps : KeepsWords old new
 
 -- the object of a name moves, with its copy
 pub record MovesObject (old new : Holding) (name to : ℕ) : Type 0 where
@@ -289,7 +289,7 @@ pub record MovesObject (old new : Holding) (name to : ℕ) : Type 0 where
   pub moved : IsObject old name (λ a h. Moves old.heap.blocks new.heap.blocks a (record { address = to; moves = moves_in h.state + 1 }) h)
   pub heap : new.heap ≡ record old.heap { blocks = new.heap.blocks }
   pub spare : new.spare ≡ old.spare
-  pub keeps : Keeps old new
+  pub keeps : KeepsWords old new
 
 -- the entry of a name is gone, and its object's header dead; without an entry nothing changes. Words reach
 -- what they reached but for that object, and still mean its name
@@ -310,4 +310,4 @@ pub record Repoints (old new : Holding) : Type 0 where
   pub words : (x : ℕ) → ((a : ℕ) (h : Header) → header_at old.heap.blocks a ≡ Some h → (x < a) ⊎ (a + header_words ≤ x)) → ((q j a : ℕ) → address_of old.slots q ≡ Some a → IsSome (field_of old q j) → x ≢ a + header_words + j) → word_at new.heap.blocks x ≡ word_at old.heap.blocks x
   pub rest : new ≡ record old { heap = record old.heap { blocks = new.heap.blocks } }
   pub current : (q j : ℕ) → IsCurrent old q j → IsCurrent new q j
-  pub keeps : Keeps old new
+  pub keeps : KeepsWords old new

@@ -7,7 +7,7 @@ use Rattle.bmx_types.specs.declared.numbers.Mode.TheVariants as mode
 use Rattle.bmx_types.specs.Updates.{put_at}
 use Rattle.bmx_token.specs.declared.parts.Ask.{Ask}
 use Rattle.bmx_token.specs.Transitions.{Share, Note, Asks, Grants, Recalls, Returns, Send, send, Transition, made_share}
-use Rattle.bmx_token_model.specs.Machine.{Message, Draft, Numbers, Object, Step, Makes, Does, Receives, Writes, Forgets, Clears, Run, IsFirst, is_ask, asks, brings, draft, numbered, with_holding, issue, issue_all, moved, popped}
+use Rattle.bmx_token_model.specs.Machine.{Message, Unnumbered, Numbers, Object, Step, Makes, Does, Receives, Writes, Forgets, Clears, Run, IsFirst, is_ask, asks, brings, draft, numbered, with_holding, issue, issue_all, moved, popped}
 use Rattle.bmx_token_model.proofs.Tallies.{tally, tally-append, handover, handover-brings, notes, put-all, put_at-all, put_at-apart, PairCases, Both, Other, pair_cases}
 use Rattle.bmx_token_model.proofs.Each.{Each, each_of, issue_way, popped_way, EachSend, sends_more}
 use Rattle.bmx_token_model.proofs.Acts.{Acts, Rests, Hears, AltersTo, Wants, Answers, GrantsRead, HandsOver, Revokes, Arrives, Forwards, GetsRead, GetsWrite, ReturnsNone, ReturnsNow, ReturnsLater, GetsBack}
@@ -116,7 +116,7 @@ pub record IsAsked (o : Object) : Type 0 where
   pub knows : (n m : ℕ) → Knows o m ⊎ Each NoAsk (o.channel n m)
 
 -- a letter to a node that may be asked, or that asks nothing
-issue_asked : (o : Object) (me : ℕ) (d : Draft) → (asks (numbered (o.issued me d.to + 1) d) ≡ true → MayBeAsked o d.to me) → IsAsked o → IsAsked (issue o me d)
+issue_asked : (o : Object) (me : ℕ) (d : Unnumbered) → (asks (numbered (o.issued me d.to + 1) d) ≡ true → MayBeAsked o d.to me) → IsAsked o → IsAsked (issue o me d)
 issue_asked o me d may a = record { fits = λ n m. fits n m; knows = λ n m. knows n m (a.knows n m) }
   where
     message : Message
@@ -150,7 +150,7 @@ AskThose A sends = EachSend (λ s. is_ask s.note ≡ true → A s.to) sends
 pub ask_others : {A B : ℕ → Type 0} → ((n : ℕ) → A n → B n) → (sends : List Send) → AskThose A sends → AskThose B sends
 ask_others {A} {B} f sends h = sends_more (λ s. is_ask s.note ≡ true → A s.to) (λ s. is_ask s.note ≡ true → B s.to) (λ s g x. f s.to (g x)) sends h
 
-may_more : (o : Object) (me : ℕ) (d : Draft) (n : ℕ) → MayBeAsked o n me → MayBeAsked (issue o me d) n me
+may_more : (o : Object) (me : ℕ) (d : Unnumbered) (n : ℕ) → MayBeAsked o n me → MayBeAsked (issue o me d) n me
 may_more o me d n a = record { knows = a.knows; answers = issue_answers o me d n me a.answers }
 
 issue_all_asked : (o : Object) (me : ℕ) (refers : Bool) (sends : List Send) → AskThose (λ n. MayBeAsked o n me) sends → IsAsked o → IsAsked (issue_all o me (map (draft refers) sends))

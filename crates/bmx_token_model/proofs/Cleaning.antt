@@ -71,10 +71,10 @@ under_looks (Some b) n e = by_role b.part.role e
 
 -- ## transitions
 
-abbrev drafts_of : Bool → List Send → List traffic.Draft
+abbrev drafts_of : Bool → List Send → List traffic.Unnumbered
 drafts_of refers sends = map draft_of (map (draft refers) sends)
 
-traffic-issue_all : (o : Object) (me : ℕ) (drafts : List machine.Draft) → traffic_of (issue_all o me drafts) ≡ traffic.issue_all (traffic_of o) me (map draft_of drafts)
+traffic-issue_all : (o : Object) (me : ℕ) (drafts : List machine.Unnumbered) → traffic_of (issue_all o me drafts) ≡ traffic.issue_all (traffic_of o) me (map draft_of drafts)
 traffic-issue_all o me [] = refl
 traffic-issue_all o me (d ∷ drafts) = traffic-issue_all (issue o me d) me drafts ∙ ap (λ z. traffic.issue_all z me (map draft_of drafts)) (traffic-issue o me d)
 
@@ -165,7 +165,7 @@ plain_tabled o p ts g t (machine.Writes me to tells told e) plain = subst (λ z.
   requests = issue_requests (traffic_of o) me (draft_of d) ts g.counted (λ x. absurd cc) t.requests;
 })
   where
-    d : machine.Draft
+    d : machine.Unnumbered
     d = record { to = to; note = None; tells = tells }
 plain_tabled o p ts g t (machine.Forgets me h has u e) plain = absurd plain
 plain_tabled o p ts g t (machine.Clears me other u e) plain = absurd plain

@@ -5,7 +5,7 @@ use Rattle.std.specs.Prelude.{◌==◌, ◌&&◌, is_some, Option, Some, None}
 use Rattle.std.specs.Option.{option_map_or}
 use Rattle.bmx_types.specs.Updates.{put, put_at}
 use Rattle.bmx_token.specs.Transitions.{Share, Note, Returns, Send, send, Transition, made_share, heard_share}
-use Rattle.bmx_token_model.specs.Machine.{Message, Draft, asks, is_ask, is_handover, Numbers, Object, Step, Makes, Does, Receives, Writes, Forgets, Clears, Run, IsFirst, IsUntouched, draft, numbered, gives, brings, sent_in, got_in, issue, issue_all, with_holding, moved, popped}
+use Rattle.bmx_token_model.specs.Machine.{Message, Unnumbered, asks, is_ask, is_handover, Numbers, Object, Step, Makes, Does, Receives, Writes, Forgets, Clears, Run, IsFirst, IsUntouched, draft, numbered, gives, brings, sent_in, got_in, issue, issue_all, with_holding, moved, popped}
 use Rattle.bmx_token_model.specs.Tables.{looks_to}
 use Rattle.bmx_token_model.proofs.Tallies.{Cases, Same, Apart, cases, same_true, put-all, put_at-all}
 use Rattle.bmx_token_model.proofs.First.{untouched}
@@ -21,7 +21,7 @@ use Rattle.bmx_token_model.proofs.Moves.{Taking, Nothing, Letter as First, Actin
 abbrev pub letter_of : Message → Letter
 letter_of l = record { seq = l.seq; asks = asks l; gives = gives l.note l.tells; brings = brings l }
 
-abbrev pub draft_of : Draft → traffic.Draft
+abbrev pub draft_of : Unnumbered → traffic.Unnumbered
 draft_of d = record { to = d.to; asks = option_map_or is_ask d.note false; gives = gives d.note d.tells; brings = option_map_or is_handover d.note false }
 
 abbrev pub traffic_of : Object → Traffic
@@ -51,7 +51,7 @@ map-put_at f n m a j k = by_first (n == j)
     by_first true = by_second (m == k)
     by_first false = refl
 
-pub traffic-issue : (o : Object) (me : ℕ) (d : Draft) → traffic_of (issue o me d) ≡ traffic.issue (traffic_of o) me (draft_of d)
+pub traffic-issue : (o : Object) (me : ℕ) (d : Unnumbered) → traffic_of (issue o me d) ≡ traffic.issue (traffic_of o) me (draft_of d)
 traffic-issue o me d = traffic_path _ _ (λ m n. refl)
     (λ n m. map-put_at o.channel me d.to (o.channel me d.to ++ numbered (o.issued me d.to + 1) d ∷ []) n m
     ∙ ap (λ (x : List Letter). put_at (λ x y. map letter_of (o.channel x y)) me d.to x n m) (map-append (o.channel me d.to) (numbered (o.issued me d.to + 1) d ∷ [])))
@@ -73,7 +73,7 @@ traffic-holding o me h = traffic_path _ _ (λ m n. by_test m n (me == m)) (λ n 
 abbrev pub IsCounted : Object → Type 0
 IsCounted o = traffic.IsCounted (traffic_of o)
 
-pub issue_counted : (o : Object) (me : ℕ) (d : Draft) → IsCounted o → IsCounted (issue o me d)
+pub issue_counted : (o : Object) (me : ℕ) (d : Unnumbered) → IsCounted o → IsCounted (issue o me d)
 issue_counted o me d c = rw (traffic-issue o me d) (traffic.issue_counted (traffic_of o) me (draft_of d) c)
 
 pub popped_counted : (o : Object) (from me : ℕ) (l : Message) (rest : List Message) → o.channel from me ≡ l ∷ rest → IsCounted o → IsCounted (popped o from me l rest)
@@ -83,14 +83,14 @@ popped_counted o from me l rest channel c =
 -- ## records
 
 pub issue_entering : (Q : Option Numbers → Type 0) → ((seq : ℕ) (r : Option Numbers) → Q r → Q (Some (sent_in seq r))) →
-    (o : Object) (me : ℕ) (d : Draft) (n m : ℕ) → Q (o.entering n m) → Q ((issue o me d).entering n m)
+    (o : Object) (me : ℕ) (d : Unnumbered) (n m : ℕ) → Q (o.entering n m) → Q ((issue o me d).entering n m)
 issue_entering Q more o me d n m h = traffic.issue_entering Q more (traffic_of o) me (draft_of d) n m h
 
 pub popped_entering : (Q : Option Numbers → Type 0) → ((seq : ℕ) (r : Option Numbers) → Q r → Q (Some (got_in seq r))) →
     (o : Object) (from me : ℕ) (l : Message) (rest : List Message) (n m : ℕ) → Q (o.entering n m) → Q ((popped o from me l rest).entering n m)
 popped_entering Q more o from me l rest n m h = traffic.taking_entering Q more (traffic_of o) from me (letter_of l) (map letter_of rest) n m h
 
-issue_here : (o : Object) (me : ℕ) (d : Draft) → gives d.note d.tells ≡ true → (issue o me d).entering me d.to ≡ Some (sent_in (o.issued me d.to + 1) (o.entering me d.to))
+issue_here : (o : Object) (me : ℕ) (d : Unnumbered) → gives d.note d.tells ≡ true → (issue o me d).entering me d.to ≡ Some (sent_in (o.issued me d.to + 1) (o.entering me d.to))
 issue_here o me d g = traffic.issue_here (traffic_of o) me (draft_of d) g
 
 pub popped_here : (o : Object) (from me : ℕ) (l : Message) (rest : List Message) → brings l ≡ true → (popped o from me l rest).entering me from ≡ Some (got_in l.seq (o.entering me from))
@@ -121,7 +121,7 @@ Recorded r l = gives l.note l.tells ≡ true → IsIn r l.seq
 pub record IsRecorded (o : Object) : Type 0 where
   pub channels : EachWay (λ n m. Recorded (o.entering n m)) o.channel
 
-issue_recorded : (o : Object) (me : ℕ) (d : Draft) → IsRecorded o → IsRecorded (issue o me d)
+issue_recorded : (o : Object) (me : ℕ) (d : Unnumbered) → IsRecorded o → IsRecorded (issue o me d)
 issue_recorded o me d c = record {
   channels = issue_each (λ n m. Recorded ((issue o me d).entering n m)) o me d
       (λ n m. each_more (Recorded (o.entering n m)) (Recorded ((issue o me d).entering n m)) (λ l h g. issue_entering (λ r. IsIn r l.seq) (sent_more l.seq) o me d n m (h g)) (o.channel n m) (c.channels n m))
@@ -143,7 +143,7 @@ ungiven_recorded r l none g = (let both : true ≡ false = sym g ∙ none in abs
 abbrev pub IsBounded : Object → Type 0
 IsBounded o = traffic.IsBounded (traffic_of o)
 
-issue_bounded : (o : Object) (me : ℕ) (d : Draft) → IsBounded o → IsBounded (issue o me d)
+issue_bounded : (o : Object) (me : ℕ) (d : Unnumbered) → IsBounded o → IsBounded (issue o me d)
 issue_bounded o me d b = record { records = (traffic.issue_bounded (traffic_of o) me (draft_of d) b).records }
 
 popped_bounded : (o : Object) (from me : ℕ) (l : Message) (rest : List Message) → o.channel from me ≡ l ∷ rest → IsCounted o → IsBounded o → IsBounded (popped o from me l rest)
@@ -157,7 +157,7 @@ pub record IsOrderly (o : Object) : Type 0 where
   pub recorded : IsRecorded o
   pub bounded : IsBounded o
 
-issue_orderly : (o : Object) (me : ℕ) (d : Draft) → IsOrderly o → IsOrderly (issue o me d)
+issue_orderly : (o : Object) (me : ℕ) (d : Unnumbered) → IsOrderly o → IsOrderly (issue o me d)
 issue_orderly o me d g = record { counted = issue_counted o me d g.counted; recorded = issue_recorded o me d g.recorded; bounded = issue_bounded o me d g.bounded }
 
 pub taking_orderly : (o : Object) (me from : ℕ) (taken : Option Note) (tells : Bool) (q : Object) → Taking o me from taken tells q → IsOrderly o → IsOrderly q
@@ -269,7 +269,7 @@ holding_giving o me h stays g = record {
 }
 
 -- a letter of a node that knows it, or that doesn't give it
-issue_giving : (o : Object) (me : ℕ) (d : Draft) → Knows o me ⊎ (gives d.note d.tells ≡ false) → IsGiving o → IsGiving (issue o me d)
+issue_giving : (o : Object) (me : ℕ) (d : Unnumbered) → Knows o me ⊎ (gives d.note d.tells ≡ false) → IsGiving o → IsGiving (issue o me d)
 issue_giving o me d may g = record { channels = λ n m. by_way n m (g.channels n m) }
   where
     by_way : (n m : ℕ) → Knows o n ⊎ Each NoGift (o.channel n m) → Knows o n ⊎ Each NoGift ((issue o me d).channel n m)

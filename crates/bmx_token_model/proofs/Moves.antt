@@ -6,7 +6,7 @@ use Rattle.bmx_types.specs.declared.numbers.Mode.{Mode}
 use Rattle.bmx_types.specs.Updates.{put}
 use Rattle.bmx_token.specs.declared.parts.Ask.{Ask}
 use Rattle.bmx_token.specs.Transitions.{Share, Note, Asks, Recalls, Send, send, Transition, Operation, transition_of, made_share, silently}
-use Rattle.bmx_token_model.specs.Machine.{Message, Draft, Object, Step, Run, Stays, Goes, IsNowhere, IsUnneeded, draft, numbered, with_holding, issue, issue_all, moved, popped, letter_transition}
+use Rattle.bmx_token_model.specs.Machine.{Message, Unnumbered, Object, Step, Run, Stays, Goes, IsNowhere, IsUnneeded, draft, numbered, with_holding, issue, issue_all, moved, popped, letter_transition}
 use Rattle.bmx_token_model.specs.Machine as machine
 use Rattle.bmx_token_model.proofs.Tallies.{tally, tally-append, notes, notes-append, Same, Apart, cases, same_true, apart_false, put_at-all}
 use Rattle.bmx_token_model.proofs.Acts.{Acts, Rests}
@@ -30,13 +30,13 @@ came from me taken n k = if me == k then (if from == n then option_to_list taken
 -- ## letters issued
 
 -- the note of a draft, in a channel
-abbrev pub drafted : ℕ → Draft → ℕ → ℕ → List Note
+abbrev pub drafted : ℕ → Unnumbered → ℕ → ℕ → List Note
 drafted me d n k = if me == n then (if d.to == k then option_to_list d.note else []) else []
 
-drafted-here : (me : ℕ) (d : Draft) → drafted me d me d.to ≡ option_to_list d.note
+drafted-here : (me : ℕ) (d : Unnumbered) → drafted me d me d.to ≡ option_to_list d.note
 drafted-here me d = rw (same_true me, same_true d.to) refl
 
-drafted-apart : (me : ℕ) (d : Draft) (n k : ℕ) → (n ≢ me) ⊎ (k ≢ d.to) → drafted me d n k ≡ []
+drafted-apart : (me : ℕ) (d : Unnumbered) (n k : ℕ) → (n ≢ me) ⊎ (k ≢ d.to) → drafted me d n k ≡ []
 drafted-apart me d n k (inl h) = rw (apart_false me n (λ e. h (sym e))) refl
 drafted-apart me d n k (inr h) = by_test (me == n) (d.to == k) (apart_false d.to k (λ e. h (sym e)))
   where
@@ -44,7 +44,7 @@ drafted-apart me d n k (inr h) = by_test (me == n) (d.to == k) (apart_false d.to
     by_test true u e = rw e refl
     by_test false u e = refl
 
-pub issue_notes : (o : Object) (me : ℕ) (d : Draft) (n k : ℕ) → notes ((issue o me d).channel n k) ≡ notes (o.channel n k) ++ drafted me d n k
+pub issue_notes : (o : Object) (me : ℕ) (d : Unnumbered) (n k : ℕ) → notes ((issue o me d).channel n k) ≡ notes (o.channel n k) ++ drafted me d n k
 issue_notes o me d n k = put_at-all (λ x y w. notes w ≡ notes (o.channel x y) ++ drafted me d x y) o.channel me d.to _ here
     (λ x y h. sym (append-nil (notes (o.channel x y))) ∙ ap (λ (z : List Note). notes (o.channel x y) ++ z) (sym (drafted-apart me d x y h))) n k
   where
@@ -52,7 +52,7 @@ issue_notes o me d n k = put_at-all (λ x y w. notes w ≡ notes (o.channel x y)
     here = notes-append (o.channel me d.to) (numbered (o.issued me d.to + 1) d ∷ [])
         ∙ ap (λ (x : List Note). notes (o.channel me d.to) ++ x) (append-nil (option_to_list d.note) ∙ sym (drafted-here me d))
 
-pub issue_all_holds : (o : Object) (me : ℕ) (drafts : List Draft) → (issue_all o me drafts).holds ≡ o.holds
+pub issue_all_holds : (o : Object) (me : ℕ) (drafts : List Unnumbered) → (issue_all o me drafts).holds ≡ o.holds
 issue_all_holds o me [] = refl
 issue_all_holds o me (d ∷ drafts) = issue_all_holds (issue o me d) me drafts
 

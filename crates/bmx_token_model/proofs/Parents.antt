@@ -8,7 +8,7 @@ use Rattle.bmx_types.specs.Updates.{put_at}
 use Rattle.bmx_token.specs.declared.parts.Ask.{Ask}
 use Rattle.bmx_token.specs.declared.parts.Role.TheVariants.{Parent}
 use Rattle.bmx_token.specs.Transitions.{Share, Note, Asks, Grants, Recalls, Returns, send, Transition, made_share}
-use Rattle.bmx_token_model.specs.Machine.{Message, Draft, Numbers, Object, Step, Makes, Does, Receives, Writes, Forgets, Clears, Run, IsFirst, Absent as NotYet, Born, IsFirstElsewhere, Unknown, Heard, gives, brings, with_holding, issue, moved, popped}
+use Rattle.bmx_token_model.specs.Machine.{Message, Unnumbered, Numbers, Object, Step, Makes, Does, Receives, Writes, Forgets, Clears, Run, IsFirst, Absent as NotYet, Born, IsFirstElsewhere, Unknown, Heard, gives, brings, with_holding, issue, moved, popped}
 use Rattle.bmx_token_model.proofs.Tallies.{put-all, put-here, put-apart, tally, tally-append, tally_at_most, handover, handover-brings, notes, notes-append, Cases, Same, Apart, cases, same_true, put_at-here, put_at-apart, Both, Other, pair_cases}
 use Rattle.bmx_token_model.proofs.Each.{moved_kept}
 use Rattle.bmx_token_model.proofs.Moves.{notes_to, sent, drafted, issue_notes, moved_notes, holds_moved, tally-sent, Taking, Nothing, Letter, Acting, does_acting, takes_acting, taking_holds, kept_object}
@@ -24,7 +24,7 @@ use Rattle.bmx_token_model.proofs.Letters.{issue_entering, popped_entering, popp
 abbrev pub AnswersFor : Object → ℕ → ℕ → Type 0
 AnswersFor o n m = (is_some (o.entering n m) ≡ true) ⊎ (1 ≤ tally handover (notes (o.channel m n)))
 
-pub issue_answers : (o : Object) (me : ℕ) (d : Draft) (n m : ℕ) → AnswersFor o n m → AnswersFor (issue o me d) n m
+pub issue_answers : (o : Object) (me : ℕ) (d : Unnumbered) (n m : ℕ) → AnswersFor o n m → AnswersFor (issue o me d) n m
 issue_answers o me d n m (inl h) = inl (issue_entering (λ r. is_some r ≡ true) (λ seq r x. refl) o me d n m h)
 issue_answers o me d n m (inr h) =
     inr (omega (arith, h, ap (tally handover) (issue_notes o me d m n) ∙ tally-append handover (notes (o.channel m n)) (drafted me d m n)))

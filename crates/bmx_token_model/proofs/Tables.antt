@@ -6,7 +6,7 @@ use Rattle.bmx_types.specs.Updates.{put, put_at}
 use Rattle.bmx_token_model.specs.Machine.{Numbers, sent_in, got_in}
 use Rattle.bmx_token_model.specs.Tables.{Table}
 use Rattle.bmx_token_model.proofs.Tallies.{Cases, Same, Apart, cases, put_at-here, put_at-apart, put_at-all, Both, Other, pair_cases}
-use Rattle.bmx_token_model.proofs.Traffic.{Letter, Traffic, Draft, numbered, issue, issue_all, taking, looking, Counted, IsCounted, issue_counted, issue_entering, taking_entering, taking_here}
+use Rattle.bmx_token_model.proofs.Traffic.{Letter, Traffic, Unnumbered, numbered, issue, issue_all, taking, looking, Counted, IsCounted, issue_counted, issue_entering, taking_entering, taking_here}
 
 -- ## lists
 
@@ -118,18 +118,18 @@ got_here : (seq : ℕ) (r : Option Numbers) → seq ≤ (got_in seq r).got
 got_here seq None = omega arith
 got_here seq (Some r) = omega arith
 
-issue_firm : (o : Traffic) (me : ℕ) (d : Draft) (n m : ℕ) (x : Table) → FirmAt (o.entering n m) x → FirmAt ((issue o me d).entering n m) x
+issue_firm : (o : Traffic) (me : ℕ) (d : Unnumbered) (n m : ℕ) (x : Table) → FirmAt (o.entering n m) x → FirmAt ((issue o me d).entering n m) x
 issue_firm o me d n m x f = issue_entering (λ r. FirmAt r x) (firm_sent x) o me d n m f
 
-issue_way : (o : Traffic) (me : ℕ) (d : Draft) (m n : ℕ) (l : Letter) → In l (o.channel m n) → In l ((issue o me d).channel m n)
+issue_way : (o : Traffic) (me : ℕ) (d : Unnumbered) (m n : ℕ) (l : Letter) → In l (o.channel m n) → In l ((issue o me d).channel m n)
 issue_way o me d m n l i = put_at-all (λ j k w. In l (o.channel j k) → In l w) o.channel me d.to _ (in_left l (o.channel me d.to) _) (λ j k c x. x) m n i
 
 -- a letter in flight was there, or is the one issued
-data Newly (o : Traffic) (me : ℕ) (d : Draft) (m n : ℕ) (l : Letter) : Type 0 where
+data Newly (o : Traffic) (me : ℕ) (d : Unnumbered) (m n : ℕ) (l : Letter) : Type 0 where
   Old : In l (o.channel m n) → Newly o me d m n l
   New : m ≡ me → n ≡ d.to → numbered (o.issued me d.to + 1) d ≡ l → Newly o me d m n l
 
-issue_new : (o : Traffic) (me : ℕ) (d : Draft) (m n : ℕ) (l : Letter) → In l ((issue o me d).channel m n) → Newly o me d m n l
+issue_new : (o : Traffic) (me : ℕ) (d : Unnumbered) (m n : ℕ) (l : Letter) → In l ((issue o me d).channel m n) → Newly o me d m n l
 issue_new o me d m n l i = put_at-all (λ j k w. In l w → Newly o me d j k l) o.channel me d.to _ (λ x. by_place (in_either l (o.channel me d.to) _ x)) (λ j k c x. Old x) m n i
   where
     by_place : In l (o.channel me d.to) ⊎ In l (numbered (o.issued me d.to + 1) d ∷ []) → Newly o me d me d.to l
@@ -143,15 +143,15 @@ moved_safe : (o p : Traffic) (ts : List Table) (n m : ℕ) (k : Option ℕ) → 
 moved_safe o p ts n m k channel firm (inl v) = inl record { grant_letter = v.grant_letter; there = channel v.grant_letter v.there; brings_it = v.brings_it; front = v.front; later = v.later }
 moved_safe o p ts n m k channel firm (inr f) = inr (λ x i u b. firm x (f x i u b))
 
-pub issue_safe : (o : Traffic) (me : ℕ) (d : Draft) (ts : List Table) (n m : ℕ) (k : Option ℕ) → IsSafe o ts n m k → IsSafe (issue o me d) ts n m k
+pub issue_safe : (o : Traffic) (me : ℕ) (d : Unnumbered) (ts : List Table) (n m : ℕ) (k : Option ℕ) → IsSafe o ts n m k → IsSafe (issue o me d) ts n m k
 issue_safe o me d ts n m k = moved_safe o (issue o me d) ts n m k (issue_way o me d m n) (issue_firm o me d n m)
 
-issue_all_safe : (o : Traffic) (me : ℕ) (drafts : List Draft) (ts : List Table) (n m : ℕ) (k : Option ℕ) → IsSafe o ts n m k → IsSafe (issue_all o me drafts) ts n m k
+issue_all_safe : (o : Traffic) (me : ℕ) (drafts : List Unnumbered) (ts : List Table) (n m : ℕ) (k : Option ℕ) → IsSafe o ts n m k → IsSafe (issue_all o me drafts) ts n m k
 issue_all_safe o me [] ts n m k h = h
 issue_all_safe o me (d ∷ drafts) ts n m k h = issue_all_safe (issue o me d) me drafts ts n m k (issue_safe o me d ts n m k h)
 
 -- a request is issued to a node where it is safe
-pub issue_requests : (o : Traffic) (me : ℕ) (d : Draft) (ts : ℕ → ℕ → List Table) → IsCounted o → (d.asks ≡ true → IsSafe o (ts me d.to) d.to me None) → Requests o ts → Requests (issue o me d) ts
+pub issue_requests : (o : Traffic) (me : ℕ) (d : Unnumbered) (ts : ℕ → ℕ → List Table) → IsCounted o → (d.asks ≡ true → IsSafe o (ts me d.to) d.to me None) → Requests o ts → Requests (issue o me d) ts
 issue_requests o me d ts c safe r m n l i a = issue_safe o me d (ts m n) n m (Some l.seq) (by_new (issue_new o me d m n l i))
   where
     safe_for : IsSafe o (ts me d.to) d.to me None → IsSafe o (ts me d.to) d.to me (Some (o.issued me d.to + 1))
@@ -170,21 +170,21 @@ issue_requests o me d ts c safe r m n l i a = issue_safe o me d (ts m n) n m (So
         (subst₂ (λ p q. IsSafe o (ts p q) q p (Some (o.issued me d.to + 1))) (sym e) (sym f) (safe_for (safe (ap (λ (z : Letter). z.asks) g ∙ a))))
 
 -- each letter that asks goes to one of these
-abbrev pub AskThose : (ℕ → Type 0) → List Draft → Type 0
+abbrev pub AskThose : (ℕ → Type 0) → List Unnumbered → Type 0
 AskThose A [] = Unit {0}
 AskThose A (d ∷ drafts) = (d.asks ≡ true → A d.to) × AskThose A drafts
 
-pub ask_others : {A B : ℕ → Type 0} → ((n : ℕ) → A n → B n) → (drafts : List Draft) → AskThose A drafts → AskThose B drafts
+pub ask_others : {A B : ℕ → Type 0} → ((n : ℕ) → A n → B n) → (drafts : List Unnumbered) → AskThose A drafts → AskThose B drafts
 ask_others f [] h = tt
 ask_others f (d ∷ drafts) h = (λ x. f d.to (h.0 x), ask_others f drafts h.1)
 
-issue_all_requests : (o : Traffic) (me : ℕ) (drafts : List Draft) (ts : ℕ → ℕ → List Table) → IsCounted o → AskThose (λ n. IsSafe o (ts me n) n me None) drafts → Requests o ts → Requests (issue_all o me drafts) ts
+issue_all_requests : (o : Traffic) (me : ℕ) (drafts : List Unnumbered) (ts : ℕ → ℕ → List Table) → IsCounted o → AskThose (λ n. IsSafe o (ts me n) n me None) drafts → Requests o ts → Requests (issue_all o me drafts) ts
 issue_all_requests o me [] ts c those r = r
 issue_all_requests o me (d ∷ drafts) ts c those r =
     issue_all_requests (issue o me d) me drafts ts (issue_counted o me d c) (ask_others (λ n h. issue_safe o me d (ts me n) n me None h) drafts those.1)
     (issue_requests o me d ts c those.0 r)
 
-pub issue_within : (o : Traffic) (me : ℕ) (d : Draft) (ts : ℕ → ℕ → List Table) → Within o ts → Within (issue o me d) ts
+pub issue_within : (o : Traffic) (me : ℕ) (d : Unnumbered) (ts : ℕ → ℕ → List Table) → Within o ts → Within (issue o me d) ts
 issue_within o me d ts w m n x i = (
   elim (pair_cases me d.to m n) [
     | Both e f ↦ subst₂ (λ a b. x.sent ≤ (issue o me d).issued a b) (sym e) (sym f)
@@ -194,11 +194,11 @@ issue_within o me d ts w m n x i = (
   (w m n x i).1,
 )
 
-issue_all_within : (o : Traffic) (me : ℕ) (drafts : List Draft) (ts : ℕ → ℕ → List Table) → Within o ts → Within (issue_all o me drafts) ts
+issue_all_within : (o : Traffic) (me : ℕ) (drafts : List Unnumbered) (ts : ℕ → ℕ → List Table) → Within o ts → Within (issue_all o me drafts) ts
 issue_all_within o me [] ts w = w
 issue_all_within o me (d ∷ drafts) ts w = issue_all_within (issue o me d) me drafts ts (issue_within o me d ts w)
 
-issue_all_looks : (o : Traffic) (me : ℕ) (drafts : List Draft) → (issue_all o me drafts).looks ≡ o.looks
+issue_all_looks : (o : Traffic) (me : ℕ) (drafts : List Unnumbered) → (issue_all o me drafts).looks ≡ o.looks
 issue_all_looks o me [] = refl
 issue_all_looks o me (d ∷ drafts) = issue_all_looks (issue o me d) me drafts
 
@@ -254,14 +254,14 @@ giver_safe o from me l rest ts channel c w r has there = inr (λ x i u b. subst 
 -- ## a node's transition
 
 -- after a transition a node looks to a node that is safe to look to, or to whom it hands ownership over first
-pub data Turned (A : ℕ → Type 0) (row : ℕ → Bool) (drafts : List Draft) : Type 0 where
+pub data Turned (A : ℕ → Type 0) (row : ℕ → Bool) (drafts : List Unnumbered) : Type 0 where
   -- all it looks to and asks is safe
   Safely : ((n : ℕ) → row n ≡ true → A n) → AskThose A drafts → Turned A row drafts
   -- it hands ownership over, and asks only its taker
-  Handing : (d : Draft) (rest : List Draft) → drafts ≡ d ∷ rest → d.brings ≡ true → d.asks ≡ false → ((n : ℕ) → row n ≡ true → d.to ≡ n) → AskThose (λ n. d.to ≡ n) rest →
+  Handing : (d : Unnumbered) (rest : List Unnumbered) → drafts ≡ d ∷ rest → d.brings ≡ true → d.asks ≡ false → ((n : ℕ) → row n ≡ true → d.to ≡ n) → AskThose (λ n. d.to ≡ n) rest →
       Turned A row drafts
 
-pub turned_tabled : (o : Traffic) (me : ℕ) (row : ℕ → Bool) (drafts : List Draft) (ts : ℕ → ℕ → List Table) → IsCounted o → IsTabled o ts →
+pub turned_tabled : (o : Traffic) (me : ℕ) (row : ℕ → Bool) (drafts : List Unnumbered) (ts : ℕ → ℕ → List Table) → IsCounted o → IsTabled o ts →
     Turned (λ n. IsSafe o (ts me n) n me None) row drafts → IsTabled (issue_all (looking o me row) me drafts) ts
 turned_tabled o me row drafts ts c t transition = record {
   within = issue_all_within q me drafts ts t.within;
@@ -280,7 +280,7 @@ turned_tabled o me row drafts ts c t transition = record {
     seen ks n m k = moved_safe o q ks n m k (λ l i. i) (λ x f. f)
 
     -- the grant of ownership that was just issued
-    granted : (d : Draft) → d.brings ≡ true → IsSafe (issue q me d) (ts me d.to) d.to me None
+    granted : (d : Unnumbered) → d.brings ≡ true → IsSafe (issue q me d) (ts me d.to) d.to me None
     granted d b = inl record {
       grant_letter = numbered (o.issued me d.to + 1) d;
       there = subst (In (numbered (o.issued me d.to + 1) d)) (sym (put_at-here o.channel me d.to (o.channel me d.to ++ numbered (o.issued me d.to + 1) d ∷ [])))

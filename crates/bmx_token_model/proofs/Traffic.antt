@@ -20,17 +20,17 @@ pub record Traffic : Type 0 where
   pub taken : ℕ → ℕ → ℕ
 
 -- a letter to a node, before it has a number
-pub record Draft : Type 0 where
+pub record Unnumbered : Type 0 where
   pub to : ℕ
   pub asks : Bool
   pub gives : Bool
   pub brings : Bool
 
-abbrev pub numbered : ℕ → Draft → Letter
+abbrev pub numbered : ℕ → Unnumbered → Letter
 numbered seq d = record { seq = seq; asks = d.asks; gives = d.gives; brings = d.brings }
 
 -- node me issues a letter, and all of some
-abbrev pub issue : Traffic → ℕ → Draft → Traffic
+abbrev pub issue : Traffic → ℕ → Unnumbered → Traffic
 issue o me d =
     let seq : ℕ = o.issued me d.to + 1 in
     record o {
@@ -39,7 +39,7 @@ issue o me d =
       issued = put_at o.issued me d.to seq;
     }
 
-abbrev pub issue_all : Traffic → ℕ → List Draft → Traffic
+abbrev pub issue_all : Traffic → ℕ → List Unnumbered → Traffic
 issue_all o me [] = o
 issue_all o me (d ∷ drafts) = issue_all (issue o me d) me drafts
 
@@ -70,7 +70,7 @@ counted_more (a ∷ letters) k i l h e = (h.0, counted_more letters (k + 1) i l 
 pub record IsCounted (o : Traffic) : Type 0 where
   pub channels : (n m : ℕ) → Counted (o.taken m n) (o.channel n m) (o.issued n m)
 
-pub issue_counted : (o : Traffic) (me : ℕ) (d : Draft) → IsCounted o → IsCounted (issue o me d)
+pub issue_counted : (o : Traffic) (me : ℕ) (d : Unnumbered) → IsCounted o → IsCounted (issue o me d)
 issue_counted o me d c = record {
   channels = put_at-both (λ n m w i. Counted (o.taken m n) w i) o.channel o.issued me d.to _ _
       (counted_more (o.channel me d.to) (o.taken d.to me) (o.issued me d.to) (numbered (o.issued me d.to + 1) d) (c.channels me d.to) refl) (λ n m h. c.channels n m);
@@ -98,7 +98,7 @@ taking_counted o from me l rest channel c = record {
 
 -- a record that grows keeps what a later letter keeps
 pub issue_entering : (Q : Option Numbers → Type 0) → ((seq : ℕ) (r : Option Numbers) → Q r → Q (Some (sent_in seq r))) →
-    (o : Traffic) (me : ℕ) (d : Draft) (n m : ℕ) → Q (o.entering n m) → Q ((issue o me d).entering n m)
+    (o : Traffic) (me : ℕ) (d : Unnumbered) (n m : ℕ) → Q (o.entering n m) → Q ((issue o me d).entering n m)
 issue_entering Q more o me d n m h = by_test d.gives
   where
     by_test : (t : Bool) → Q ((cond t (put_at o.entering me d.to (Some (sent_in (o.issued me d.to + 1) (o.entering me d.to)))) o.entering) n m)
@@ -114,7 +114,7 @@ taking_entering Q more o from me l rest n m h = by_test l.brings
     by_test false = h
 
 -- the record of a letter that gives the object, and of one that brings it over
-pub issue_here : (o : Traffic) (me : ℕ) (d : Draft) → d.gives ≡ true → (issue o me d).entering me d.to ≡ Some (sent_in (o.issued me d.to + 1) (o.entering me d.to))
+pub issue_here : (o : Traffic) (me : ℕ) (d : Unnumbered) → d.gives ≡ true → (issue o me d).entering me d.to ≡ Some (sent_in (o.issued me d.to + 1) (o.entering me d.to))
 issue_here o me d g =
     ap (λ (t : Bool). (cond t (put_at o.entering me d.to (Some (sent_in (o.issued me d.to + 1) (o.entering me d.to)))) o.entering) me d.to) g
     ∙ put_at-here o.entering me d.to (Some (sent_in (o.issued me d.to + 1) (o.entering me d.to)))
@@ -144,7 +144,7 @@ bounded_got : (r : Option Numbers) (i t : ℕ) → Bounded r i t → Bounded (So
 bounded_got None i t b = (omega arith, omega arith)
 bounded_got (Some r) i t b = (b.0, omega (arith, b.1))
 
-pub issue_bounded : (o : Traffic) (me : ℕ) (d : Draft) → IsBounded o → IsBounded (issue o me d)
+pub issue_bounded : (o : Traffic) (me : ℕ) (d : Unnumbered) → IsBounded o → IsBounded (issue o me d)
 issue_bounded o me d b = record { records = λ n m. by_test n m d.gives }
   where
     seq : ℕ

@@ -36,13 +36,13 @@ pub record Object : Type 0 where
 -- ## letters
 
 -- a letter to a node, before it has a number
-pub record Draft : Type 0 where
+pub record Unnumbered : Type 0 where
   pub to : ℕ
   pub note : Option Note
   pub tells : Bool
 
 -- the letter of a draft
-abbrev pub numbered : ℕ → Draft → Message
+abbrev pub numbered : ℕ → Unnumbered → Message
 numbered seq d = record { seq = seq; note = d.note; tells = d.tells }
 
 -- a note gives the object: its receiver is to know it, and isn't its owner
@@ -83,7 +83,7 @@ abbrev pub asks : Message → Bool
 asks l = option_map_or is_ask l.note false
 
 -- the draft of a note that is sent, where some field refers to the object or none
-abbrev pub draft : Bool → Send → Draft
+abbrev pub draft : Bool → Send → Unnumbered
 draft refers s = record { to = s.to; note = Some s.note; tells = refers && is_grant s.note }
 
 -- ## changes
@@ -105,7 +105,7 @@ abbrev pub got_in : ℕ → Option Numbers → Numbers
 got_in seq r = let old : Numbers = unwrap_or r no_numbers in record old { got = max old.got seq }
 
 -- a node issues a letter, with the next number to its receiver, and records that it gave the object
-abbrev pub issue : Object → ℕ → Draft → Object
+abbrev pub issue : Object → ℕ → Unnumbered → Object
 issue o me d =
     let seq : ℕ = o.issued me d.to + 1 in
     record o {
@@ -116,7 +116,7 @@ issue o me d =
     }
 
 -- a node issues letters, in order
-abbrev pub issue_all : Object → ℕ → List Draft → Object
+abbrev pub issue_all : Object → ℕ → List Unnumbered → Object
 issue_all o me [] = o
 issue_all o me (d ∷ drafts) = issue_all (issue o me d) me drafts
 

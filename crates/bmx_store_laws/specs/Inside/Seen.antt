@@ -10,7 +10,7 @@ use Rattle.bmx_msg.specs.declared.letters.Letter.{Letter}
 use Rattle.bmx_msg.specs.Letters.{targets}
 use Rattle.bmx_owner.specs.declared.entering.Record.{Record}
 use Rattle.bmx_token.specs.Transitions.{Share, Note}
-use Rattle.bmx_token_model.specs.Machine.{Message, Numbers, Object, Draft as Slipped}
+use Rattle.bmx_token_model.specs.Machine.{Message, Numbers, Object, Unnumbered}
 use Rattle.bmx_protocol.specs.Nodes.{Setting, Known, share_of}
 use Rattle.bmx_protocol.specs.Rules.{Draft, name_in, note_in, grant_in}
 use Rattle.bmx_protocol.specs.Steps.{first_node}
@@ -35,7 +35,7 @@ abbrev pub seen_message : ℕ → Letter → Message
 seen_message x l = record { seq = l.seq; note = seen_note x l.msg; tells = tells_of x l.msg }
 
 -- a letter before it has its number
-abbrev pub seen_draft : ℕ → Draft → Slipped
+abbrev pub seen_draft : ℕ → Draft → Unnumbered
 seen_draft x d = record { to = d.to; note = seen_note x d.msg; tells = tells_of x d.msg }
 
 -- ## a store
