@@ -1,4 +1,4 @@
-ghost use Rattle.std.specs.Prelude.{◌≡◌, ◌≤◌, IfSome};
+ghost use Rattle.std.specs.Prelude.{◌≡◌, ◌<◌};
 
 use crate::{LearnError, Replica, Word, Words};
 use bmx_segment::{Kind, PlaceError};
@@ -51,6 +51,49 @@ fn reserve_lent(replica: &mut Replica, n: u32) -> Result<(), NoMemory> {
     reserved
 }
 
+/// The same of an object of two fields.
+fn told_larger(name: Name, bunch: BunchNo, address: Address, moves: u64) -> Info
+    ensures { result.size ≡ 2 }
+{
+    let place = Place { address, moves };
+    let size = 2;
+    Info {
+        name,
+        bunch,
+        size,
+        place,
+    }
+}
+
+/// Where the object of a name lies.
+fn lies(replica: &Replica, name: Name) -> Option<Address> {
+    let info = replica.info(name)?;
+    Some(info.place.address)
+}
+
+/// Whether an object was made at node 0 and then learnt to lie in node 1's words for the i-th.
+fn made_and_moved(replica: &mut Replica, bunch: BunchNo, i: u64) -> Option<bool>
+    requires { i < 10000 }
+{
+    let name = Name::new(NodeNo::new(0)?, i + 1)?;
+    let segment = (i / OBJECTS) as u32 + 1;
+    let word = (i % OBJECTS) as u32 * 5;
+    let to = Address::new(NodeNo::new(1)?, segment, word)?;
+    let made = make(replica, name, bunch);
+    let learnt = replica.learn(&told(name, bunch, to, 1));
+    Some(made == Ok(true) && learnt.is_ok())
+}
+
+/// Whether the i-th object had a copy, and has no entry once it is forgotten.
+fn forgotten(replica: &mut Replica, i: u64) -> Option<bool>
+    requires { i < 10000 }
+{
+    let name = Name::new(NodeNo::new(0)?, i + 1)?;
+    let had = replica.has_copy(name);
+    replica.forget(name);
+    Some(had && replica.info(name).is_none())
+}
+
 #[test]
 fn a_larger_moves_wins(rt: HostRuntime) -> Result<(), Fail> {
     let node = NodeNo::new(0).ok_or("node")?;
@@ -60,26 +103,27 @@ fn a_larger_moves_wins(rt: HostRuntime) -> Result<(), Fail> {
     let first = Address::new(other, 1, 0).ok_or("first")?;
     let second = Address::new(other, 1, 100).ok_or("second")?;
     let mut replica = Replica::new(rt.alloc(), node, 4);
-    replica.reserve(1)?;
-    replica.learn(&told(name, bunch, first, 2))?;
-    replica.learn(&told(name, bunch, second, 1))?;
-    let info = replica.info(name).ok_or("info")?;
-    assert_eq!(rt; info.place.address, first);
+    let room = replica.reserve(1);
+    let learnt = replica.learn(&told(name, bunch, first, 2));
+    let older = replica.learn(&told(name, bunch, second, 1));
+    let kept = lies(&replica, name);
+    let larger = replica.learn(&told_larger(name, bunch, first, 2));
+    let in_place = replica.learn(&told(name, bunch, first, 3));
+    let newer = replica.learn(&told(name, bunch, second, 3));
+    let moved = lies(&replica, name);
+    let meant = replica.meaning(first.word());
+    let alike = replica.same(first.word(), second.word());
+    let unlike = replica.same(first.word(), 0);
+    let copied = replica.has_copy(name);
+    assert!(rt; room.is_ok());
+    assert_eq!(rt; (learnt, older, newer), (Ok(()), Ok(()), Ok(())));
     assert_eq!(rt;
-        replica.learn(&Info { size: 2, ..info }),
-        Err(LearnError::Clash)
+        (larger, in_place),
+        (Err(LearnError::Clash), Err(LearnError::Clash))
     );
-    assert_eq!(rt;
-        replica.learn(&told(name, bunch, first, 3)),
-        Err(LearnError::Clash)
-    );
-    replica.learn(&told(name, bunch, second, 3))?;
-    let info = replica.info(name).ok_or("info")?;
-    assert_eq!(rt; info.place.address, second);
-    assert_eq!(rt; replica.meaning(first.word()), Some(name));
-    assert!(rt; replica.same(first.word(), second.word()));
-    assert!(rt; !replica.same(first.word(), 0));
-    assert!(rt; !replica.has_copy(name));
+    assert_eq!(rt; (kept, moved), (Some(first), Some(second)));
+    assert_eq!(rt; meant, Some(name));
+    assert_eq!(rt; (alike, unlike, copied), (true, false, false));
     Ok(())
 }
 
@@ -89,18 +133,24 @@ fn a_moved_object_is_reached_by_its_old_address(rt: HostRuntime) -> Result<(), F
     let other = NodeNo::new(1).ok_or("other")?;
     let bunch = BunchNo::new(0).ok_or("bunch")?;
     let name = Name::new(node, 1).ok_or("name")?;
+    let from = Address::new(node, 1, 0).ok_or("from")?;
     let to = Address::new(other, 1, 7).ok_or("to")?;
     let mut replica = Replica::new(rt.alloc(), node, 4);
-    assert!(rt; make(&mut replica, name, bunch)?);
-    assert!(rt; write(&mut replica, name, 0, -5));
-    let from = replica.info(name).ok_or("info")?.place.address;
-    replica.learn(&told(name, bunch, to, 1))?;
-    assert_eq!(rt; replica.meaning(from.word()), Some(name));
-    assert!(rt; replica.same(from.word(), to.word()));
-    assert_eq!(rt; replica.field(name, 0), Some(Val::Int(-5)));
+    let made = make(&mut replica, name, bunch);
+    let written = write(&mut replica, name, 0, -5);
+    let first = lies(&replica, name);
+    let learnt = replica.learn(&told(name, bunch, to, 1));
+    let meant = replica.meaning(from.word());
+    let alike = replica.same(from.word(), to.word());
+    let held = replica.field(name, 0);
     replica.forget(name);
-    assert_eq!(rt; replica.meaning(from.word()), Some(name));
-    assert_eq!(rt; replica.info(name), None);
+    let still_meant = replica.meaning(from.word());
+    let gone = replica.info(name).is_none();
+    assert_eq!(rt; (made, written, learnt), (Ok(true), true, Ok(())));
+    assert_eq!(rt; first, Some(from));
+    assert_eq!(rt; (meant, still_meant), (Some(name), Some(name)));
+    assert_eq!(rt; (alike, gone), (true, true));
+    assert_eq!(rt; held, Some(Val::Int(-5)));
     Ok(())
 }
 
@@ -110,33 +160,31 @@ fn lent_segments_come_back(rt: HostRuntime) -> Result<(), Fail> {
     let bunch = BunchNo::new(0).ok_or("bunch")?;
     let name = Name::new(node, 1).ok_or("name")?;
     let mut replica = Replica::new(rt.alloc(), node, 4);
-    assert!(rt; make(&mut replica, name, bunch)?);
-    assert!(rt; write(&mut replica, name, 0, -5));
-    reserve_lent(&mut replica, 2)?;
-    assert_eq!(rt; replica.field(name, 0), Some(Val::Int(-5)));
+    let made = make(&mut replica, name, bunch);
+    let written = write(&mut replica, name, 0, -5);
+    let reserved = reserve_lent(&mut replica, 2);
+    let held = replica.field(name, 0);
+    assert_eq!(rt; (made, written), (Ok(true), true));
+    assert!(rt; reserved.is_ok());
+    assert_eq!(rt; held, Some(Val::Int(-5)));
     Ok(())
 }
 
 #[test]
 fn many_names(rt: HostRuntime) -> Result<(), Fail> {
     let node = NodeNo::new(0).ok_or("node")?;
-    let other = NodeNo::new(1).ok_or("other")?;
     let bunch = BunchNo::new(0).ok_or("bunch")?;
     let mut replica = Replica::new(rt.alloc(), node, 64);
+    let mut moved = true;
     for i in 0..MANY {
-        let name = Name::new(node, i + 1).ok_or("name")?;
-        assert!(rt; make(&mut replica, name, bunch)?);
-        let segment = (i / OBJECTS) as u32 + 1;
-        let word = (i % OBJECTS) as u32 * 5;
-        let to = Address::new(other, segment, word).ok_or("to")?;
-        replica.learn(&told(name, bunch, to, 1))?;
+        moved = moved && made_and_moved(&mut replica, bunch, i) == Some(true);
     }
+    let mut gone = true;
     for i in 0..MANY {
-        let name = Name::new(node, i + 1).ok_or("name")?;
-        assert!(rt; replica.has_copy(name));
-        replica.forget(name);
-        assert!(rt; replica.info(name).is_none());
+        gone = gone && forgotten(&mut replica, i) == Some(true);
     }
+    assert!(rt; moved);
+    assert!(rt; gone);
     Ok(())
 }
 
