@@ -1,6 +1,6 @@
 -- The ledger that a store opens with: the blocks of its births, in the order in which they are placed.
 use Rattle.std.proofs.Common.{◌≡◌, ◌≢◌, ◌⊎◌, inl, inr, ℕ, ◌+◌, ◌*◌, ◌^◌, ◌<◌, ◌≤◌, arith, refl, ap, sym, subst, ◌∙◌, Bool, true, false, cond, List, [], ◌∷◌, map, length, zero, suc, length-append}
-use Rattle.std.specs.Prelude.{◌==◌, ◌&&◌, nat_lt, Option, Some, None, filter, slice_get}
+use Rattle.std.specs.Prelude.{◌==◌, ◌&&◌, nat_lt, Option, Some, None, filter, slice_get, unwrap_or}
 use Rattle.std.specs.Option.{option_map}
 use Rattle.bmx_types.specs.Words.{maker, count_of}
 use Rattle.bmx_types.specs.Openings.{IsOpening, bunches_of}
@@ -14,7 +14,7 @@ use Rattle.bmx_owner.specs.Records.{blank}
 use Rattle.bmx_protocol.specs.Nodes.{Setting, Known, field_of, is_anchor, birth_of, owned_birth, heard_birth, first_known, first_entering}
 use Rattle.bmx_protocol.specs.Places.{Places, has_room, with_segment, with_made, with_placed, no_places, with_births, by_bunch, owner_places, told_place, with_told}
 use Rattle.bmx_protocol.specs.Strays.{clashes}
-use Rattle.bmx_protocol.specs.Steps.{first_node}
+use Rattle.bmx_protocol.specs.Steps.{first_node, nowhere}
 use Rattle.bmx_protocol.specs.Worlds.{World, world_of}
 use Rattle.bmx_protocol.proofs.Births.{In, Distinct, every_in, every_of, in_contains, found, numbered_above, in_bunches, of_bunches, all_bunches, distinct_bunches, learns, learns_in, distinct, ordered, known_first, anchors, anchors_of, known_told}
 use Rattle.bmx_store_laws.specs.Laws.{IsCounted}
@@ -194,6 +194,11 @@ module _ (st : Setting) (opening : IsOpening st.nodes st.limit st.births) where
   lies_there : (b : Birth) → In b st.births → LiesIn placed.blocks (owned.place b.name) b.name (owned_birth b)
   lies_there b there = placed.keeps.entries b.name (owned_birth b)
       (learns_in owned_birth (ordered st opening) (λ x. None) b (distinct_bunches st.births (distinct st opening) (bunches_of st.births)) (all_bunches st.births (bunches_of st.births) b there (in_bunches st.births b there)))
+
+  pub lies_somewhere : (b : Birth) → In b st.births → owned.place b.name ≡ Some (unwrap_or (owned.place b.name) nowhere)
+  lies_somewhere b there =
+      let l : LiesIn placed.blocks (owned.place b.name) b.name (owned_birth b) = lies_there b there in
+      l.lies ∙ ap (λ (p : Option Place). Some (unwrap_or p nowhere)) (sym l.lies)
 
   told_keeps : (bs : List Birth) (known : ℕ → Option Known) (a : Places) → Every (λ (b : Birth). In b st.births) bs → Keeps placed.blocks known a →
       Keeps placed.blocks (learns heard_birth known bs) (with_told owned a bs)
