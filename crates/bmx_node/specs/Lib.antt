@@ -1,0 +1,4 @@
+pub mod Seen
+pub mod Stamped
+pub mod Openings
+pub mod Inside
