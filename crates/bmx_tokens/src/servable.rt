@@ -54,6 +54,13 @@ impl Servable {
         self.names.get(i).copied()
     }
 
+    /// How many names there are.
+    pub(crate) fn len(&self) -> usize
+        ensures { result ≡ length self.now.names }
+    {
+        self.names.len()
+    }
+
     /// The name is listed from now on, or isn't. Searches in logarithmic time, and moves the names behind it.
     pub(crate) fn put(&mut self, name: Name, is_listed: bool)
         requires { 0 < self.old.spare }

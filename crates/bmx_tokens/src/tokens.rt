@@ -1,4 +1,4 @@
-ghost use Rattle.std.specs.Prelude.{◌≡◌, ◌≤◌, ◌<◌, ◌+◌, ◌↔◌, ℕ, [], slice_get, Contains, Some, None, IsSome, IsTrue, OnOk, OnErr, IfOk, IfSome, IfNone};
+ghost use Rattle.std.specs.Prelude.{◌≡◌, ◌≤◌, ◌<◌, ◌+◌, ◌↔◌, ℕ, [], length, slice_get, Contains, Some, None, IsSome, IsTrue, OnOk, OnErr, IfOk, IfSome, IfNone};
 ghost use Rattle.std.specs.List.Sorted.{IsStrictlyIncreasing};
 ghost use Rattle.bmx_token.specs.Tokens.{acquire, release, serve, request, granted, inval, ack};
 ghost use Rattle.bmx_token.specs.declared.parts.Role.TheVariants.{Owner};
@@ -95,6 +95,13 @@ impl Tokens {
         ensures index { IsIndexed self.now }
     {
         self.servable.get(i)
+    }
+
+    /// How many names there are whose queue can be served.
+    pub fn served_count(&self) -> usize
+        ensures { result ≡ length self.now.servable }
+    {
+        self.servable.len()
     }
 
     /// The token of a name that had none, whose queue is empty.
