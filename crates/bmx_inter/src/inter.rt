@@ -234,3 +234,6 @@ impl Inter {
         self.scions.get(i)
     }
 }
+
+#[cfg(test)]
+mod tests;
