@@ -1,0 +1,7 @@
+pub mod Lists
+pub mod Completing
+pub mod Turning
+pub mod Growing
+pub mod Walks
+pub mod Printing
+pub mod Stated

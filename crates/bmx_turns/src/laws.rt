@@ -1,0 +1,18 @@
+ghost use Rattle.bmx_turns.specs.Laws.{SerialFollowsItsScript, SerialEndsFirst, StuckRunsNot};
+
+/// The law that each serial history follows its script: each command that is tried in it is the next of its node's
+/// program in the phase that it stands in. It does nothing.
+pub fn serial_follows_its_script()
+    ensures { SerialFollowsItsScript }
+{}
+
+/// The law that a serial history is at its end as soon as it runs its script: no history that it goes on from runs
+/// it. It does nothing.
+pub fn serial_ends_first()
+    ensures { SerialEndsFirst }
+{}
+
+/// The law that a stuck history doesn't run its script. It does nothing.
+pub fn stuck_runs_not()
+    ensures { StuckRunsNot }
+{}

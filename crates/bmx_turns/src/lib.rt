@@ -1,0 +1,7 @@
+//! How runs of programs grow, by one event and by one phase: what a run that is made event after event is, when
+//! it is at its end, and when it is stuck. It has definitions and laws alone.
+#![tactic(auto)]
+
+mod laws;
+
+pub use laws::{serial_ends_first, serial_follows_its_script, stuck_runs_not};
