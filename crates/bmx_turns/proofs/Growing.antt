@@ -1,6 +1,5 @@
 -- A run from phase to phase: serial phases end as soon as they can.
 use Rattle.std.proofs.Common.{◌≡◌, ◌⊎◌, inl, inr, ℕ, ◌+◌, ◌<◌, arith, refl, ap, sym, ◌∙◌, subst, List, [], ◌∷◌, ◌++◌, length}
-use Rattle.std.specs.List.{flat_map}
 use Rattle.std.proofs.lemmas.List.{append-nil, append_cancel_left, append_assoc}
 use Rattle.bmx_types.specs.declared.commands.Command.{Command}
 use Rattle.bmx_protocol.specs.declared.events.Event.{Event}
@@ -63,10 +62,22 @@ comes_first st seed all = record {
   before = [];
   cut = refl;
   done = refl;
-  serial = λ events h. h;
-  runs = λ events h. h;
-  parts = λ events h. h;
-  back = λ events h. record { idle = []; later = events; cut = refl; none = λ n lt. refl; does = h };
+  serial = λ ss events h. h;
+  runs = λ ss events h. h;
+  parts = λ ss events h. h;
+  back = λ ss events h. record { idle = []; later = events; cut = refl; none = λ n lt. refl; does = h };
+}
+
+-- the same of other phases to come
+pub comes_other : (st : Setting) (seed : ℕ) (all : List Stage) (past : List Event) (rest ss : List Stage) (c : Comes st seed all past rest) → Comes st seed (c.before ++ ss) past ss
+comes_other st seed all past rest ss c = record {
+  before = c.before;
+  cut = refl;
+  done = c.done;
+  serial = c.serial;
+  runs = c.runs;
+  parts = c.parts;
+  back = c.back;
 }
 
 pub comes_next : (st : Setting) (seed : ℕ) (all : List Stage) (past : List Event) (s : Stage) (more : List Stage) (part : List Event) →
@@ -75,31 +86,40 @@ comes_next st seed all past s more part c takes does = record {
   before = c.before ++ s ∷ [];
   cut = c.cut ∙ sym (append_assoc c.before (s ∷ []) more);
   done = do_all_more st [] c.before (s ∷ []) past part c.done (part, [], sym (append-nil part), does, refl);
-  serial = λ events h.
-      subst (TakeTurns st seed [] all) (sym (joined past part events)) (c.serial (part ++ events) (inr (part, events, refl, takes, does, h)));
-  runs = λ events h. subst (DoAll st [] all) (sym (joined past part events)) (c.runs (part ++ events) (part, events, refl, does, h));
-  parts = λ events h. subst (DoSome st [] all) (sym (joined past part events)) (c.parts (part ++ events) (inr (part, events, refl, does, h)));
-  back = λ events h. by_delay events (c.back (part ++ events) (subst (DoAll st [] all) (joined past part events) h));
+  serial = λ ss events h. moved (λ ts l. TakeTurns st seed [] ts l) ss events (c.serial (s ∷ ss) (part ++ events) (inr (part, events, refl, takes, does, h)));
+  runs = λ ss events h. moved (λ ts l. DoAll st [] ts l) ss events (c.runs (s ∷ ss) (part ++ events) (part, events, refl, does, h));
+  parts = λ ss events h. moved (λ ts l. DoSome st [] ts l) ss events (c.parts (s ∷ ss) (part ++ events) (inr (part, events, refl, does, h)));
+  back = λ ss events h. by_delay ss events (c.back (s ∷ ss) (part ++ events) (moved_back (λ ts l. DoAll st [] ts l) ss events h));
 }
   where
+    moved : (P : List Stage → List Event → Type 0) (ss : List Stage) (events : List Event) → P (c.before ++ s ∷ ss) (past ++ (part ++ events)) → P ((c.before ++ s ∷ []) ++ ss) ((past ++ part) ++ events)
+    moved P ss events h =
+        subst (λ (l : List Event). P ((c.before ++ s ∷ []) ++ ss) l) (sym (joined past part events))
+        (subst (λ (ts : List Stage). P ts (past ++ (part ++ events))) (sym (append_assoc c.before (s ∷ []) ss)) h)
+
+    moved_back : (P : List Stage → List Event → Type 0) (ss : List Stage) (events : List Event) → P ((c.before ++ s ∷ []) ++ ss) ((past ++ part) ++ events) → P (c.before ++ s ∷ ss) (past ++ (part ++ events))
+    moved_back P ss events h =
+        subst (λ (l : List Event). P (c.before ++ s ∷ ss) l) (joined past part events)
+        (subst (λ (ts : List Stage). P ts ((past ++ part) ++ events)) (append_assoc c.before (s ∷ []) ss) h)
+
     late : (events x y p later : List Event) → part ++ events ≡ x ++ y → y ≡ p ++ later → IsIdle st x → DoesStage st (past ++ x) s p → Late st part (x ++ p) events later
     late events x y p later cut is idle other =
         ends_late st seed past s part events x p later takes does idle other (cut ∙ ap (λ (l : List Event). x ++ l) is ∙ sym (joined x p later))
 
-    by_late : (events x p later : List Event) → DoAll st ((past ++ x) ++ p) more later → Late st part (x ++ p) events later → Delayed st (past ++ part) more events
-    by_late events x p later rest l = record {
+    by_late : (ss : List Stage) (events x p later : List Event) → DoAll st ((past ++ x) ++ p) ss later → Late st part (x ++ p) events later → Delayed st (past ++ part) ss events
+    by_late ss events x p later rest l = record {
       idle = l.more;
       later = later;
       cut = l.rest;
       none = l.none;
-      does = subst (λ (h : List Event). DoAll st h more later) (joined past x p ∙ (λ i. past ++ l.same i) ∙ sym (joined past part l.more)) rest;
+      does = subst (λ (h : List Event). DoAll st h ss later) (joined past x p ∙ (λ i. past ++ l.same i) ∙ sym (joined past part l.more)) rest;
     }
 
-    by_part : (events x y : List Event) → part ++ events ≡ x ++ y → IsIdle st x → DoAll st (past ++ x) (s ∷ more) y → Delayed st (past ++ part) more events
-    by_part events x y cut idle (p, later, is, other, rest) = by_late events x p later rest (late events x y p later cut is idle other)
+    by_part : (ss : List Stage) (events x y : List Event) → part ++ events ≡ x ++ y → IsIdle st x → DoAll st (past ++ x) (s ∷ ss) y → Delayed st (past ++ part) ss events
+    by_part ss events x y cut idle (p, later, is, other, rest) = by_late ss events x p later rest (late events x y p later cut is idle other)
 
-    by_delay : (events : List Event) → Delayed st past (s ∷ more) (part ++ events) → Delayed st (past ++ part) more events
-    by_delay events d = by_part events d.idle d.later d.cut d.none d.does
+    by_delay : (ss : List Stage) (events : List Event) → Delayed st past (s ∷ ss) (part ++ events) → Delayed st (past ++ part) ss events
+    by_delay ss events d = by_part ss events d.idle d.later d.cut d.none d.does
 
 -- ## at the end
 
@@ -111,25 +131,28 @@ pub record HasRun (st : Setting) (seed : ℕ) (all : List Stage) (history : List
 
 pub comes_last : (st : Setting) (seed : ℕ) (all : List Stage) (past : List Event) → Comes st seed all past [] → HasRun st seed all past
 comes_last st seed all past c = record {
-  serial = subst (TakeTurns st seed [] all) (append-nil past) (c.serial [] refl);
-  parts = subst (DoSome st [] all) (append-nil past) (c.parts [] refl);
-  runs = subst (DoAll st [] all) (append-nil past) (c.runs [] refl);
+  serial = at_all (λ ts l. TakeTurns st seed [] ts l) (c.serial [] [] refl);
+  parts = at_all (λ ts l. DoSome st [] ts l) (c.parts [] [] refl);
+  runs = at_all (λ ts l. DoAll st [] ts l) (c.runs [] [] refl);
 }
+  where
+    at_all : (P : List Stage → List Event → Type 0) → P (c.before ++ []) (past ++ []) → P all past
+    at_all P h = subst (λ (l : List Event). P all l) (append-nil past) (subst (λ (ts : List Stage). P ts (past ++ [])) (sym c.cut) h)
 
 -- ## within a phase
 
 pub comes_serial : (st : Setting) (seed : ℕ) (all : List Stage) (past : List Event) (s : Stage) (more : List Stage) (part : List Event) →
     Comes st seed all past (s ∷ more) → TakesTurns st seed past s part → TakeTurns st seed [] all (past ++ part)
-comes_serial st seed all past s more part c takes = c.serial part (inl takes)
+comes_serial st seed all past s more part c takes = subst (λ (ts : List Stage). TakeTurns st seed [] ts (past ++ part)) (sym c.cut) (c.serial (s ∷ more) part (inl takes))
 
 pub comes_some : (st : Setting) (seed : ℕ) (all : List Stage) (past : List Event) (s : Stage) (more : List Stage) (part : List Event) →
     Comes st seed all past (s ∷ more) → BeginsStage s part → DoSome st [] all (past ++ part)
-comes_some st seed all past s more part c begun = c.parts part (inl begun)
+comes_some st seed all past s more part c begun = subst (λ (ts : List Stage). DoSome st [] ts (past ++ part)) (sym c.cut) (c.parts (s ∷ more) part (inl begun))
 
 -- a phase that isn't done at its events is done at none of them, wherever the phases before it end
 pub comes_short : (st : Setting) (seed : ℕ) (all : List Stage) (past : List Event) (s : Stage) (more : List Stage) (part : List Event) →
     Comes st seed all past (s ∷ more) → TakesTurns st seed past s part → (DoesStage st past s part → ⊥) → DoAll st [] all (past ++ part) → ⊥
-comes_short st seed all past s more part c takes goes_on run = by_delay (c.back part run)
+comes_short st seed all past s more part c takes goes_on run = by_delay (c.back (s ∷ more) part (subst (λ (ts : List Stage). DoAll st [] ts (past ++ part)) c.cut run))
   where
     whole : (x p : List Event) → x ++ p ≡ part → IsIdle st x → DoesStage st (past ++ x) s p → ⊥
     whole x p is idle other =

@@ -9,25 +9,30 @@ use Rattle.bmx_protocol.proofs.Prefixes.{joined, not_empty}
 -- ## two cuts of one list
 
 -- c and d are cut as late as a and b or later, or sooner, within a
-pub data Cuts (a b c d : List Event) : Type 0 where
-  Later : (z : List Event) → c ≡ a ++ z → b ≡ z ++ d → Cuts a b c d
-  Sooner : (e : Event) (z : List Event) → a ≡ c ++ e ∷ z → d ≡ e ∷ (z ++ b) → Cuts a b c d
+pub data Cuts {A : Type 0} (a b c d : List A) : Type 0 where
+  Later : (z : List A) → c ≡ a ++ z → b ≡ z ++ d → Cuts a b c d
+  Sooner : (e : A) (z : List A) → a ≡ c ++ e ∷ z → d ≡ e ∷ (z ++ b) → Cuts a b c d
 
-first_same : (x y : Event) (a b : List Event) → x ∷ a ≡ y ∷ b → x ≡ y
+pub first_same : {A : Type 0} (x y : A) (a b : List A) → x ∷ a ≡ y ∷ b → x ≡ y
 first_same x y a b h = cc
 
-rest_same : (x y : Event) (a b : List Event) → x ∷ a ≡ y ∷ b → a ≡ b
+pub rest_same : {A : Type 0} (x y : A) (a b : List A) → x ∷ a ≡ y ∷ b → a ≡ b
 rest_same x y a b h = cc
 
-grown : (x y : Event) (a b c d : List Event) → x ≡ y → Cuts a b c d → Cuts (x ∷ a) b (y ∷ c) d
+grown : {A : Type 0} (x y : A) (a b c d : List A) → x ≡ y → Cuts a b c d → Cuts (x ∷ a) b (y ∷ c) d
 grown x y a b c d same (Later z e f) = Later z (λ i. sym same i ∷ e i) f
 grown x y a b c d same (Sooner g z e f) = Sooner g z (λ i. same i ∷ e i) f
 
-pub cuts : (a b c d : List Event) → a ++ b ≡ c ++ d → Cuts a b c d
+pub cuts : {A : Type 0} (a b c d : List A) → a ++ b ≡ c ++ d → Cuts a b c d
 cuts [] b c d h = Later c refl h
 cuts (x ∷ a) b [] d h = Sooner x a refl (sym h)
 cuts (x ∷ a) b (y ∷ c) d h =
     grown x y a b c d (first_same x y (a ++ b) (c ++ d) h) (cuts a b c d (rest_same x y (a ++ b) (c ++ d) h))
+
+-- lists that are empty together
+pub both_empty : {A : Type 0} (a b : List A) → a ++ b ≡ [] → (a ≡ []) × (b ≡ [])
+both_empty [] b h = (refl, h)
+both_empty (x ∷ a) b h = absurd cc
 
 -- ## one event more
 

@@ -1,19 +1,19 @@
 -- The laws.
 use Rattle.std.proofs.Common.{◌≡◌, ◌⊎◌, inl, inr, ℕ, ◌+◌, ◌<◌, arith, refl, ap, sym, ◌∙◌, subst, List, [], ◌∷◌, ◌++◌, length}
-use Rattle.std.proofs.lemmas.List.{append-nil, append_cancel_left, length-append}
+use Rattle.std.proofs.lemmas.List.{length-append}
 use Rattle.std.proofs.lemmas.List.Concat.{flat_map-append}
 use Rattle.bmx_protocol.specs.declared.events.Event.{Event}
 use Rattle.bmx_protocol.specs.Nodes.{Setting}
-use Rattle.bmx_protocol.specs.Runs.Programs.{Order, Stage, stages, program_in, completed, DoesStage, DoAll, DoSome, Runs}
-use Rattle.bmx_protocol.specs.Runs.Turns.{TakesTurns, TakeTurns}
-use Rattle.bmx_protocol.proofs.Prefixes.{joined, not_empty}
+use Rattle.std.specs.Prelude.{Some}
+use Rattle.bmx_protocol.specs.Runs.Programs.{Order, Stage, stages, program_in, completed, DoSome}
+use Rattle.bmx_protocol.specs.Runs.Turns.{Action, actions, picked, TakeTurns}
 use Rattle.bmx_turns.specs.Stuck.{IsStuck}
-use Rattle.bmx_turns.specs.Laws.{SerialFollowsItsScript, SerialEndsFirst, StuckRunsNot}
-use Rattle.bmx_turns.specs.Inside.Growing.{IsIdle}
+use Rattle.bmx_turns.specs.Laws.{SerialFollowsItsScript, SerialEndsFirst, StuckRunsNot, StuckEndsTurns}
 use Rattle.bmx_turns.proofs.Completing.{length_two}
 use Rattle.bmx_turns.proofs.Turning.{takes_begins}
-use Rattle.bmx_turns.proofs.Growing.{Late, never_sooner, ends_late}
+use Rattle.bmx_turns.proofs.Growing.{comes_first}
 use Rattle.bmx_turns.proofs.Walks.{programs_in, length_done}
+use Rattle.bmx_turns.proofs.Stopping.{StandsIn, stands_in, ends_first, IsStuckIn, stuck_is_here}
 
 -- ## serial histories follow their script
 
@@ -28,39 +28,8 @@ serial_follows_its_script st seed body history serial = follow_all st seed [] (s
 
 -- ## they end as soon as they can
 
--- what the events that come after a run make of a list of events
-behind : (a b : List Event) (e : Event) (rest : List Event) → (a ++ b) ++ e ∷ rest ≡ a ++ (b ++ e ∷ rest)
-behind a b e rest = joined a b (e ∷ rest)
-
-ends_first : (st : Setting) (seed : ℕ) (past : List Event) (ss : List Stage) (events : List Event) → TakeTurns st seed past ss events →
-    (idle later rest : List Event) (e : Event) → IsIdle st idle → DoAll st (past ++ idle) ss later → events ≡ (idle ++ later) ++ e ∷ rest → ⊥
-ends_first st seed past [] events none idle later rest e still does is = not_empty (idle ++ later) rest e (sym is ∙ none)
-ends_first st seed past (s ∷ more) events (inl takes) idle later rest e still (p, q, cut, other, all) is = by_rest q refl
-  where
-    whole : events ≡ (idle ++ p) ++ (q ++ e ∷ rest)
-    whole = is ∙ (λ i. (idle ++ cut i) ++ e ∷ rest) ∙ (λ i. sym (joined idle p q) i ++ e ∷ rest) ∙ joined (idle ++ p) q (e ∷ rest)
-
-    by_rest : (l : List Event) → q ≡ l → ⊥
-    by_rest [] at = never_sooner st seed past s events idle p rest e takes still other (sym (whole ∙ (λ i. (idle ++ p) ++ (at i ++ e ∷ rest))))
-    by_rest (f ∷ l) at = never_sooner st seed past s events idle p (l ++ e ∷ rest) f takes still other (sym (whole ∙ (λ i. (idle ++ p) ++ (at i ++ e ∷ rest))))
-ends_first st seed past (s ∷ more) events (inr (part, behind, at, takes, does, turns)) idle later rest e still (p, q, cut, other, all) is =
-    next late (λ more_idle below from. ends_first st seed (past ++ part) more behind turns more_idle q rest e below from)
-  where
-    whole : part ++ behind ≡ (idle ++ p) ++ (q ++ e ∷ rest)
-    whole = sym at ∙ is ∙ (λ i. (idle ++ cut i) ++ e ∷ rest) ∙ (λ i. sym (joined idle p q) i ++ e ∷ rest) ∙ joined (idle ++ p) q (e ∷ rest)
-
-    late : Late st part (idle ++ p) behind (q ++ e ∷ rest)
-    late = ends_late st seed past s part behind idle p (q ++ e ∷ rest) takes does still other whole
-
-    next : Late st part (idle ++ p) behind (q ++ e ∷ rest) →
-        ((z : List Event) → IsIdle st z → DoAll st ((past ++ part) ++ z) more q → behind ≡ (z ++ q) ++ e ∷ rest → ⊥) → ⊥
-    next l then =
-        then l.more l.none
-        (subst (λ (h : List Event). DoAll st h more q) (joined past idle p ∙ (λ i. past ++ l.same i) ∙ sym (joined past part l.more)) all)
-        (l.rest ∙ sym (joined l.more q (e ∷ rest)))
-
 pub serial_ends_first : SerialEndsFirst
-serial_ends_first st seed body past rest e serial runs = ends_first st seed [] (stages body) (past ++ e ∷ rest) serial [] past rest e (λ n lt. refl) runs refl
+serial_ends_first st seed body past rest e serial runs = ends_first st seed (stages body) past rest e (comes_first st seed (stages body)) serial runs
 
 -- ## stuck histories don't run their script
 
@@ -87,3 +56,19 @@ stuck_runs_not st body history stuck runs =
 
     cut : length (program_in stuck.stage n ++ programs_in stuck.more n) ≡ length (program_in stuck.stage n) + length (programs_in stuck.more n)
     cut = length-append (program_in stuck.stage n) (programs_in stuck.more n)
+
+-- ## they are where turns end
+
+pub stuck_ends_turns : StuckEndsTurns
+stuck_ends_turns st seed body past rest e serial stuck = by_place (stands_in st seed (stages body) [] (stages body) (past ++ e ∷ rest) (comes_first st seed (stages body)) serial past rest e refl)
+  where
+    never : (i : ℕ) (l : List Action) (a : Action) → l ≡ [] → picked seed i l ≡ Some a → ⊥
+    never i [] a none is = cc
+    never i (b ∷ l) a none is = cc
+
+    by_place : StandsIn st seed (stages body) past e → ⊥
+    by_place x =
+        let t : IsStuckIn st x.stage x.past x.part x.next.nodes x.next.names =
+        stuck_is_here st seed body x.past x.stage x.more x.part x.next.nodes x.next.names x.comes x.takes x.goes_on x.next.lead x.next.served
+        (subst (IsStuck st body) x.cut stuck) in
+        never (length (x.past ++ x.part)) (actions st x.stage x.past x.part x.next.nodes x.next.names st.nodes) x.next.turn.action t.none x.next.turn.picks

@@ -19,3 +19,9 @@ SerialEndsFirst =
 -- a stuck history doesn't run its script
 abbrev pub StuckRunsNot : Type 0
 StuckRunsNot = (st : Setting) (body : List Body) (history : List Event) → IsStuck st body history → Runs st body history → ⊥
+
+-- where a serial history has gone on, it wasn't stuck: behind a stuck one no seed has a turn
+abbrev pub StuckEndsTurns : Type 0
+StuckEndsTurns =
+    (st : Setting) (seed : ℕ) (body : List Body) (past rest : List Event) (e : Event) →
+    IsSerial st seed body (past ++ e ∷ rest) → IsStuck st body past → ⊥

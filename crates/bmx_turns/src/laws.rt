@@ -1,4 +1,4 @@
-ghost use Rattle.bmx_turns.specs.Laws.{SerialFollowsItsScript, SerialEndsFirst, StuckRunsNot};
+ghost use Rattle.bmx_turns.specs.Laws.{SerialFollowsItsScript, SerialEndsFirst, StuckRunsNot, StuckEndsTurns};
 
 /// The law that each serial history follows its script: each command that is tried in it is the next of its node's
 /// program in the phase that it stands in. It does nothing.
@@ -15,4 +15,9 @@ pub fn serial_ends_first()
 /// The law that a stuck history doesn't run its script. It does nothing.
 pub fn stuck_runs_not()
     ensures { StuckRunsNot }
+{}
+
+/// The law that a stuck history is at its end for every seed: no serial history goes on from it. It does nothing.
+pub fn stuck_ends_turns()
+    ensures { StuckEndsTurns }
 {}

@@ -17,13 +17,13 @@ pub record Delayed (st : Setting) (past : List Event) (rest : List Stage) (event
   pub none : IsIdle st idle
   pub does : DoAll st (past ++ idle) rest later
 
--- past events did the phases before `rest`, of all phases, by serial turns: what comes behind them is serial, runs
--- the phases or runs them in part by `rest` alone, and other cuts of it into phases end the past ones later
+-- past events did the phases before `rest`, of all phases, by serial turns: whichever phases come behind, what comes
+-- behind is serial, does them or does them in part by itself, and other cuts of it end the past phases later
 pub record Comes (st : Setting) (seed : ℕ) (all : List Stage) (past : List Event) (rest : List Stage) : Type 0 where
   pub before : List Stage
   pub cut : all ≡ before ++ rest
   pub done : DoAll st [] before past
-  pub serial : (events : List Event) → TakeTurns st seed past rest events → TakeTurns st seed [] all (past ++ events)
-  pub runs : (events : List Event) → DoAll st past rest events → DoAll st [] all (past ++ events)
-  pub parts : (events : List Event) → DoSome st past rest events → DoSome st [] all (past ++ events)
-  pub back : (events : List Event) → DoAll st [] all (past ++ events) → Delayed st past rest events
+  pub serial : (ss : List Stage) (events : List Event) → TakeTurns st seed past ss events → TakeTurns st seed [] (before ++ ss) (past ++ events)
+  pub runs : (ss : List Stage) (events : List Event) → DoAll st past ss events → DoAll st [] (before ++ ss) (past ++ events)
+  pub parts : (ss : List Stage) (events : List Event) → DoSome st past ss events → DoSome st [] (before ++ ss) (past ++ events)
+  pub back : (ss : List Stage) (events : List Event) → DoAll st [] (before ++ ss) (past ++ events) → Delayed st past ss events

@@ -1,0 +1,228 @@
+-- Where an event of a serial history stands, and that a run can be stuck in one phase alone: that of its turns.
+use Rattle.std.proofs.Common.{◌≡◌, ◌⊎◌, inl, inr, ℕ, ◌+◌, ◌<◌, ◌≤◌, arith, refl, ap, sym, ◌∙◌, subst, zero, suc, List, [], ◌∷◌, ◌++◌, length, map}
+use Rattle.std.specs.Prelude.{◌↔◌, slice_get, Contains, None}
+use Rattle.std.proofs.lemmas.List.{append-nil, length-append}
+use Rattle.std.proofs.lemmas.List.Concat.{flat_map-append}
+use Rattle.bmx_protocol.specs.declared.events.Event.{Event}
+use Rattle.bmx_protocol.specs.Nodes.{Setting, AreAll}
+use Rattle.bmx_protocol.specs.Steps.{Node}
+use Rattle.bmx_protocol.specs.Histories.{AreAfter, waits_with}
+use Rattle.bmx_protocol.specs.Runs.Programs.{Body, Order, Stage, stages, program_in, completed, CanServe, DoesStage, DoAll}
+use Rattle.bmx_protocol.specs.Runs.Turns.{Action, ServesName, command_action, letter_actions, actions_of, actions, ComesNext, TakesTurns, TakeTurns}
+use Rattle.bmx_protocol.proofs.Prefixes.{joined, not_empty}
+use Rattle.bmx_protocol.proofs.Replayed.{replay_is_determined}
+use Rattle.bmx_turns.specs.Stuck.{IsUnfinished, IsStuck}
+use Rattle.bmx_turns.specs.Inside.Growing.{Comes}
+use Rattle.bmx_turns.proofs.Lists.{Cuts, Later, Sooner, cuts, first_same, rest_same, both_empty}
+use Rattle.bmx_turns.proofs.Completing.{length_two}
+use Rattle.bmx_turns.proofs.Turning.{takes_prefix}
+use Rattle.bmx_turns.proofs.Growing.{comes_first, comes_other, comes_next, comes_serial, comes_short}
+use Rattle.bmx_turns.proofs.Walks.{programs_in, length_done}
+
+-- ## where an event stands
+
+-- the phases before an event are done, its own isn't, and it comes next there
+pub record StandsIn (st : Setting) (seed : ℕ) (all : List Stage) (history : List Event) (e : Event) : Type 0 where
+  pub past : List Event
+  pub part : List Event
+  pub cut : history ≡ past ++ part
+  pub stage : Stage
+  pub more : List Stage
+  pub comes : Comes st seed all past (stage ∷ more)
+  pub takes : TakesTurns st seed past stage part
+  pub goes_on : DoesStage st past stage part → ⊥
+  pub next : ComesNext st seed stage past part e
+
+stands_within : (st : Setting) (seed : ℕ) (all : List Stage) (past : List Event) (s : Stage) (more : List Stage) (part : List Event) →
+    Comes st seed all past (s ∷ more) → TakesTurns st seed past s part → (before rest : List Event) (e : Event) → before ++ e ∷ rest ≡ part →
+    StandsIn st seed all (past ++ before) e
+stands_within st seed all past s more part c takes before rest e is = record {
+  past = past;
+  part = before;
+  cut = refl;
+  stage = s;
+  more = more;
+  comes = c;
+  takes = takes_prefix st seed past s before (e ∷ rest) (subst (TakesTurns st seed past s) (sym is) takes);
+  goes_on = (takes before rest e is).0;
+  next = (takes before rest e is).1;
+}
+
+pub stands_in : (st : Setting) (seed : ℕ) (all : List Stage) (past : List Event) (ss : List Stage) (events : List Event) →
+    Comes st seed all past ss → TakeTurns st seed past ss events → (before rest : List Event) (e : Event) → before ++ e ∷ rest ≡ events →
+    StandsIn st seed all (past ++ before) e
+stands_in st seed all past [] events c none before rest e is = absurd (not_empty before rest e (is ∙ none))
+stands_in st seed all past (s ∷ more) events c (inl takes) before rest e is = stands_within st seed all past s more events c takes before rest e is
+stands_in st seed all past (s ∷ more) events c (inr (part, later, cut, takes, does, turns)) before rest e is =
+    by_cut (cuts part later before (e ∷ rest) (sym cut ∙ sym is))
+    (λ z from. stands_in st seed all (past ++ part) more later (comes_next st seed all past s more part c takes does) turns z rest e from)
+  where
+    by_cut : Cuts part later before (e ∷ rest) → ((z : List Event) → z ++ e ∷ rest ≡ later → StandsIn st seed all ((past ++ part) ++ z) e) → StandsIn st seed all (past ++ before) e
+    by_cut (Later z same at) beyond = subst (λ (l : List Event). StandsIn st seed all l e) (joined past part z ∙ (λ i. past ++ sym same i)) (beyond z (sym at))
+    by_cut (Sooner g z same at) beyond =
+        stands_within st seed all past s more part c takes before z e (ap (λ (x : Event). before ++ x ∷ z) (first_same e g rest (z ++ later) at) ∙ sym same)
+
+-- no history that a serial one goes on from does all phases
+pub ends_first : (st : Setting) (seed : ℕ) (all : List Stage) (past rest : List Event) (e : Event) → Comes st seed all [] all →
+    TakeTurns st seed [] all (past ++ e ∷ rest) → DoAll st [] all past → ⊥
+ends_first st seed all past rest e first serial run = by_place (stands_in st seed all [] all (past ++ e ∷ rest) first serial past rest e refl)
+  where
+    by_place : StandsIn st seed all past e → ⊥
+    by_place x = comes_short st seed all x.past x.stage x.more x.part x.comes x.takes x.goes_on (subst (DoAll st [] all) x.cut run)
+
+-- ## no action is enabled
+
+map_empty : {A B : Type 0} (f : A → B) (xs : List A) → map f xs ≡ [] → xs ≡ []
+map_empty f [] h = refl
+map_empty f (x ∷ xs) h = absurd cc
+
+-- lists of all that has a property are empty together
+none_listed : (Has : ℕ → Type 0) (xs ys : List ℕ) → AreAll Has xs → AreAll Has ys → ys ≡ [] → xs ≡ []
+none_listed Has [] ys all others none = refl
+none_listed Has (x ∷ xs) ys all others none = absurd (nowhere (subst (λ (l : List ℕ). Contains l x) none ((others.all x).1 ((all.all x).0 (0, omega arith, refl)))))
+  where
+    nowhere : Contains [] x → ⊥
+    nowhere (k, below, is) = omega (arith, below)
+
+-- two cuts of one history have no action in a phase together: nodes have completed as much in both
+record IsAlike (st : Setting) (s t : Stage) (past part old done : List Event) (nodes others : ℕ → Node) (names served : ℕ → List ℕ) : Type 0 where
+  stage : s ≡ t
+  history : past ++ part ≡ old ++ done
+  lead : nodes ≡ others
+  counts : (n : ℕ) → n < st.nodes → length (completed n part) ≡ length (completed n done)
+  none : (n : ℕ) → n < st.nodes → served n ≡ [] → names n ≡ []
+
+none_of : (st : Setting) (s t : Stage) (past part old done : List Event) (nodes others : ℕ → Node) (names served : ℕ → List ℕ) → IsAlike st s t past part old done nodes others names served →
+    (n : ℕ) → n < st.nodes → actions_of st t old done n (others n).state (served n) ≡ [] → actions_of st s past part n (nodes n).state (names n) ≡ []
+none_of st s t past part old done nodes others names served a n lt none =
+    (λ i. (command i ++ serves i) ++ letters i)
+  where
+    split : (command_action n (others n).state (waits_with n None (old ++ done)) (slice_get (program_in t n) (length (completed n done))) ++ map (ServesName n) (served n) ≡ [])
+        × (letter_actions (old ++ done) n st.nodes ≡ [])
+    split =
+        both_empty
+        (command_action n (others n).state (waits_with n None (old ++ done)) (slice_get (program_in t n) (length (completed n done))) ++ map (ServesName n) (served n))
+        (letter_actions (old ++ done) n st.nodes) none
+
+    parts : (command_action n (others n).state (waits_with n None (old ++ done)) (slice_get (program_in t n) (length (completed n done))) ≡ []) × (map (ServesName n) (served n) ≡ [])
+    parts =
+        both_empty (command_action n (others n).state (waits_with n None (old ++ done)) (slice_get (program_in t n) (length (completed n done)))) (map (ServesName n) (served n)) split.0
+
+    command : command_action n (nodes n).state (waits_with n None (past ++ part)) (slice_get (program_in s n) (length (completed n part))) ≡ []
+    command = (λ i. command_action n (a.lead i n).state (waits_with n None (a.history i)) (slice_get (program_in (a.stage i) n) (a.counts n lt i))) ∙ parts.0
+
+    serves : map (ServesName n) (names n) ≡ []
+    serves = ap (λ (l : List ℕ). map (ServesName n) l) (a.none n lt (map_empty (ServesName n) (served n) parts.1))
+
+    letters : letter_actions (past ++ part) n st.nodes ≡ []
+    letters = ap (λ (l : List Event). letter_actions l n st.nodes) a.history ∙ split.1
+
+none_together : (st : Setting) (s t : Stage) (past part old done : List Event) (nodes others : ℕ → Node) (names served : ℕ → List ℕ) → IsAlike st s t past part old done nodes others names served →
+    (k : ℕ) → k ≤ st.nodes → actions st t old done others served k ≡ [] → actions st s past part nodes names k ≡ []
+none_together st s t past part old done nodes others names served a zero le none = refl
+none_together st s t past part old done nodes others names served a (suc n) le none =
+    let both : (actions st t old done others served n ≡ []) × (actions_of st t old done n (others n).state (served n) ≡ []) =
+    both_empty (actions st t old done others served n) (actions_of st t old done n (others n).state (served n)) none in
+    let before : actions st s past part nodes names n ≡ [] = none_together st s t past part old done nodes others names served a n (omega (arith, le)) both.0 in
+    let here : actions_of st s past part n (nodes n).state (names n) ≡ [] = none_of st s t past part old done nodes others names served a n (omega (arith, le)) both.1 in
+    λ i. before i ++ here i
+
+-- ## a stuck history is stuck in the phase of its turns
+
+-- in a phase no action is enabled, and the program of some node is unfinished
+pub record IsStuckIn (st : Setting) (s : Stage) (past part : List Event) (nodes : ℕ → Node) (names : ℕ → List ℕ) : Type 0 where
+  pub none : actions st s past part nodes names st.nodes ≡ []
+  pub unfinished : IsUnfinished st s part
+
+module _ (st : Setting) (seed : ℕ) (body : List Body) (past : List Event) (s : Stage) (more : List Stage) (part : List Event) (nodes : ℕ → Node) (names : ℕ → List ℕ)
+    (first : (all : List Stage) → Comes st seed all [] all) (c : Comes st seed (stages body) past (s ∷ more)) (takes : TakesTurns st seed past s part) (goes_on : DoesStage st past s part → ⊥)
+    (lead : AreAfter st (past ++ part) nodes) (all_served : (n : ℕ) → n < st.nodes → AreAll (CanServe n (nodes n).state) (names n)) (stuck : IsStuck st body (past ++ part)) where
+  -- what a node completed, by both cuts
+  counted : (n : ℕ) → n < st.nodes → length (programs_in c.before n) + length (completed n part) ≡ length (programs_in stuck.before n) + length (completed n stuck.part)
+  counted n lt =
+      ap (λ (k : ℕ). k + length (completed n part)) (sym (length_done st [] c.before past c.done n lt)) ∙ sym (length_two n past part)
+      ∙ ap (λ (l : List Event). length (completed n l)) stuck.cut ∙ length_two n stuck.past stuck.part
+      ∙ ap (λ (k : ℕ). k + length (completed n stuck.part)) (length_done st [] stuck.before stuck.past stuck.done n lt)
+
+  -- it isn't stuck in an earlier phase: that one is done
+  not_earlier : (t : Stage) (z : List Stage) → c.before ≡ stuck.before ++ t ∷ z → stuck.stage ≡ t → ⊥
+  not_earlier t z is same = omega (arith, stuck.unfinished.short, counted n stuck.unfinished.real, whole, here, program)
+    where
+      n : ℕ
+      n = stuck.unfinished.node
+
+      whole : length (programs_in c.before n) ≡ length (programs_in stuck.before n) + length (program_in t n ++ programs_in z n)
+      whole =
+          ap (λ (ss : List Stage). length (programs_in ss n)) is
+          ∙ ap (λ (l : List Order). length l) (flat_map-append (λ (u : Stage). program_in u n) stuck.before (t ∷ z))
+          ∙ length-append (programs_in stuck.before n) (program_in t n ++ programs_in z n)
+
+      here : length (program_in t n ++ programs_in z n) ≡ length (program_in t n) + length (programs_in z n)
+      here = length-append (program_in t n) (programs_in z n)
+
+      program : length (program_in stuck.stage n) ≡ length (program_in t n)
+      program = ap (λ (u : Stage). length (program_in u n)) same
+
+  -- nor in a later one: the phase of the turns isn't done
+  not_later : (z : List Stage) → stuck.before ≡ c.before ++ s ∷ z → ⊥
+  not_later z is = by_part stuck.part refl
+    where
+      other : Comes st seed (c.before ++ s ∷ z) past (s ∷ z)
+      other = comes_other st seed (stages body) past (s ∷ more) (s ∷ z) c
+
+      done : DoAll st [] (c.before ++ s ∷ z) stuck.past
+      done = subst (λ (ss : List Stage). DoAll st [] ss stuck.past) is stuck.done
+
+      serial : TakeTurns st seed [] (c.before ++ s ∷ z) (past ++ part)
+      serial = comes_serial st seed (c.before ++ s ∷ z) past s z part other takes
+
+      by_part : (l : List Event) → stuck.part ≡ l → ⊥
+      by_part [] at =
+          comes_short st seed (c.before ++ s ∷ z) past s z part other takes goes_on
+          (subst (DoAll st [] (c.before ++ s ∷ z)) (sym (append-nil stuck.past) ∙ (λ i. stuck.past ++ sym at i) ∙ sym stuck.cut) done)
+      by_part (e ∷ l) at =
+          ends_first st seed (c.before ++ s ∷ z) stuck.past l e (first (c.before ++ s ∷ z))
+          (subst (TakeTurns st seed [] (c.before ++ s ∷ z)) (stuck.cut ∙ (λ i. stuck.past ++ at i)) serial) done
+
+  here : c.before ≡ stuck.before → s ≡ stuck.stage → IsStuckIn st s past part nodes names
+  here before same = record {
+    none = none_together st s stuck.stage past part stuck.past stuck.part nodes stuck.nodes names stuck.names alike st.nodes (omega arith) stuck.none;
+    unfinished = record {
+      node = stuck.unfinished.node;
+      real = stuck.unfinished.real;
+      short = omega (arith, stuck.unfinished.short, count stuck.unfinished.node stuck.unfinished.real, ap (λ (u : Stage). length (program_in u stuck.unfinished.node)) same);
+    };
+  }
+    where
+      count : (n : ℕ) → n < st.nodes → length (completed n part) ≡ length (completed n stuck.part)
+      count n lt = (let same_before : length (programs_in c.before n) ≡ length (programs_in stuck.before n) = ap (λ (ss : List Stage). length (programs_in ss n)) before in
+          omega (arith, counted n lt, same_before))
+
+      lead_same : nodes ≡ stuck.nodes
+      lead_same = replay_is_determined st (past ++ part) nodes stuck.nodes lead stuck.lead
+
+      alike : IsAlike st s stuck.stage past part stuck.past stuck.part nodes stuck.nodes names stuck.names
+      alike = record {
+        stage = same;
+        history = stuck.cut;
+        lead = lead_same;
+        counts = count;
+        none = λ n lt none.
+            none_listed (CanServe n (stuck.nodes n).state) (names n) (stuck.names n)
+            (subst (λ (f : ℕ → Node). AreAll (CanServe n (f n).state) (names n)) lead_same (all_served n lt)) (stuck.served n lt) none;
+      }
+
+  by_phases : Cuts c.before (s ∷ more) stuck.before (stuck.stage ∷ stuck.more) → IsStuckIn st s past part nodes names
+  by_phases (Later [] is at) = here (sym (is ∙ append-nil c.before)) (first_same s stuck.stage more stuck.more at)
+  by_phases (Later (t ∷ z) is at) = absurd (not_later z (is ∙ (λ i. c.before ++ sym (first_same s t more (z ++ stuck.stage ∷ stuck.more) at) i ∷ z)))
+  by_phases (Sooner t z is at) = absurd (not_earlier t z is (first_same stuck.stage t stuck.more (z ++ s ∷ more) at))
+
+  stuck_there : IsStuckIn st s past part nodes names
+  stuck_there = by_phases (cuts c.before (s ∷ more) stuck.before (stuck.stage ∷ stuck.more) (sym c.cut ∙ stuck.phases))
+
+-- a run that goes on by turns is stuck only where its present phase has no action and an unfinished program
+pub stuck_is_here : (st : Setting) (seed : ℕ) (body : List Body) (past : List Event) (s : Stage) (more : List Stage) (part : List Event) (nodes : ℕ → Node) (names : ℕ → List ℕ) →
+    Comes st seed (stages body) past (s ∷ more) → TakesTurns st seed past s part → (DoesStage st past s part → ⊥) → AreAfter st (past ++ part) nodes →
+    ((n : ℕ) → n < st.nodes → AreAll (CanServe n (nodes n).state) (names n)) → IsStuck st body (past ++ part) → IsStuckIn st s past part nodes names
+stuck_is_here st seed body past s more part nodes names c takes goes_on lead served stuck =
+    stuck_there st seed body past s more part nodes names (comes_first st seed) c takes goes_on lead served stuck
