@@ -1,0 +1,2 @@
+-- For proofs alone: where letters stand in a history.
+pub mod Spots
