@@ -1,6 +1,6 @@
 -- The letters in flight as a legal history grows.
 use Rattle.std.proofs.Common.{◌≡◌, ◌≢◌, ℕ, ◌+◌, ◌<◌, ◌≤◌, zero, suc, arith, refl, ap, sym, subst, ◌∙◌, Bool, true, false, cond, List, [], ◌∷◌, ◌++◌, length, drop, length-append, append_assoc, append-nil}
-use Rattle.std.specs.Prelude.{◌==◌, ◌||◌, not, nat_le, Option, Some, None, slice_get, Contains}
+use Rattle.std.specs.Prelude.{◌==◌, ◌||◌, not, nat_le, Option, Some, None, Contains}
 use Rattle.std.specs.List.{cons_option}
 use Rattle.std.proofs.lemmas.List.{drop-append-le}
 use Rattle.std.proofs.lemmas.List.Elements.{filter_map-append, Contains-push}
@@ -9,7 +9,6 @@ use Rattle.bmx_types.specs.Openings.{IsOpening}
 use Rattle.bmx_msg.specs.declared.letters.Letter.{Letter}
 use Rattle.bmx_protocol.specs.declared.inputs.Input.{Input}
 use Rattle.bmx_protocol.specs.declared.inputs.Input.TheVariants as input
-use Rattle.bmx_protocol.specs.declared.inputs.NodeAnswer.{NodeAnswer}
 use Rattle.bmx_protocol.specs.declared.inputs.NodeAnswer.TheVariants as answer
 use Rattle.bmx_protocol.specs.declared.inputs.Done.{Done}
 use Rattle.bmx_protocol.specs.declared.events.Event.{Event}
@@ -17,8 +16,8 @@ use Rattle.bmx_protocol.specs.Nodes.{Setting}
 use Rattle.bmx_protocol.specs.Rules.{only, take_rule}
 use Rattle.bmx_protocol.specs.Strays.{is_no_node, too_large, is_bad_msg}
 use Rattle.bmx_protocol.specs.Steps.{Node, first_node, IsStep, rule, is_taken}
-use Rattle.bmx_protocol.specs.Histories.{letters_to, letter_from, issued, arrived, taken, in_flight, IsNext, EachFits, Replays, AreAfter, IsLegal}
-use Rattle.bmx_protocol.proofs.Basics.{two, Two, Same, Apart, eqb_is, eqb_of, eqb_apart}
+use Rattle.bmx_protocol.specs.Histories.{letters_to, letter_from, issued, arrived, taken, in_flight, IsNext, EachFits, Replays, IsLegal}
+use Rattle.bmx_protocol.proofs.Basics.{two, Two, Same, Apart, eqb_of, eqb_apart}
 use Rattle.bmx_protocol.proofs.Prefixes.{prefix_is_legal}
 use Rattle.bmx_store_laws.specs.Inside.Seen.{seen, first_world}
 use Rattle.bmx_store_laws.proofs.Histories.{Came, came_after}
@@ -51,10 +50,10 @@ pub arrived_append : (n m : ℕ) (past more : List Event) → arrived n m (past 
 arrived_append n m past more = filter_map-append (λ (f : Event). cond (f.node == m) (letter_from n f.input) None) past more
 
 -- what an event issues
-issued_here : (n m : ℕ) (e : Event) → e.node ≡ n → issued n m (e ∷ []) ≡ letters_to m e.done.letters
+pub issued_here : (n m : ℕ) (e : Event) → e.node ≡ n → issued n m (e ∷ []) ≡ letters_to m e.done.letters
 issued_here n m e at = ap (λ (b : Bool). cond b (letters_to m e.done.letters ++ []) []) (eqb_of at) ∙ append-nil (letters_to m e.done.letters)
 
-issued_elsewhere : (n m : ℕ) (e : Event) → e.node ≢ n → issued n m (e ∷ []) ≡ []
+pub issued_elsewhere : (n m : ℕ) (e : Event) → e.node ≢ n → issued n m (e ∷ []) ≡ []
 issued_elsewhere n m e apart = ap (λ (b : Bool). cond b (letters_to m e.done.letters ++ []) []) (eqb_apart e.node n apart)
 
 -- what an event takes
@@ -173,12 +172,12 @@ never_own st past e from l opening legal is own =
 -- ### pair by pair
 
 -- the event takes the first letter from a node: the others stay
-pub flight_taken : (st : Setting) (past : List Event) (e : Event) (from : ℕ) (l : Letter) (rest : List Letter) → IsOpening st.nodes st.limit st.births →
-    IsLegal st (past ++ e ∷ []) → e.input ≡ input.Take from l → in_flight from e.node past ≡ l ∷ rest → in_flight from e.node (past ++ e ∷ []) ≡ rest
-flight_taken st past e from l rest opening legal is first =
+pub flight_shorter : (st : Setting) (past : List Event) (e : Event) (from : ℕ) (l k : Letter) (rest : List Letter) → IsOpening st.nodes st.limit st.births →
+    IsLegal st (past ++ e ∷ []) → e.input ≡ input.Take from l → in_flight from e.node past ≡ k ∷ rest → in_flight from e.node (past ++ e ∷ []) ≡ rest
+flight_shorter st past e from l k rest opening legal is first =
     flight_grows st past e opening legal from e.node
-    ∙ ap (λ (k : List Letter). drop (length (arrived from e.node (e ∷ []))) k ++ issued from e.node (e ∷ [])) first
-    ∙ (λ i. drop (length (one i)) (l ∷ rest) ++ none i)
+    ∙ ap (λ (all : List Letter). drop (length (arrived from e.node (e ∷ []))) all ++ issued from e.node (e ∷ [])) first
+    ∙ (λ i. drop (length (one i)) (k ∷ rest) ++ none i)
     ∙ append-nil rest
   where
     one : arrived from e.node (e ∷ []) ≡ l ∷ []
@@ -187,6 +186,10 @@ flight_taken st past e from l rest opening legal is first =
 
     none : issued from e.node (e ∷ []) ≡ []
     none = issued_elsewhere from e.node e (λ own. never_own st past e from l opening legal is (sym own))
+
+pub flight_taken : (st : Setting) (past : List Event) (e : Event) (from : ℕ) (l : Letter) (rest : List Letter) → IsOpening st.nodes st.limit st.births →
+    IsLegal st (past ++ e ∷ []) → e.input ≡ input.Take from l → in_flight from e.node past ≡ l ∷ rest → in_flight from e.node (past ++ e ∷ []) ≡ rest
+flight_taken st past e from l rest opening legal is first = flight_shorter st past e from l l rest opening legal is first
 
 -- it takes nothing from itself
 own_untaken : (st : Setting) (past : List Event) (e : Event) (m : ℕ) → IsOpening st.nodes st.limit st.births → IsLegal st (past ++ e ∷ []) →

@@ -1,6 +1,6 @@
 -- A legal history grows by one event.
 use Rattle.std.proofs.Common.{◌≡◌, ◌≢◌, ◌⊎◌, inl, inr, ℕ, ◌+◌, ◌^◌, ◌<◌, ◌≤◌, zero, suc, max, arith, refl, ap, sym, subst, ◌∙◌, Bool, true, false, cond, List, [], ◌∷◌, ◌++◌, length, drop, length-append}
-use Rattle.std.specs.Prelude.{◌==◌, nat_lt, Option, Some, None, slice_get, filter, count_by, Contains}
+use Rattle.std.specs.Prelude.{◌==◌, nat_lt, Some, slice_get, filter, count_by, Contains}
 use Rattle.std.proofs.lemmas.Bool.Decides.{nat_tests}
 use Rattle.std.proofs.lemmas.List.Elements.{Contains-push_cases}
 use Rattle.std.proofs.lemmas.List.Sums.{count_by-le-length, sum_by-append}
@@ -19,12 +19,12 @@ use Rattle.bmx_protocol.specs.Changes.{Change, Sets, Makes, Knows, Hears, Gives,
 use Rattle.bmx_protocol.specs.Rules.{Draft}
 use Rattle.bmx_protocol.specs.Strays.{too_large}
 use Rattle.bmx_protocol.specs.Steps.{Node, first_node, IsStep, rule, changes_of, numbered, is_taken, stamp_after}
-use Rattle.bmx_protocol.specs.Histories.{issued, arrived, taken, in_flight, IsNext, IsLater, Fits, EachFits, Replays, AreAfter, IsLegal}
-use Rattle.bmx_protocol.proofs.Basics.{Every, every_append, two, Two, Same, Apart, eqb_is, put_same, put_apart}
+use Rattle.bmx_protocol.specs.Histories.{issued, arrived, taken, IsNext, IsLater, Fits, EachFits, Replays, AreAfter, IsLegal}
+use Rattle.bmx_protocol.proofs.Basics.{Every, two, Two, Same, Apart, eqb_is, put_same, put_apart}
 use Rattle.bmx_protocol.proofs.Prefixes.{not_empty, empty_is_legal}
 use Rattle.bmx_places.proofs.Always.{no_letter_is_stray}
 use Rattle.bmx_places.proofs.Next.{all_issued, every_at}
-use Rattle.bmx_legal.specs.Growing.{AreStamps, Leads, TakesFirst, MayFollow}
+use Rattle.bmx_legal.specs.Growing.{Leads, TakesFirst, MayFollow}
 use Rattle.bmx_legal.specs.Laws.{HistoryBegins, HistoryGrows}
 
 -- ## lists

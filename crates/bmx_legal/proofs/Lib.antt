@@ -1,3 +1,4 @@
 pub mod Spots
 pub mod Growing
 pub mod Flight
+pub mod Queues

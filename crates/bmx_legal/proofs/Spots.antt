@@ -1,11 +1,11 @@
 -- Where letters stand as a history grows.
-use Rattle.std.proofs.Common.{◌≡◌, ℕ, ◌+◌, zero, suc, arith, refl, ap, sym, subst, ◌∙◌, Bool, true, false, cond, List, [], ◌∷◌, ◌++◌, length}
-use Rattle.std.specs.Prelude.{◌==◌, Some, slice_get}
+use Rattle.std.proofs.Common.{◌≡◌, ℕ, ◌+◌, zero, suc, arith, refl, ap, sym, subst, ◌∙◌, Bool, true, false, cond, List, [], ◌∷◌, ◌++◌, length, drop}
+use Rattle.std.specs.Prelude.{◌==◌, ◌≢◌, Some, slice_get}
 use Rattle.bmx_msg.specs.declared.letters.Letter.{Letter}
 use Rattle.bmx_protocol.specs.declared.inputs.Sending.{Sending}
 use Rattle.bmx_protocol.specs.declared.events.Event.{Event}
 use Rattle.bmx_protocol.specs.Histories.{letters_to}
-use Rattle.bmx_protocol.proofs.Basics.{none_some}
+use Rattle.bmx_protocol.proofs.Basics.{none_some, some_same, eqb_of, eqb_apart}
 use Rattle.bmx_legal.specs.Inside.Spots.{StandsAt, Finds, spots_to}
 
 -- ## lists
@@ -62,6 +62,25 @@ finds_more history [] more (l ∷ letters) others f g = absurd f
 finds_more history (p ∷ spots) more [] others f g = absurd f
 finds_more history (p ∷ spots) more (l ∷ letters) others f g = (f.0, finds_more history spots more letters others f.1 g)
 
+-- without the first ones
+pub finds_drop : (history : List Event) (k : ℕ) (spots : List (ℕ × ℕ)) (letters : List Letter) → Finds history spots letters → Finds history (drop k spots) (drop k letters)
+finds_drop history zero [] [] f = f
+finds_drop history zero [] (l ∷ letters) f = absurd f
+finds_drop history zero (p ∷ spots) [] f = absurd f
+finds_drop history zero (p ∷ spots) (l ∷ letters) f = f
+finds_drop history (suc k) [] [] f = f
+finds_drop history (suc k) [] (l ∷ letters) f = absurd f
+finds_drop history (suc k) (p ∷ spots) [] f = absurd f
+finds_drop history (suc k) (p ∷ spots) (l ∷ letters) f = finds_drop history k spots letters f.1
+
+-- who looks a spot up finds its letter
+pub found : (history : List Event) (spot : ℕ × ℕ) (letter : Letter) (e : Event) (s : Sending) → StandsAt history spot letter →
+    slice_get history spot.0 ≡ Some e → slice_get e.done.letters spot.1 ≡ Some s → s.letter ≡ letter
+found history spot letter e s at there among =
+    let same : at.event ≡ e = some_same (sym at.there ∙ there) in
+    let one : at.sending ≡ s = some_same (sym at.among ∙ ap (λ (f : Event). slice_get f.done.letters spot.1) same ∙ among) in
+    ap (λ (x : Sending). x.letter) (sym one) ∙ at.is
+
 -- spots stay as a history grows
 pub stands_grown : (history more : List Event) (spot : ℕ × ℕ) (letter : Letter) → StandsAt history spot letter → StandsAt (history ++ more) spot letter
 stands_grown history more spot letter s = record {
@@ -112,21 +131,25 @@ finds_new past e m = finds_from (past ++ e ∷ []) e (length past) m 0 e.done.le
         let same : i ≡ 0 + i = omega arith in
         subst (λ (j : ℕ). slice_get e.done.letters j ≡ Some s) same h
 
--- one letter more
-pub spots_more : (m number k : ℕ) (letters : List Sending) (s : Sending) →
-    spots_to m number k (letters ++ s ∷ []) ≡ spots_to m number k letters ++ cond (s.to == m) ((number, k + length letters) ∷ []) []
-spots_more m number k [] s =
-    let same : k ≡ k + zero = omega arith in
-    by_test (s.to == m) ∙ ap (λ (j : ℕ). cond (s.to == m) ((number, j) ∷ []) []) same
-  where
-    by_test : (b : Bool) → cond b ((number, k) ∷ []) [] ≡ cond b ((number, k) ∷ []) []
-    by_test b = refl
-spots_more m number k (l ∷ letters) s =
+-- the spots of more letters
+pub spots_append : (m number k : ℕ) (letters more : List Sending) →
+    spots_to m number k (letters ++ more) ≡ spots_to m number k letters ++ spots_to m number (k + length letters) more
+spots_append m number k [] more = (let same : k ≡ k + zero = omega arith in ap (λ (j : ℕ). spots_to m number j more) same)
+spots_append m number k (l ∷ letters) more =
     let same : (k + 1) + length letters ≡ k + suc (length letters) = omega arith in
-    by_test (l.to == m) (spots_more m number (k + 1) letters s ∙ ap (λ (j : ℕ). spots_to m number (k + 1) letters ++ cond (s.to == m) ((number, j) ∷ []) []) same)
+    by_test (l.to == m) (spots_append m number (k + 1) letters more ∙ ap (λ (j : ℕ). spots_to m number (k + 1) letters ++ spots_to m number j more) same)
   where
-    by_test : (b : Bool) → spots_to m number (k + 1) (letters ++ s ∷ []) ≡ spots_to m number (k + 1) letters ++ cond (s.to == m) ((number, k + suc (length letters)) ∷ []) [] →
-        cond b ((number, k) ∷ spots_to m number (k + 1) (letters ++ s ∷ [])) (spots_to m number (k + 1) (letters ++ s ∷ []))
-        ≡ cond b ((number, k) ∷ spots_to m number (k + 1) letters) (spots_to m number (k + 1) letters) ++ cond (s.to == m) ((number, k + suc (length letters)) ∷ []) []
-    by_test true h = ap (λ (ps : List (ℕ × ℕ)). (number, k) ∷ ps) h
+    by_test : (b : Bool) →
+        spots_to m number (k + 1) (letters ++ more) ≡ spots_to m number (k + 1) letters ++ spots_to m number (k + suc (length letters)) more →
+        cond {A = List (ℕ × ℕ)} b ((number, k) ∷ spots_to m number (k + 1) (letters ++ more)) (spots_to m number (k + 1) (letters ++ more))
+        ≡ cond {A = List (ℕ × ℕ)} b ((number, k) ∷ spots_to m number (k + 1) letters) (spots_to m number (k + 1) letters)
+        ++ spots_to m number (k + suc (length letters)) more
+    by_test true h = (let here : ℕ × ℕ = (number, k) in ap (λ (spots : List (ℕ × ℕ)). here ∷ spots) h)
     by_test false h = h
+
+-- a letter to the node has a spot more, and one to another has none
+pub spots_one : (m number k : ℕ) (s : Sending) → s.to ≡ m → spots_to m number k (s ∷ []) ≡ (number, k) ∷ []
+spots_one m number k s to = (let here : ℕ × ℕ = (number, k) in ap (λ (b : Bool). cond b (here ∷ []) []) (eqb_of to))
+
+pub spots_no : (m number k : ℕ) (s : Sending) → s.to ≢ m → spots_to m number k (s ∷ []) ≡ []
+spots_no m number k s apart = (let here : ℕ × ℕ = (number, k) in ap (λ (b : Bool). cond b (here ∷ []) []) (eqb_apart s.to m apart))
