@@ -1,10 +1,11 @@
 -- What nodes complete in the events of a phase, one event after another.
-use Rattle.std.proofs.Common.{◌≡◌, ℕ, ◌+◌, ◌<◌, arith, refl, ap, sym, ◌∙◌, subst, Bool, true, false, cond, List, [], ◌∷◌, ◌++◌, length, map, take}
+use Rattle.std.proofs.Common.{◌≡◌, ℕ, ◌+◌, ◌<◌, ◌≤◌, arith, refl, ap, sym, ◌∙◌, subst, Bool, true, false, cond, List, [], ◌∷◌, ◌++◌, length, map, take}
 use Rattle.std.specs.Prelude.{◌==◌, slice_get, Option, Some, None, if◌then◌else◌}
 use Rattle.std.specs.List.{cons_option, flat_map}
-use Rattle.std.specs.Option.{option_and_then}
+use Rattle.std.specs.Option.{option_map, option_and_then}
 use Rattle.std.proofs.lemmas.Bool.{eqb-true}
-use Rattle.std.proofs.lemmas.List.{append-nil, length-append, length-map, length_push, take_all}
+use Rattle.std.proofs.lemmas.Option.{slice_get-map}
+use Rattle.std.proofs.lemmas.List.{append-nil, length-append, length-map, length-take, length_push, take_all}
 use Rattle.std.proofs.lemmas.List.Elements.{filter_map-append}
 use Rattle.bmx_types.specs.declared.commands.Command.{Command}
 use Rattle.bmx_protocol.specs.declared.inputs.Input.{Input}
@@ -112,6 +113,15 @@ completes_prefix s n part begun = by_last (λ l. BeginsStage s l → completed n
 
 pub length_commands : (s : Stage) (n : ℕ) → length (commands_in s n) ≡ length (program_in s n)
 length_commands s n = length-map (program_in s n) (λ (g : Order). g.command)
+
+-- so they are no more than it has
+pub completes_few : (s : Stage) (n : ℕ) (part : List Event) → BeginsStage s part → length (completed n part) ≤ length (program_in s n)
+completes_few s n part begun =
+    omega (arith, ap (λ (l : List Command). length l) (completes_prefix s n part begun), length-take (length (completed n part)) (commands_in s n), length_commands s n)
+
+-- the command of an order of the program
+pub command_at : (s : Stage) (n k : ℕ) (g : Order) → slice_get (program_in s n) k ≡ Some g → slice_get (commands_in s n) k ≡ Some g.command
+command_at s n k g is = slice_get-map (λ (h : Order). h.command) (program_in s n) k ∙ ap (option_map (λ (h : Order). h.command)) is
 
 -- ## when a phase is done
 

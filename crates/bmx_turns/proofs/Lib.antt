@@ -6,3 +6,4 @@ pub mod Walks
 pub mod Stopping
 pub mod Printing
 pub mod Stated
+pub mod Worked

@@ -1,20 +1,22 @@
 -- Where an event of a serial history stands, and that a run can be stuck in one phase alone: that of its turns.
-use Rattle.std.proofs.Common.{◌≡◌, ◌⊎◌, inl, inr, ℕ, ◌+◌, ◌<◌, ◌≤◌, arith, refl, ap, sym, ◌∙◌, subst, zero, suc, List, [], ◌∷◌, ◌++◌, length, map}
+use Rattle.std.proofs.Common.{◌≡◌, ◌⊎◌, inl, inr, ℕ, ◌+◌, ◌<◌, ◌≤◌, arith, refl, ap, sym, ◌∙◌, subst, zero, suc, Bool, true, false, List, [], ◌∷◌, ◌++◌, length, map}
 use Rattle.std.specs.Prelude.{◌↔◌, slice_get, Contains, None}
 use Rattle.std.proofs.lemmas.List.{append-nil, length-append}
 use Rattle.std.proofs.lemmas.List.Concat.{flat_map-append}
+use Rattle.bmx_msg.specs.declared.letters.Letter.{Letter}
 use Rattle.bmx_protocol.specs.declared.events.Event.{Event}
 use Rattle.bmx_protocol.specs.Nodes.{Setting, AreAll}
 use Rattle.bmx_protocol.specs.Steps.{Node}
-use Rattle.bmx_protocol.specs.Histories.{AreAfter, waits_with}
-use Rattle.bmx_protocol.specs.Runs.Programs.{Body, Order, Stage, stages, program_in, completed, CanServe, DoesStage, DoAll}
-use Rattle.bmx_protocol.specs.Runs.Turns.{Action, ServesName, command_action, letter_actions, actions_of, actions, ComesNext, TakesTurns, TakeTurns}
+use Rattle.bmx_protocol.specs.Histories.{AreAfter, in_flight, waits_with}
+use Rattle.bmx_protocol.specs.Runs.Programs.{Body, Order, Stage, stages, program_in, completed, CanServe, IsQuiet, EndsPhase, BeginsStage, DoesStage, DoAll}
+use Rattle.bmx_protocol.specs.Runs.Turns.{Action, ServesName, command_action, letter_action, letter_actions, actions_of, actions, ComesNext, TakesTurns, TakeTurns}
+use Rattle.bmx_protocol.proofs.Basics.{Two, Same, Apart, two}
 use Rattle.bmx_protocol.proofs.Prefixes.{joined, not_empty}
 use Rattle.bmx_protocol.proofs.Replayed.{replay_is_determined}
 use Rattle.bmx_turns.specs.Stuck.{IsUnfinished, IsStuck}
 use Rattle.bmx_turns.specs.Inside.Growing.{Comes}
 use Rattle.bmx_turns.proofs.Lists.{Cuts, Later, Sooner, cuts, first_same, rest_same, both_empty}
-use Rattle.bmx_turns.proofs.Completing.{length_two}
+use Rattle.bmx_turns.proofs.Completing.{length_two, does_over}
 use Rattle.bmx_turns.proofs.Turning.{takes_prefix}
 use Rattle.bmx_turns.proofs.Growing.{comes_first, comes_other, comes_next, comes_serial, comes_short}
 use Rattle.bmx_turns.proofs.Walks.{programs_in, length_done}
@@ -75,6 +77,76 @@ ends_first st seed all past rest e first serial run = by_place (stands_in st see
 map_empty : {A B : Type 0} (f : A → B) (xs : List A) → map f xs ≡ [] → xs ≡ []
 map_empty f [] h = refl
 map_empty f (x ∷ xs) h = absurd cc
+
+below_apart : (n k : ℕ) → n < suc k → (n ≡ k → ⊥) → n < k
+below_apart n k lt apart = grind (arith, lt, apart)
+
+-- each node has none then, of each kind
+none_at : (st : Setting) (s : Stage) (past part : List Event) (nodes : ℕ → Node) (names : ℕ → List ℕ) (k : ℕ) → actions st s past part nodes names k ≡ [] →
+    (n : ℕ) → n < k → actions_of st s past part n (nodes n).state (names n) ≡ []
+none_at st s past part nodes names zero none n lt = absurd (omega (arith, lt))
+none_at st s past part nodes names (suc k) none n lt = by_two (two n k) (λ none_before below. none_at st s past part nodes names k none_before n below)
+  where
+    both : (actions st s past part nodes names k ≡ []) × (actions_of st s past part k (nodes k).state (names k) ≡ [])
+    both = both_empty (actions st s past part nodes names k) (actions_of st s past part k (nodes k).state (names k)) none
+
+    by_two : Two n k → (actions st s past part nodes names k ≡ [] → n < k → actions_of st s past part n (nodes n).state (names n) ≡ []) →
+        actions_of st s past part n (nodes n).state (names n) ≡ []
+    by_two (Same e) before = subst (λ (m : ℕ). actions_of st s past part m (nodes m).state (names m) ≡ []) (sym e) both.1
+    by_two (Apart h apart) before = before both.0 (below_apart n k lt apart)
+
+letter_none : (m from : ℕ) (letters : List Letter) → letter_action m from letters ≡ [] → letters ≡ []
+letter_none m from [] none = refl
+letter_none m from (l ∷ letters) none = absurd cc
+
+letters_none : (history : List Event) (m k : ℕ) → letter_actions history m k ≡ [] → (from : ℕ) → from < k → in_flight from m history ≡ []
+letters_none history m zero none from lt = absurd (omega (arith, lt))
+letters_none history m (suc k) none from lt = by_two (two from k) (λ none_before below. letters_none history m k none_before from below)
+  where
+    both : (letter_actions history m k ≡ []) × (letter_action m k (in_flight k m history) ≡ [])
+    both = both_empty (letter_actions history m k) (letter_action m k (in_flight k m history)) none
+
+    by_two : Two from k → (letter_actions history m k ≡ [] → from < k → in_flight from m history ≡ []) → in_flight from m history ≡ []
+    by_two (Same e) before = subst (λ (n : ℕ). in_flight n m history ≡ []) (sym e) (letter_none m k (in_flight k m history) both.1)
+    by_two (Apart h apart) before = before both.0 (below_apart from k lt apart)
+
+-- where no action is enabled all is quiet
+pub none_is_quiet : (st : Setting) (s : Stage) (past part : List Event) (nodes : ℕ → Node) (names : ℕ → List ℕ) → AreAfter st (past ++ part) nodes →
+    ((n : ℕ) → n < st.nodes → AreAll (CanServe n (nodes n).state) (names n)) → actions st s past part nodes names st.nodes ≡ [] → IsQuiet st (past ++ part)
+none_is_quiet st s past part nodes names lead served none = record {
+  no_letter = λ n m real lt. letters_none (past ++ part) m st.nodes (of_node m lt).1 n real;
+  nodes = nodes;
+  lead = lead;
+  no_serve = λ n name lt serves.
+      nowhere name (subst (λ (l : List ℕ). Contains l name) (map_empty (ServesName n) (names n) (of_command n lt).1) (((served n lt).all name).1 serves));
+}
+  where
+    nowhere : (name : ℕ) → Contains [] name → ⊥
+    nowhere name (k, below, is) = omega (arith, below)
+
+    of_node : (n : ℕ) → n < st.nodes →
+        (command_action n (nodes n).state (waits_with n None (past ++ part)) (slice_get (program_in s n) (length (completed n part))) ++ map (ServesName n) (names n) ≡ [])
+        × (letter_actions (past ++ part) n st.nodes ≡ [])
+    of_node n lt =
+        both_empty
+        (command_action n (nodes n).state (waits_with n None (past ++ part)) (slice_get (program_in s n) (length (completed n part))) ++ map (ServesName n) (names n))
+        (letter_actions (past ++ part) n st.nodes) (none_at st s past part nodes names st.nodes none n lt)
+
+    of_command : (n : ℕ) → n < st.nodes →
+        (command_action n (nodes n).state (waits_with n None (past ++ part)) (slice_get (program_in s n) (length (completed n part))) ≡ []) × (map (ServesName n) (names n) ≡ [])
+    of_command n lt =
+        both_empty (command_action n (nodes n).state (waits_with n None (past ++ part)) (slice_get (program_in s n) (length (completed n part)))) (map (ServesName n) (names n)) (of_node n lt).0
+
+-- so a phase in which all programs are finished is done then
+pub none_is_done : (st : Setting) (s : Stage) (past part : List Event) (nodes : ℕ → Node) (names : ℕ → List ℕ) → AreAfter st (past ++ part) nodes →
+    ((n : ℕ) → n < st.nodes → AreAll (CanServe n (nodes n).state) (names n)) → actions st s past part nodes names st.nodes ≡ [] → BeginsStage s part →
+    ((n : ℕ) → n < st.nodes → length (completed n part) ≡ length (program_in s n)) → DoesStage st past s part
+none_is_done st s past part nodes names lead served none begun each =
+    does_over st past s part begun (record { each = each; ended = by_quiet s.quiet })
+  where
+    by_quiet : (quiet : Bool) → EndsPhase st quiet (past ++ part)
+    by_quiet true = none_is_quiet st s past part nodes names lead served none
+    by_quiet false = tt
 
 -- lists of all that has a property are empty together
 none_listed : (Has : ℕ → Type 0) (xs ys : List ℕ) → AreAll Has xs → AreAll Has ys → ys ≡ [] → xs ≡ []

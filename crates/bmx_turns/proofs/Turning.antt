@@ -1,8 +1,6 @@
 -- Turns of a phase, one after another.
 use Rattle.std.proofs.Common.{◌≡◌, ℕ, ◌<◌, arith, refl, ap, sym, ◌∙◌, subst, zero, suc, Bool, true, false, cond, List, [], ◌∷◌, ◌++◌, length, map}
 use Rattle.std.specs.Prelude.{◌%◌, slice_get, Option, Some, None}
-use Rattle.std.specs.Option.{option_map}
-use Rattle.std.proofs.lemmas.Option.{slice_get-map}
 use Rattle.bmx_types.specs.declared.commands.Command.{Command}
 use Rattle.bmx_msg.specs.declared.letters.Letter.{Letter}
 use Rattle.bmx_protocol.specs.declared.inputs.Input.{Input}
@@ -15,7 +13,7 @@ use Rattle.bmx_protocol.specs.Runs.Turns.{Action, TriesCommand, ServesName, Take
 use Rattle.bmx_protocol.proofs.Basics.{Every, every_append}
 use Rattle.bmx_protocol.proofs.Prefixes.{joined, not_empty}
 use Rattle.bmx_turns.proofs.Lists.{Place, Within, Last, place, by_last}
-use Rattle.bmx_turns.proofs.Completing.{begins_none, begins_one}
+use Rattle.bmx_turns.proofs.Completing.{begins_none, begins_one, command_at}
 
 -- ## one turn more
 
@@ -50,7 +48,7 @@ next_command s part n state w None is = tt
 next_command s part n state w (Some g) is = by_wait w
   where
     tries : slice_get (commands_in s n) (length (completed n part)) ≡ Some g.command
-    tries = slice_get-map (λ (h : Order). h.command) (program_in s n) (length (completed n part)) ∙ ap (option_map (λ (h : Order). h.command)) is
+    tries = command_at s n (length (completed n part)) g is
 
     by_test : (b : Bool) → Every (TriesNext s part) (cond b (TriesCommand n g.command ∷ []) [])
     by_test true = (tries, tt)

@@ -1,10 +1,10 @@
 -- The phases of a body, by a walk forwards through it; a node's program is what its phases give it, in order.
 use Rattle.std.proofs.Common.{◌≡◌, ℕ, ◌+◌, ◌<◌, arith, refl, ap, sym, ◌∙◌, subst, Bool, true, false, cond, List, [], ◌∷◌, ◌++◌, length, map}
-use Rattle.std.specs.Prelude.{◌==◌, slice_get}
+use Rattle.std.specs.Prelude.{◌==◌, slice_get, if◌then◌else◌}
 use Rattle.std.specs.List.{flat_map}
-use Rattle.std.proofs.lemmas.Bool.{cases_Bool}
 use Rattle.std.proofs.lemmas.List.{append-nil, append_assoc, map-append, length-map}
 use Rattle.std.proofs.lemmas.List.Concat.{flat_map-append}
+use Rattle.std.proofs.lemmas.List.Elements.{filter-append}
 use Rattle.bmx_types.specs.declared.commands.Command.{Command}
 use Rattle.bmx_protocol.specs.declared.events.Event.{Event}
 use Rattle.bmx_protocol.specs.Nodes.{Setting}
@@ -68,6 +68,12 @@ pub onto_end : (commands : List Order) → onto commands (stages []) ≡ record 
 onto_end commands = bare commands false []
 
 -- ## programs
+
+-- a node's program of a phase with one command more
+pub program_in_one : (commands : List Order) (quiet : Bool) (g : Order) (n : ℕ) →
+    program_in (record { commands = commands ++ g ∷ []; quiet = quiet }) n
+    ≡ program_in (record { commands = commands; quiet = quiet }) n ++ (if g.node == n then g ∷ [] else [])
+program_in_one commands quiet g n = filter-append (λ (h : Order). h.node == n) commands (g ∷ [])
 
 -- a node's programs of phases, one after another
 abbrev pub programs_in : List Stage → ℕ → List Order

@@ -1,3 +1,4 @@
 pub mod Stuck
 pub mod Laws
+pub mod Cases
 pub mod Inside

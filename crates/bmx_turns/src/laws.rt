@@ -1,3 +1,4 @@
+ghost use Rattle.bmx_turns.specs.Cases.{CrossedWritersAreStuck};
 ghost use Rattle.bmx_turns.specs.Laws.{SerialFollowsItsScript, SerialEndsFirst, StuckRunsNot, StuckEndsTurns};
 
 /// The law that each serial history follows its script: each command that is tried in it is the next of its node's
@@ -20,4 +21,10 @@ pub fn stuck_runs_not()
 /// The law that a stuck history is at its end for every seed: no serial history goes on from it. It does nothing.
 pub fn stuck_ends_turns()
     ensures { StuckEndsTurns }
+{}
+
+/// The law that a run can be stuck: one of two nodes that want to write one object, worked by hand, is. It does
+/// nothing.
+pub fn crossed_writers_are_stuck()
+    ensures { CrossedWritersAreStuck }
 {}

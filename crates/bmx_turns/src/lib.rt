@@ -4,4 +4,7 @@
 
 mod laws;
 
-pub use laws::{serial_ends_first, serial_follows_its_script, stuck_ends_turns, stuck_runs_not};
+pub use laws::{
+    crossed_writers_are_stuck, serial_ends_first, serial_follows_its_script, stuck_ends_turns,
+    stuck_runs_not,
+};
