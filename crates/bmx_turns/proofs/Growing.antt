@@ -1,14 +1,13 @@
 -- A run from phase to phase: serial phases end as soon as they can.
-use Rattle.std.proofs.Common.{◌≡◌, ◌⊎◌, inl, inr, ℕ, ◌+◌, ◌<◌, arith, refl, ap, sym, ◌∙◌, subst, List, [], ◌∷◌, ◌++◌, length}
+use Rattle.std.proofs.Common.{◌≡◌, inl, inr, ℕ, ◌<◌, arith, refl, ap, sym, ◌∙◌, subst, List, [], ◌∷◌, ◌++◌}
 use Rattle.std.proofs.lemmas.List.{append-nil, append_cancel_left, append_assoc}
-use Rattle.bmx_types.specs.declared.commands.Command.{Command}
 use Rattle.bmx_protocol.specs.declared.events.Event.{Event}
 use Rattle.bmx_protocol.specs.Nodes.{Setting, AreAll}
 use Rattle.bmx_protocol.specs.Steps.{Node}
 use Rattle.bmx_protocol.specs.Histories.{AreAfter}
-use Rattle.bmx_protocol.specs.Runs.Programs.{Body, Stage, stages, program_in, commands_in, completed, CanServe, EndsPhase, BeginsStage, DoesStage, DoAll, DoSome}
+use Rattle.bmx_protocol.specs.Runs.Programs.{Body, Stage, stages, completed, CanServe, EndsPhase, BeginsStage, DoesStage, DoAll, DoSome}
 use Rattle.bmx_protocol.specs.Runs.Turns.{actions, TakesTurns, TakeTurns}
-use Rattle.bmx_protocol.proofs.Prefixes.{joined, not_empty}
+use Rattle.bmx_protocol.proofs.Prefixes.{joined}
 use Rattle.bmx_turns.specs.Stuck.{IsUnfinished, IsStuck}
 use Rattle.bmx_turns.specs.Inside.Growing.{IsIdle, Delayed, Comes}
 use Rattle.bmx_turns.proofs.Lists.{Cuts, Later, Sooner, cuts}

@@ -1,6 +1,6 @@
 -- Where an event of a serial history stands, and that a run can be stuck in one phase alone: that of its turns.
-use Rattle.std.proofs.Common.{◌≡◌, ◌⊎◌, inl, inr, ℕ, ◌+◌, ◌<◌, ◌≤◌, arith, refl, ap, sym, ◌∙◌, subst, zero, suc, Bool, true, false, List, [], ◌∷◌, ◌++◌, length, map}
-use Rattle.std.specs.Prelude.{◌↔◌, slice_get, Contains, None}
+use Rattle.std.proofs.Common.{◌≡◌, inl, inr, ℕ, ◌+◌, ◌<◌, ◌≤◌, arith, refl, ap, sym, ◌∙◌, subst, zero, suc, Bool, true, false, List, [], ◌∷◌, ◌++◌, length, map}
+use Rattle.std.specs.Prelude.{slice_get, Contains, None}
 use Rattle.std.proofs.lemmas.List.{append-nil, length-append}
 use Rattle.std.proofs.lemmas.List.Concat.{flat_map-append}
 use Rattle.bmx_msg.specs.declared.letters.Letter.{Letter}
@@ -9,13 +9,13 @@ use Rattle.bmx_protocol.specs.Nodes.{Setting, AreAll}
 use Rattle.bmx_protocol.specs.Steps.{Node}
 use Rattle.bmx_protocol.specs.Histories.{AreAfter, in_flight, waits_with}
 use Rattle.bmx_protocol.specs.Runs.Programs.{Body, Order, Stage, stages, program_in, completed, CanServe, IsQuiet, EndsPhase, BeginsStage, DoesStage, DoAll}
-use Rattle.bmx_protocol.specs.Runs.Turns.{Action, ServesName, command_action, letter_action, letter_actions, actions_of, actions, ComesNext, TakesTurns, TakeTurns}
+use Rattle.bmx_protocol.specs.Runs.Turns.{ServesName, command_action, letter_action, letter_actions, actions_of, actions, ComesNext, TakesTurns, TakeTurns}
 use Rattle.bmx_protocol.proofs.Basics.{Two, Same, Apart, two}
 use Rattle.bmx_protocol.proofs.Prefixes.{joined, not_empty}
 use Rattle.bmx_protocol.proofs.Replayed.{replay_is_determined}
 use Rattle.bmx_turns.specs.Stuck.{IsUnfinished, IsStuck}
 use Rattle.bmx_turns.specs.Inside.Growing.{Comes}
-use Rattle.bmx_turns.proofs.Lists.{Cuts, Later, Sooner, cuts, first_same, rest_same, both_empty}
+use Rattle.bmx_turns.proofs.Lists.{Cuts, Later, Sooner, cuts, first_same, both_empty}
 use Rattle.bmx_turns.proofs.Completing.{length_two, does_over}
 use Rattle.bmx_turns.proofs.Turning.{takes_prefix}
 use Rattle.bmx_turns.proofs.Growing.{comes_first, comes_other, comes_next, comes_serial, comes_short}

@@ -1,15 +1,14 @@
 -- Turns of a phase, one after another.
-use Rattle.std.proofs.Common.{◌≡◌, ℕ, ◌<◌, arith, refl, ap, sym, ◌∙◌, subst, zero, suc, Bool, true, false, cond, List, [], ◌∷◌, ◌++◌, length, map}
+use Rattle.std.proofs.Common.{◌≡◌, ℕ, refl, ap, sym, ◌∙◌, subst, zero, suc, Bool, true, false, cond, List, [], ◌∷◌, ◌++◌, length, map}
 use Rattle.std.specs.Prelude.{◌%◌, slice_get, Option, Some, None}
 use Rattle.bmx_types.specs.declared.commands.Command.{Command}
 use Rattle.bmx_msg.specs.declared.letters.Letter.{Letter}
-use Rattle.bmx_protocol.specs.declared.inputs.Input.{Input}
 use Rattle.bmx_protocol.specs.declared.events.Event.{Event}
 use Rattle.bmx_protocol.specs.Nodes.{Setting, NodeState}
 use Rattle.bmx_protocol.specs.Steps.{Node, command_in}
 use Rattle.bmx_protocol.specs.Histories.{in_flight, waits_with}
 use Rattle.bmx_protocol.specs.Runs.Programs.{Stage, Order, program_in, commands_in, completed, BeginsStage, DoesStage}
-use Rattle.bmx_protocol.specs.Runs.Turns.{Action, TriesCommand, ServesName, TakesLetter, actor, input_of, is_ready, command_action, letter_action, letter_actions, actions_of, actions, picked, word, IsTurn, ComesNext, TakesTurns}
+use Rattle.bmx_protocol.specs.Runs.Turns.{Action, TriesCommand, ServesName, TakesLetter, actor, input_of, is_ready, command_action, letter_action, letter_actions, actions_of, actions, picked, word, ComesNext, TakesTurns}
 use Rattle.bmx_protocol.proofs.Basics.{Every, every_append}
 use Rattle.bmx_protocol.proofs.Prefixes.{joined, not_empty}
 use Rattle.bmx_turns.proofs.Lists.{Place, Within, Last, place, by_last}

@@ -18,7 +18,7 @@ use Rattle.bmx_protocol.specs.Histories.{Replays, AreAfter}
 use Rattle.bmx_protocol.specs.Cases.{Do, Next, Move, mover, Play, input_of, told_at, places_after, with_input, play, played, one_bunch, anchor}
 use Rattle.bmx_protocol.specs.Runs.Programs.{CanServe, BeginsStage}
 use Rattle.bmx_protocol.proofs.Basics.{Two, Same, Apart, two, put_apart}
-use Rattle.bmx_turns.specs.Cases.{both_write, crossing, waiting, CrossedWritersAreStuck}
+use Rattle.bmx_turns.specs.Cases.{crossing, waiting, CrossedWritersAreStuck}
 use Rattle.bmx_turns.proofs.Completing.{begins_none, begins_one}
 
 -- ## a played run leads to its nodes

@@ -1,5 +1,5 @@
 -- A run worked by hand that is stuck, each part closed by computing.
-use Rattle.std.specs.Prelude.{◌≡◌, ℕ, false, List, [], ◌∷◌, refl}
+use Rattle.std.specs.Prelude.{◌≡◌, false, List, [], ◌∷◌, refl}
 use Rattle.bmx_types.specs.declared.commands.Command.TheVariants as command
 use Rattle.bmx_protocol.specs.Cases.{Do, Next, Play, played, one_bunch, anchor}
 use Rattle.bmx_protocol.specs.Runs.Programs.{Body, Gives, Stage, stages}
