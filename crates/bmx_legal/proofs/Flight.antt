@@ -3,7 +3,7 @@ use Rattle.std.proofs.Common.{◌≡◌, ◌≢◌, ℕ, ◌+◌, ◌<◌, ◌�
 use Rattle.std.specs.Prelude.{◌==◌, ◌||◌, not, nat_le, Option, Some, None, Contains}
 use Rattle.std.specs.List.{cons_option}
 use Rattle.std.proofs.lemmas.List.{drop-append-le}
-use Rattle.std.proofs.lemmas.List.Elements.{filter_map-append, Contains-push}
+use Rattle.std.proofs.lemmas.List.Elements.{filter_map-append}
 use Rattle.std.proofs.lemmas.Option.{slice_get_within}
 use Rattle.bmx_types.specs.Openings.{IsOpening}
 use Rattle.bmx_msg.specs.declared.letters.Letter.{Letter}
@@ -22,7 +22,7 @@ use Rattle.bmx_protocol.proofs.Prefixes.{prefix_is_legal}
 use Rattle.bmx_store_laws.specs.Inside.Seen.{seen, first_world}
 use Rattle.bmx_store_laws.proofs.Histories.{Came, came_after}
 use Rattle.bmx_legal.specs.Laws.{FlightGrows}
-use Rattle.bmx_legal.proofs.Growing.{acts, not_stray, taken_arrived}
+use Rattle.bmx_legal.proofs.Growing.{acts, last_not_stray, taken_arrived}
 
 -- ## lists
 
@@ -163,7 +163,7 @@ pub never_own : (st : Setting) (past : List Event) (e : Event) (from : ℕ) (l :
 never_own st past e from l opening legal is own =
     let s = last_step st past e (first_node st) legal.steps.0 legal.steps.1 in
     let stray : e.done.answer ≡ answer.Stray = stray_from_itself st e.node e.stamp from l e.input s.0 s.1 e.done s.2 is own in
-    let taken : is_taken e.done.answer ≡ true = not_stray st (past ++ e ∷ []) e opening legal (Contains-push past e) in
+    let taken : is_taken e.done.answer ≡ true = last_not_stray st past e opening legal in
     absurd (no (sym taken ∙ ap is_taken stray))
   where
     no : true ≡ false → ⊥

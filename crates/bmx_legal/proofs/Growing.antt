@@ -2,7 +2,7 @@
 use Rattle.std.proofs.Common.{◌≡◌, ◌≢◌, ◌⊎◌, inl, inr, ℕ, ◌+◌, ◌^◌, ◌<◌, ◌≤◌, zero, suc, max, arith, refl, ap, sym, subst, ◌∙◌, Bool, true, false, cond, List, [], ◌∷◌, ◌++◌, length, drop, length-append}
 use Rattle.std.specs.Prelude.{◌==◌, nat_lt, Some, slice_get, filter, count_by, Contains}
 use Rattle.std.proofs.lemmas.Bool.Decides.{nat_tests}
-use Rattle.std.proofs.lemmas.List.Elements.{Contains-push_cases}
+use Rattle.std.proofs.lemmas.List.Elements.{Contains-push, Contains-push_cases}
 use Rattle.std.proofs.lemmas.List.Sums.{count_by-le-length, sum_by-append}
 use Rattle.bmx_types.specs.Openings.{IsOpening}
 use Rattle.bmx_types.specs.Updates.{put}
@@ -58,6 +58,11 @@ parted (y ∷ xs) x (suc k, below, is) =
 every_of : {A : Type 0} (P : A → Type 0) (xs : List A) → ((x : A) → Contains xs x → P x) → Every P xs
 every_of P [] each = tt
 every_of P (x ∷ xs) each = (each x (0, omega arith, refl), every_of P xs (λ y c. each y (suc c.0, omega (arith, c.1), c.2)))
+
+pub every_there : {A : Type 0} (P : A → Type 0) (xs : List A) (x : A) → Every P xs → Contains xs x → P x
+every_there P [] x h c = absurd (omega (arith, c.1))
+every_there P (y ∷ xs) x h (zero, below, is) = subst P is h.0
+every_there P (y ∷ xs) x h (suc k, below, is) = every_there P xs x h.1 (k, omega arith, is)
 
 pub drop_first : {A : Type 0} (k : ℕ) (xs : List A) (x : A) → slice_get (drop k xs) 0 ≡ Some x → slice_get xs k ≡ Some x
 drop_first zero [] x h = h
@@ -148,6 +153,11 @@ taken_unless answer.Stray h = absurd (h refl)
 pub not_stray : (st : Setting) (history : List Event) (e : Event) → IsOpening st.nodes st.limit st.births → IsLegal st history → Contains history e →
     is_taken e.done.answer ≡ true
 not_stray st history e opening legal there = taken_unless e.done.answer (no_letter_is_stray st history e opening legal there)
+
+-- nor is one that was just added
+pub last_not_stray : (st : Setting) (past : List Event) (e : Event) → IsOpening st.nodes st.limit st.births → IsLegal st (past ++ e ∷ []) →
+    is_taken e.done.answer ≡ true
+last_not_stray st past e opening legal = not_stray st (past ++ e ∷ []) e opening legal (Contains-push past e)
 
 all_kept : (events : List Event) → Every (λ (e : Event). is_taken e.done.answer ≡ true) events → filter (λ (e : Event). is_taken e.done.answer) events ≡ events
 all_kept [] h = refl

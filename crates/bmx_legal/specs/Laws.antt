@@ -4,8 +4,8 @@ use Rattle.bmx_types.specs.Openings.{IsOpening}
 use Rattle.bmx_types.specs.Updates.{put}
 use Rattle.bmx_protocol.specs.declared.events.Event.{Event}
 use Rattle.bmx_protocol.specs.Nodes.{Setting}
-use Rattle.bmx_protocol.specs.Steps.{Node, first_node}
-use Rattle.bmx_protocol.specs.Histories.{issued, arrived, in_flight, IsLegal}
+use Rattle.bmx_protocol.specs.Steps.{Node, first_node, stamp_after}
+use Rattle.bmx_protocol.specs.Histories.{issued, arrived, in_flight, AreAfter, IsLegal}
 use Rattle.bmx_legal.specs.Growing.{Leads, MayFollow}
 
 -- as a store opens, the history of no event leads to the first nodes, with no stamp
@@ -25,3 +25,10 @@ abbrev pub FlightGrows : Type 0
 FlightGrows =
     (st : Setting) (past : List Event) (e : Event) → IsOpening st.nodes st.limit st.births → IsLegal st (past ++ e ∷ []) → (n m : ℕ) →
     in_flight n m (past ++ e ∷ []) ≡ drop (length (arrived n m (e ∷ []))) (in_flight n m past) ++ issued n m (e ∷ [])
+
+-- and no other way: each event of a legal history may come next after those before it, if it has the stamp that a driver gives it
+abbrev pub EachMayFollow : Type 0
+EachMayFollow =
+    (st : Setting) (past rest : List Event) (nodes : ℕ → Node) (stamps : ℕ → ℕ) (e : Event) →
+    IsOpening st.nodes st.limit st.births → IsLegal st (past ++ e ∷ rest) → AreAfter st past nodes →
+    e.stamp ≡ stamp_after (stamps e.node) e.input → (n : Node) × MayFollow st past nodes stamps e n

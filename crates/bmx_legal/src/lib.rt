@@ -4,4 +4,4 @@
 
 mod laws;
 
-pub use laws::{flight_grows, history_begins, history_grows};
+pub use laws::{each_may_follow, flight_grows, history_begins, history_grows, laws_tell};

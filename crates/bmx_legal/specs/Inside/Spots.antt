@@ -1,5 +1,5 @@
 -- Where letters stand in a history: the number of an event, and the letter's own among those of its outcome.
-use Rattle.std.specs.Prelude.{◌≡◌, ℕ, ◌+◌, ◌==◌, if◌then◌else◌, List, [], ◌∷◌, Some, slice_get}
+use Rattle.std.specs.Prelude.{◌≡◌, ℕ, ◌+◌, ◌==◌, if◌then◌else◌, List, [], ◌∷◌, Some, slice_get, refl}
 use Rattle.bmx_msg.specs.declared.letters.Letter.{Letter}
 use Rattle.bmx_protocol.specs.declared.inputs.Sending.{Sending}
 use Rattle.bmx_protocol.specs.declared.events.Event.{Event}
@@ -23,3 +23,7 @@ Finds history (p ∷ spots) (l ∷ letters) = StandsAt history p l × Finds hist
 abbrev pub spots_to : ℕ → ℕ → ℕ → List Sending → List (ℕ × ℕ)
 spots_to m event k [] = []
 spots_to m event k (l ∷ letters) = if l.to == m then (event, k) ∷ spots_to m event (k + 1) letters else spots_to m event (k + 1) letters
+
+-- of three letters of event 7, the first and the last go to node 1
+spots_of_two : (l : Letter) → spots_to 1 7 0 (record { to = 1; letter = l } ∷ record { to = 2; letter = l } ∷ record { to = 1; letter = l } ∷ []) ≡ (7, 0) ∷ (7, 2) ∷ []
+spots_of_two l = refl
