@@ -29,7 +29,7 @@ serial_follows_its_script st seed body history serial = follow_all st seed [] (s
 -- ## they end as soon as they can
 
 pub serial_ends_first : SerialEndsFirst
-serial_ends_first st seed body past rest e serial runs = ends_first st seed (stages body) past rest e (comes_first st seed (stages body)) serial runs
+serial_ends_first st seed body past rest e serial runs = ends_first st seed (stages body) past rest e serial runs
 
 -- ## stuck histories don't run their script
 

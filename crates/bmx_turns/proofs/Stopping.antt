@@ -65,9 +65,9 @@ stands_in st seed all past (s ∷ more) events c (inr (part, later, cut, takes, 
         stands_within st seed all past s more part c takes before z e (ap (λ (x : Event). before ++ x ∷ z) (first_same e g rest (z ++ later) at) ∙ sym same)
 
 -- no history that a serial one goes on from does all phases
-pub ends_first : (st : Setting) (seed : ℕ) (all : List Stage) (past rest : List Event) (e : Event) → Comes st seed all [] all →
+pub ends_first : (st : Setting) (seed : ℕ) (all : List Stage) (past rest : List Event) (e : Event) →
     TakeTurns st seed [] all (past ++ e ∷ rest) → DoAll st [] all past → ⊥
-ends_first st seed all past rest e first serial run = by_place (stands_in st seed all [] all (past ++ e ∷ rest) first serial past rest e refl)
+ends_first st seed all past rest e serial run = by_place (stands_in st seed all [] all (past ++ e ∷ rest) (comes_first st seed all) serial past rest e refl)
   where
     by_place : StandsIn st seed all past e → ⊥
     by_place x = comes_short st seed all x.past x.stage x.more x.part x.comes x.takes x.goes_on (subst (DoAll st [] all) x.cut run)
@@ -207,7 +207,7 @@ pub record IsStuckIn (st : Setting) (s : Stage) (past part : List Event) (nodes 
   pub unfinished : IsUnfinished st s part
 
 module _ (st : Setting) (seed : ℕ) (body : List Body) (past : List Event) (s : Stage) (more : List Stage) (part : List Event) (nodes : ℕ → Node) (names : ℕ → List ℕ)
-    (first : (all : List Stage) → Comes st seed all [] all) (c : Comes st seed (stages body) past (s ∷ more)) (takes : TakesTurns st seed past s part) (goes_on : DoesStage st past s part → ⊥)
+    (c : Comes st seed (stages body) past (s ∷ more)) (takes : TakesTurns st seed past s part) (goes_on : DoesStage st past s part → ⊥)
     (lead : AreAfter st (past ++ part) nodes) (all_served : (n : ℕ) → n < st.nodes → AreAll (CanServe n (nodes n).state) (names n)) (stuck : IsStuck st body (past ++ part)) where
   -- what a node completed, by both cuts
   counted : (n : ℕ) → n < st.nodes → length (programs_in c.before n) + length (completed n part) ≡ length (programs_in stuck.before n) + length (completed n stuck.part)
@@ -253,7 +253,7 @@ module _ (st : Setting) (seed : ℕ) (body : List Body) (past : List Event) (s :
           comes_short st seed (c.before ++ s ∷ z) past s z part other takes goes_on
           (subst (DoAll st [] (c.before ++ s ∷ z)) (sym (append-nil stuck.past) ∙ (λ i. stuck.past ++ sym at i) ∙ sym stuck.cut) done)
       by_part (e ∷ l) at =
-          ends_first st seed (c.before ++ s ∷ z) stuck.past l e (first (c.before ++ s ∷ z))
+          ends_first st seed (c.before ++ s ∷ z) stuck.past l e
           (subst (TakeTurns st seed [] (c.before ++ s ∷ z)) (stuck.cut ∙ (λ i. stuck.past ++ at i)) serial) done
 
   here : c.before ≡ stuck.before → s ≡ stuck.stage → IsStuckIn st s past part nodes names
@@ -297,4 +297,4 @@ pub stuck_is_here : (st : Setting) (seed : ℕ) (body : List Body) (past : List 
     Comes st seed (stages body) past (s ∷ more) → TakesTurns st seed past s part → (DoesStage st past s part → ⊥) → AreAfter st (past ++ part) nodes →
     ((n : ℕ) → n < st.nodes → AreAll (CanServe n (nodes n).state) (names n)) → IsStuck st body (past ++ part) → IsStuckIn st s past part nodes names
 stuck_is_here st seed body past s more part nodes names c takes goes_on lead served stuck =
-    stuck_there st seed body past s more part nodes names (comes_first st seed) c takes goes_on lead served stuck
+    stuck_there st seed body past s more part nodes names c takes goes_on lead served stuck
