@@ -2,7 +2,7 @@
 use Rattle.std.proofs.Common.{◌≡◌, ℕ, zero, suc, ◌+◌, ◌<◌, ◌≤◌, eqb, true, false, List, [], ◌∷◌, ◌++◌, length, map, get_or, set, replicate, refl, sym, ap, subst, ◌∙◌, ⊎_elim, arith, Result, Ok, Err, OnOk, OnErr}
 use Rattle.std.proofs.Math.Path.{fun_ext}
 use Rattle.std.proofs.lemmas.Bool.{cases_eq, eqb-true, false≢true, eq-eqb, ne_eqb, cond-true, cond-false}
-use Rattle.std.proofs.lemmas.List.{map-set, length-map, length-set, get_or-set_same, get_or-set_other, get_or_read, set-get_or}
+use Rattle.std.proofs.lemmas.List.{map-set, length-map, length-set, get_or-set_same, get_or-set_other, get_or_read}
 use Rattle.bmx_types.specs.Updates.{put, put_at}
 use Rattle.bmx_lanes.specs.Sending.{lane_from, lane_of, one_if_any, senders_below}
 use Rattle.bmx_lanes.specs.Inside.Counts.{Counts}
@@ -187,10 +187,6 @@ inbox_set inboxes k from to old new change eight small is read e =
         ∙ sym (put_at-column (lane_of inboxes) from k (change (lane_of inboxes from k)) f) ∙ ap (put_at (lane_of inboxes) from k (change (lane_of inboxes from k)) f) same)
         (λ (ne : k ≡ t → ⊥). ap (λ b. lane_from b f) (get_or-set_other inboxes k t new [] (λ e. ne (sym e))) ∙ sym (put_at-beside (lane_of inboxes) from k (change (lane_of inboxes from k)) f t ne))
         (cases_eq k t)
-
--- an inbox stays
-pub inbox_kept : {A : Type 0} (inboxes : List (List (List A))) (k : ℕ) (old new : List (List A)) → old ≡ get_or inboxes k old → new ≡ old → set inboxes k new ≡ inboxes
-inbox_kept inboxes k old new read e = ap (set inboxes k) (e ∙ read) ∙ set-get_or inboxes k old
 
 pub OnOk-map : {T E P Q : Type 0} (r : Result T E) → (P → Q) → OnOk r P → OnOk r Q
 OnOk-map (Ok x) f h = f h
