@@ -1,10 +1,16 @@
 pub mod Rising
 pub mod Passing
+pub mod Listing
 pub mod Found
 pub mod Told
 pub mod Steps
 pub mod Reaching
 pub mod Tokens
 pub mod Taking
+pub mod Within
+pub mod Mapped
+pub mod Worked
 pub mod Telling
 pub mod Replayed
+pub mod Without
+pub mod Pairing

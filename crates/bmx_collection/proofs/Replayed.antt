@@ -9,7 +9,7 @@ use Rattle.bmx_collection.specs.Histories.{Deed, Plain, Collector, LinkedEvent, 
 use Rattle.bmx_collection.specs.Laws.{PrefixIsLegalLinked, LinkedReplayIsDetermined}
 use Rattle.bmx_collection.proofs.Steps.{collector_step_is_determined}
 
-joined : (p r t : List LinkedEvent) → (p ++ r) ++ t ≡ p ++ (r ++ t)
+pub joined : (p r t : List LinkedEvent) → (p ++ r) ++ t ≡ p ++ (r ++ t)
 joined [] r t = refl
 joined (e ∷ p) r t = ap (λ (l : List LinkedEvent). e ∷ l) (joined p r t)
 

@@ -19,7 +19,7 @@ use Rattle.bmx_collection.proofs.Rising.{listed, listed_there}
 -- ## what stays of one entry
 
 -- what stands after it was there before
-left_was : (bunch : ℕ) (kept : Bool) (o : Option Known) (k : Known) → known_left bunch kept o ≡ Some k → o ≡ Some k
+pub left_was : (bunch : ℕ) (kept : Bool) (o : Option Known) (k : Known) → known_left bunch kept o ≡ Some k → o ≡ Some k
 left_was bunch kept None k e = e
 left_was bunch kept (Some j) k e = by (j.bunch == bunch && not kept) e
   where

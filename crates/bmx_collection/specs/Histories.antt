@@ -37,6 +37,10 @@ plain_event e = by (e.deed)
 abbrev pub plain_events : List LinkedEvent → List Event
 plain_events history = filter_map plain_event history
 
+-- an event without a collector, among those with them
+abbrev pub plainly : Event → LinkedEvent
+plainly e = record { node = e.node; stamp = e.stamp; deed = Plain e.input e.done }
+
 -- the table that an event made, and the one that it took
 abbrev pub table_made : Deed → Option Table
 table_made (Plain i d) = None

@@ -1,14 +1,18 @@
 -- What holds of a collector's step by the definitions alone, whatever came before it.
-use Rattle.std.specs.Prelude.{◌≡◌, ℕ, suc, ◌+◌, ◌++◌, ◌<◌, false, true, List, Some, None}
+use Rattle.std.specs.Prelude.{◌≡◌, ℕ, suc, ◌+◌, ◌^◌, ◌++◌, ◌<◌, ◌≤◌, ◌↔◌, false, true, List, map, Some, None}
 use Rattle.bmx_table.specs.declared.tables.Table.{Table}
 use Rattle.bmx_clean.specs.declared.cleaner.Applied.TheVariants.{Early, Removed}
 use Rattle.bmx_protocol.specs.Nodes.{Setting, NodeState, Known, AreAll}
+use Rattle.bmx_protocol.specs.Places.{Places}
+use Rattle.bmx_protocol.specs.declared.events.Event.{Event}
+use Rattle.bmx_protocol.specs.Histories.{AreAfter, IsLegal}
 use Rattle.bmx_collection.specs.Links.{Links}
 use Rattle.bmx_collection.specs.Reach.{is_entry, refers, is_busy, IsRoot, IsReachedHere, MayBeKept}
-use Rattle.bmx_collection.specs.Steps.{LinkedNode, first_linked, CollectorInput, Collect, TakeTable, CollectorAnswer, Forgot, Swept, Cleaned, Nil, Refused, Stray, CollectorDone, MakeTable, IsCollectorTold, IsCollectorStep, counted}
+use Rattle.bmx_collection.specs.Steps.{LinkedNode, unlinked, first_linked, CollectorInput, Collect, Sweep, TakeTable, CollectorAnswer, Forgot, Swept, Cleaned, Nil, Refused, Stray, CollectorDone, MakeTable, IsCollectorTold, IsCollectorStep, counted}
 use Rattle.bmx_owner.specs.declared.entering.Record.{Record}
 use Rattle.bmx_collection.specs.Finding.{reached_in, found}
-use Rattle.bmx_collection.specs.Histories.{LinkedEvent, ReplaysLinked, IsLegalLinked}
+use Rattle.bmx_collection.specs.Histories.{LinkedEvent, plainly, plain_events, ReplaysLinked, IsLegalLinked, IsWithoutCollector}
+use Rattle.bmx_collection.specs.Worlds.{LinkedWorld, linked_world_of, StubsHaveScions, NoTableEndsAScion}
 
 -- ## one step
 
@@ -101,21 +105,37 @@ SecondTakingRemovesNothing =
 
 -- ## lists found by looking
 
+-- a record is one of a name and a node, both below n
+pub record IsRecordBelow (n name node : ℕ) (r : Record) : Type 0 where
+  pub of_name : r.name ≡ name
+  pub of_node : r.from ≡ node
+  pub name_below : name < n
+  pub node_below : node < n
+
 -- all names that a node knows or has records of, and the nodes of these, are below n
 pub record IsWithin (n : ℕ) (s : NodeState) : Type 0 where
   pub names : (name : ℕ) (k : Known) → s.known name ≡ Some k → name < n
-  pub records : (name node : ℕ) (r : Record) → s.entering name node ≡ Some r → node < n
+  pub records : (name node : ℕ) (r : Record) → s.entering name node ≡ Some r → IsRecordBelow n name node r
+
+-- all segments that are mapped, their homes, and the bunches that have one open, are below n
+pub record AreWithin (n : ℕ) (a : Places) : Type 0 where
+  pub mapped : (home segment : ℕ) → a.mapped home segment ≡ true → (home < n) × (segment < n)
+  pub opened : (bunch segment : ℕ) → a.opened bunch ≡ Some segment → bunch < n
 
 -- no step more reaches another name
 abbrev pub IsSettled : ℕ → LinkedNode → ℕ → Type 0
 IsSettled n node bunch = reached_in (suc n) n node.state node.links bunch ≡ reached_in n n node.state node.links bunch
 
--- what is found below n is what a collection and a table are to be told, where the node has nothing else
+-- what is found below n is what a collector's step is to be told, where the node has nothing else
 pub record FoundIsTold : Type 0 where
   pub collections : (n me bunch : ℕ) (node : LinkedNode) → IsWithin n node.state → IsSettled n node bunch →
       IsCollectorTold me node (Collect bunch) (found n me node (Collect bunch))
+  pub sweeps : (n me : ℕ) (node : LinkedNode) → n ≤ 2 ^ 24 → AreWithin n node.places →
+      IsCollectorTold me node Sweep (found n me node Sweep)
   pub tables : (n me bunch to : ℕ) (node : LinkedNode) → IsWithin n node.state →
       IsCollectorTold me node (MakeTable bunch to) (found n me node (MakeTable bunch to))
+  pub takings : (n me : ℕ) (t : Table) (node : LinkedNode) → IsWithin n node.state →
+      IsCollectorTold me node (TakeTable t) (found n me node (TakeTable t))
 
 -- ## histories
 
@@ -128,3 +148,25 @@ abbrev pub LinkedReplayIsDetermined : Type 0
 LinkedReplayIsDetermined =
     (st : Setting) (history : List LinkedEvent) (nodes others : ℕ → LinkedNode) →
     ReplaysLinked st (first_linked st) history nodes → ReplaysLinked st (first_linked st) history others → nodes ≡ others
+
+-- a history without collectors is legal exactly where its events are legal by the rules without them, and leads to
+-- nodes of the same states and places; each history by those rules is such a one
+pub record WithoutCollectorsAlike : Type 0 where
+  pub legal : (st : Setting) (history : List LinkedEvent) → IsWithoutCollector history → IsLegalLinked st history ↔ IsLegal st (plain_events history)
+  pub nodes : (st : Setting) (history : List LinkedEvent) (nodes : ℕ → LinkedNode) → IsWithoutCollector history →
+      ReplaysLinked st (first_linked st) history nodes → AreAfter st (plain_events history) (λ n. unlinked (nodes n))
+  pub each : (history : List Event) → IsWithoutCollector (map plainly history) × (plain_events (map plainly history) ≡ history)
+
+-- what holds of the world after each legal history with collectors
+abbrev pub AlwaysLinked : (LinkedWorld → Type 0) → Type 0
+AlwaysLinked Holds =
+    (st : Setting) (history : List LinkedEvent) (nodes : ℕ → LinkedNode) → IsLegalLinked st history →
+    ReplaysLinked st (first_linked st) history nodes → Holds (linked_world_of nodes history)
+
+-- each stub has its scion
+abbrev pub StubsAreAnswered : Type 0
+StubsAreAnswered = AlwaysLinked StubsHaveScions
+
+-- no table that was made so far, however late and often it comes, ends a scion whose stub stands
+abbrev pub ScionsAreSafe : Type 0
+ScionsAreSafe = AlwaysLinked NoTableEndsAScion

@@ -9,6 +9,7 @@ pub mod Histories
 pub mod Worlds
 pub mod Finding
 pub mod Playing
+pub mod Runs
 pub mod Cases
 pub mod Laws
 pub mod Telling

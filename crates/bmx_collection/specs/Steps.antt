@@ -14,7 +14,7 @@ use Rattle.bmx_protocol.specs.Nodes.{Setting, NodeState, AreAll, first_state}
 use Rattle.bmx_protocol.specs.Places.{Places, first_places}
 use Rattle.bmx_protocol.specs.Changes.{with_step}
 use Rattle.bmx_protocol.specs.Strays.{too_large}
-use Rattle.bmx_protocol.specs.Steps.{IsStep}
+use Rattle.bmx_protocol.specs.Steps.{Node, IsStep}
 use Rattle.bmx_collection.specs.Links.{Links, no_links, links_after}
 use Rattle.bmx_collection.specs.Reach.{is_owned, is_child, IsReachedHere}
 use Rattle.bmx_collection.specs.Forgetting.{goes, forgotten, links_kept}
@@ -27,6 +27,10 @@ pub record LinkedNode : Type 0 where
   pub state : NodeState
   pub links : Links
   pub places : Places
+
+-- the node without its links
+abbrev pub unlinked : LinkedNode → Node
+unlinked n = record { state = n.state; places = n.places }
 
 -- a node as the store opens
 abbrev pub first_linked : Setting → ℕ → LinkedNode
@@ -196,7 +200,7 @@ pub record IsCollectorStep (st : Setting) (me : ℕ) (old : LinkedNode) (stamp :
 -- a step of another kind at a node with links: its state and places go by their rules, and what it stores or is
 -- granted gets its pairs
 pub record IsLinkedStep (st : Setting) (me : ℕ) (old : LinkedNode) (stamp : ℕ) (i : Input) (done : Done) (new : LinkedNode) : Type 0 where
-  pub step : IsStep st me (record { state = old.state; places = old.places }) stamp i done (record { state = new.state; places = new.places })
+  pub step : IsStep st me (unlinked old) stamp i done (unlinked new)
   pub links : new.links ≡ links_after me old.state old.links i done.answer
 
 -- ## stamps

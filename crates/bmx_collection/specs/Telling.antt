@@ -1,11 +1,16 @@
--- That the definitions say something: the first collection of a fresh store is a step, and three of the worked runs
--- with one answer changed are not what the rules say.
+-- That the definitions say something: the first collection of a fresh store is a step, the worked runs are legal, and
+-- three of them with one answer changed are not what the rules say.
 use Rattle.std.specs.Prelude.{◌≡◌, ℕ, zero, suc, List, [], ◌∷◌, Some, None}
 use Rattle.bmx_types.specs.Words.{address_word}
 use Rattle.bmx_clean.specs.declared.cleaner.Applied.TheVariants.{Removed}
 use Rattle.bmx_protocol.specs.Cases.{one_bunch}
 use Rattle.bmx_collection.specs.Steps.{LinkedNode, first_linked, Collect, Forgot, Cleaned, IsCollectorStep}
 use Rattle.bmx_collection.specs.Playing.{Said, CollectorSays, LinkedLine, IsSaidOf}
+use Rattle.bmx_collection.specs.Histories.{IsLegalLinked}
+use Rattle.bmx_collection.specs.Cases.Stores.{two_bunches}
+use Rattle.bmx_collection.specs.Cases.OldAddresses as addresses
+use Rattle.bmx_collection.specs.Cases.BetweenBunches as bunches
+use Rattle.bmx_collection.specs.Cases.PairsAtTwoNodes as pairs
 use Rattle.bmx_collection.specs.Cases.ALateTable as late_table
 use Rattle.bmx_collection.specs.Cases.AFullCollection as full_collection
 use Rattle.bmx_collection.specs.Cases.OnlyARegisterElsewhere as register_elsewhere
@@ -21,6 +26,15 @@ pub record FirstCollectionIsAStep : Type 0 where
   pub after : LinkedNode
   pub step : IsCollectorStep (one_bunch 2) 0 (first_linked (one_bunch 2) 0) 1 (Collect 0) (record { answer = Forgot 0; table = None }) after
   pub moved : after.places.place 1 ≡ Some (record { address = address_word 0 2 0; moves = 1 })
+
+-- the six worked runs are legal histories
+pub record WorkedRunsAreLegalLinked : Type 0 where
+  pub old_addresses : IsLegalLinked (one_bunch 2) addresses.at_the_end.history
+  pub only_a_register_elsewhere : IsLegalLinked (one_bunch 2) register_elsewhere.at_the_end.history
+  pub a_late_table : IsLegalLinked (one_bunch 2) late_table.at_the_end.history
+  pub between_bunches : IsLegalLinked (two_bunches 1) bunches.at_the_end.history
+  pub pairs_at_two_nodes : IsLegalLinked (two_bunches 2) pairs.at_the_end.history
+  pub a_full_collection : IsLegalLinked (record (one_bunch 1) { limit = 2 }) full_collection.at_the_end.history
 
 -- none of these is said: that the late table ended a record; that the second collection was done though segments were
 -- lacking; that an object was forgotten that a record keeps

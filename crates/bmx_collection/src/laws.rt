@@ -1,5 +1,5 @@
-ghost use Rattle.bmx_collection.specs.Laws.{CollectorStepIsDetermined, CollectorRefusalKeeps, CollectorTouchesNoToken, ReachMayBeKept, ReachWithoutReferencesIsRoots, CollectionKeepsItsReach, SecondTakingRemovesNothing, FoundIsTold, PrefixIsLegalLinked, LinkedReplayIsDetermined};
-ghost use Rattle.bmx_collection.specs.Telling.{RunsTell};
+ghost use Rattle.bmx_collection.specs.Laws.{CollectorStepIsDetermined, CollectorRefusalKeeps, CollectorTouchesNoToken, ReachMayBeKept, ReachWithoutReferencesIsRoots, CollectionKeepsItsReach, SecondTakingRemovesNothing, FoundIsTold, PrefixIsLegalLinked, LinkedReplayIsDetermined, WithoutCollectorsAlike, StubsAreAnswered, ScionsAreSafe};
+ghost use Rattle.bmx_collection.specs.Telling.{RunsTell, WorkedRunsAreLegalLinked};
 
 /// The law that a collector's step makes one outcome and one node of a node, an input and a stamp. It does nothing.
 pub fn collector_step_is_determined()
@@ -59,4 +59,26 @@ pub fn prefix_is_legal_linked()
 /// The law that a history with collectors leads to one world of nodes. It does nothing.
 pub fn linked_replay_is_determined()
     ensures { LinkedReplayIsDetermined }
+{}
+
+/// The law that a history without collectors is legal exactly where it is legal by the rules without them, and leads
+/// to the same states and places. It does nothing.
+pub fn without_collectors_alike()
+    ensures { WithoutCollectorsAlike }
+{}
+
+/// The law that the six worked runs with collectors are legal histories. It does nothing.
+pub fn worked_runs_are_legal_linked()
+    ensures { WorkedRunsAreLegalLinked }
+{}
+
+/// The law that after each legal history each stub has its scion. It does nothing.
+pub fn stubs_are_answered()
+    ensures { StubsAreAnswered }
+{}
+
+/// The law that after each legal history no table that was made, however late and often it comes, ends a scion whose
+/// stub stands. It does nothing.
+pub fn scions_are_safe()
+    ensures { ScionsAreSafe }
 {}

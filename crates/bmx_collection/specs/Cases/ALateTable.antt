@@ -10,6 +10,7 @@ use Rattle.bmx_protocol.specs.declared.inputs.NodeAnswer.TheVariants as answer
 use Rattle.bmx_clean.specs.Cleaning.{ends_record}
 use Rattle.bmx_protocol.specs.Cases.{Do, Serve, Next, one_bunch}
 use Rattle.bmx_collection.specs.Steps.{Collect, MakeTable, Forgot, Cleaned, Nil}
+use Rattle.bmx_collection.specs.Histories.{tables_made}
 use Rattle.bmx_collection.specs.Playing.{Of, By, Takes, NodeSays, CollectorSays, LinkedLine, by, IsSaidOf, LinkedPlay, played_linked}
 use Rattle.bmx_collection.specs.Cases.Stores.{object, letter, table, lives, went, left_at}
 
@@ -87,7 +88,7 @@ before_it_comes = played_linked (one_bunch 2) (map (λ l. l.move) (take 46 lines
 
 abbrev pub is_ended : ℕ → List Bool
 is_ended sent =
-    map (λ t. ends_record ((before_it_comes.nodes 0).state.taken 1) t (record { name = 2; bunch = 0; from = 1; sent = sent; got = 0 })) (take 1 before_it_comes.tables)
+    map (λ t. ends_record ((before_it_comes.nodes 0).state.taken 1) t (record { name = 2; bunch = 0; from = 1; sent = sent; got = 0 })) (take 1 (tables_made before_it_comes.history))
 
 the_record_then : (before_it_comes.nodes 0).state.entering 2 1 ≡ Some (record { name = 2; bunch = 0; from = 1; sent = 3; got = 0 })
 the_record_then = refl
