@@ -23,4 +23,5 @@ pub mod Notes
 pub mod Hearing
 pub mod Grants
 pub mod Passed
+pub mod Telling
 pub mod Bringing

@@ -1,17 +1,22 @@
-ghost use Rattle.std.specs.Prelude.{◌≡◌, ℕ, ◌+◌, ◌<◌, ◌≤◌, ◌^◌, max, false, slice_get, OnOk, OnErr, IfOk};
+ghost use Rattle.std.specs.Prelude.{◌≡◌, ℕ, ◌+◌, ◌<◌, ◌≤◌, ◌^◌, max, false, length, slice_get, OnOk, OnErr, IfOk};
 ghost use Rattle.std.specs.Option.{option_map_or};
-ghost use Rattle.bmx_protocol.specs.Nodes.{Setting};
+ghost use Rattle.bmx_protocol.specs.Nodes.{Setting, AreAll, seen_graph};
+ghost use Rattle.bmx_protocol.specs.Runs.Programs.{CanServe};
 ghost use Rattle.bmx_protocol.specs.Steps.{IsStep, stamp_after, brought};
 ghost use Rattle.bmx_tokens.specs.Tables.{part_of, IsIndexed};
-ghost use Rattle.bmx_node.specs.Seen.{node_of, Suits, FitsInput};
+ghost use Rattle.bmx_graph.specs.Step.{target_of};
+ghost use Rattle.bmx_memory.specs.Meaning.{MeansWhole};
+ghost use Rattle.bmx_memory.specs.Shown.{shown, AllHaveEntries};
+ghost use Rattle.bmx_node.specs.Seen.{state_of, node_of, Suits, FitsInput, FitsOperand};
 ghost use Rattle.bmx_node.specs.Inside.Keeping.{Keeps, Frame};
 ghost use Rattle.bmx_node.specs.Inside.Reacting.{IsReaction};
 
 use crate::holdings::Holdings;
 use crate::strays::TOO_LARGE;
 use crate::taking::Taking;
+use bmx_memory::Memory;
 use bmx_protocol::{Done, Input, NodeAnswer};
-use bmx_types::{Name, NoMemory};
+use bmx_types::{Name, NoMemory, Operand};
 use std::marker::Model;
 
 /// A node of a store. Contracts see what it has, and its stamp.
@@ -42,6 +47,8 @@ impl Node {
         ensures step { (st : Setting) → Suits st self.old.holdings → IfOk result (λ done. IsStep st self.old.holdings.me (node_of self.old.holdings) (stamp_after self.old.stamp input.now) input.now done (node_of self.new.holdings)) }
         ensures suits { (st : Setting) → Suits st self.old.holdings → Suits st self.new.holdings }
         ensures me { self.new.holdings.me ≡ self.old.holdings.me }
+        ensures store { self.new.holdings.store ≡ self.old.holdings.store }
+        ensures clock { OnOk result (self.new.holdings.clock ≡ self.old.holdings.clock + 1) }
         ensures stamp { OnOk result (self.new.stamp ≡ stamp_after self.old.stamp input.now) }
         ensures err { OnErr result (node_of self.new.holdings ≡ node_of self.old.holdings) }
         ensures err_stamp { OnErr result (self.new.stamp ≡ self.old.stamp) }
@@ -76,14 +83,30 @@ impl Node {
         self.holdings.clock
     }
 
+    /// What an operand of a command means here: the object that a register refers to, or an anchor.
+    pub fn target(&self, on: Operand) -> Option<Name>
+        requires { FitsOperand self.now.holdings.store.bunches on }
+        ensures { let h = self.now.holdings in result ≡ target_of (seen_graph h.me (state_of h)) h.me on }
+    {
+        self.holdings.target(on)
+    }
+
+    /// What the node has of objects, in words.
+    pub fn memory(&self) -> &Memory
+        ensures value { result.now ≡ self.now.holdings.memory }
+        ensures whole { MeansWhole self.now.holdings.memory }
+        ensures known { AllHaveEntries (shown self.now.holdings.memory) }
+    {
+        let _whole = self.holdings.memory.replica();
+        &self.holdings.memory
+    }
+
     /// Whether what is wanted of a name may be taken.
     pub fn is_ready(&self, name: Name) -> bool
-        ensures { result ≡ option_map_or (λ p. p.ready) (part_of self.now.holdings.tokens name) false }
+        ensures part { result ≡ option_map_or (λ p. p.ready) (part_of self.now.holdings.tokens name) false }
+        ensures known { result ≡ option_map_or (λ k. k.part.ready) ((state_of self.now.holdings).known name) false }
     {
-        match self.holdings.tokens.get(name) {
-            Some(part) => part.ready,
-            None => false,
-        }
+        self.holdings.is_ready(name)
     }
 
     /// The i-th name, by rising name, whose queue can be served; None from their number on.
@@ -93,9 +116,28 @@ impl Node {
     {
         self.holdings.tokens.serves(i)
     }
+
+    /// How many names there are whose queue can be served.
+    pub fn serves_count(&self) -> usize
+        ensures count { result ≡ length self.now.holdings.tokens.servable }
+        ensures all { AreAll (CanServe self.now.holdings.me (state_of self.now.holdings)) self.now.holdings.tokens.servable }
+    {
+        let _index = self.holdings.tokens.serves(0);
+        self.holdings.tokens.served_count()
+    }
 }
 
 impl Holdings {
+    /// Whether what is wanted of a name may be taken.
+    fn is_ready(&self, name: Name) -> bool
+        ensures { result ≡ option_map_or (λ p. p.ready) (part_of self.now.tokens name) false }
+    {
+        match self.tokens.get(name) {
+            Some(part) => part.ready,
+            None => false,
+        }
+    }
+
     /// What comes of an input at a stamp; the step isn't counted yet.
     pub(crate) fn react(&mut self, input: &Input, stamp: u64) -> Result<Done, NoMemory>
         requires keeps { Keeps self.old }
