@@ -5,6 +5,8 @@ ghost use Rattle.bmx_places.specs.Laws.{BlocksAreKept, OneShape, OnePlace, NoInf
 ghost use Rattle.bmx_places.specs.Cases.{LawsTell as PlaceLawsTell};
 ghost use Rattle.bmx_coherence.specs.Laws.{EveryHistoryIsAGraphRun, FullIsAtTheLimit, NodesHaveTheGraph, CopiesAreCurrent, TargetsStand, EachWaitsForItsWant, StuckNodesNameHolders};
 ghost use Rattle.bmx_coherence.specs.Telling.{LawsTell as GraphLawsTell, WrongRulesBreak};
+ghost use Rattle.bmx_turns.specs.Laws.{SerialFollowsItsScript, SerialEndsFirst, StuckRunsNot, StuckEndsTurns};
+ghost use Rattle.bmx_turns.specs.Cases.{CrossedWritersAreStuck};
 
 /// The law that the nodes after every legal history of a store are one store of shared objects, whatever the
 /// interleaving: commands are answered as by one graph, each object has its current copy at its one owner, and
@@ -225,4 +227,31 @@ pub fn graph_laws_tell()
 /// The law that three wrong rules of nodes break the laws. It does nothing.
 pub fn wrong_rules_break()
     ensures { WrongRulesBreak }
+{}
+
+// runs of programs
+
+/// The law that each serial history follows its script. It does nothing.
+pub fn serial_follows_its_script()
+    ensures { SerialFollowsItsScript }
+{}
+
+/// The law that a serial history is at its end as soon as it runs its script. It does nothing.
+pub fn serial_ends_first()
+    ensures { SerialEndsFirst }
+{}
+
+/// The law that a stuck history doesn't run its script. It does nothing.
+pub fn stuck_runs_not()
+    ensures { StuckRunsNot }
+{}
+
+/// The law that no serial history goes on from a stuck one, whatever the seed. It does nothing.
+pub fn stuck_ends_turns()
+    ensures { StuckEndsTurns }
+{}
+
+/// The law that a run worked by hand is stuck. It does nothing.
+pub fn crossed_writers_are_stuck()
+    ensures { CrossedWritersAreStuck }
 {}
