@@ -1,27 +1,29 @@
 -- What a mark keeps inside, after each change of its map and its lists.
-use Rattle.std.proofs.Common.{◌≡◌, ◌≢◌, ℕ, zero, suc, ◌+◌, ◌-◌, ◌<◌, ◌≤◌, Bool, true, false, cond, not, ◌||◌, ◌==◌, List, [], ◌∷◌, ◌++◌, map, filter, take, drop, length, slice_get, get_or, Option, Some, None, refl, sym, ap, ◌∙◌, subst, arith, inl, inr, ⊎_elim, length-append}
+use Rattle.std.proofs.Common.{◌≡◌, ℕ, suc, ◌+◌, ◌-◌, ◌<◌, ◌≤◌, Bool, true, false, cond, not, ◌||◌, ◌==◌, List, [], ◌∷◌, ◌++◌, filter, take, drop, length, slice_get, get_or, Some, None, refl, sym, ap, ◌∙◌, subst, arith, length-append}
 use Rattle.std.proofs.Math.Seq.{take-suc, drop-cons}
 use Rattle.std.proofs.Math.ListN.{get_or-map}
-use Rattle.std.proofs.lemmas.Bool.{or_cases, eq-eqb, cond-true, cond-false}
+use Rattle.std.proofs.lemmas.Bool.{eq-eqb, cond-false}
 use Rattle.std.proofs.lemmas.List.{take-append-le, drop-append-le, take-append-drop}
 use Rattle.std.proofs.lemmas.Option.{slice_get_within, get_or_from_slice_get}
 use Rattle.bmx_ilist.specs.Sequences.{Sequences, keys_of, has_key, is_in_list, first_key, without, pushed, unlinked, HasEachOnce}
-use Rattle.bmx_ilist.proofs.Keys.{clash, has_key-append, HasEachOnce-push, without_none, same, eqb_swap}
+use Rattle.bmx_ilist.proofs.Keys.{has_key-append, HasEachOnce-push, without_none, same, eqb_swap}
 use Rattle.bmx_ilist.proofs.Steps.{loose_each, in_some}
-use Rattle.bmx_mark.specs.Marks.{Marking, names_in, keys_in, has_name, is_marked}
+use Rattle.std.specs.FinSet as set
+use Rattle.bmx_mark.specs.Marks.{Marking, names_in, keys_in, has_name, AreListed}
 use Rattle.bmx_mark.specs.Inside.Marks.{IsMark}
 use Rattle.bmx_mark.proofs.Named.{names-append, keys-append}
+use Rattle.bmx_mark.proofs.Listed.{AreListed-added, AreListed-moved}
 
 or_none : (a b : Bool) → a ≡ false → b ≡ false → (a || b) ≡ false
 or_none a b ea eb = ap (λ x. x || b) ea ∙ eb
 
 -- nothing is marked
-pub IsMark-empty : (s : Sequences) (room spare : ℕ) → s.lists ≡ [] ∷ [] ∷ [] → spare ≤ s.spare → spare ≤ room → IsMark s [] room 0 spare
-IsMark-empty s room spare lists k n = record { lists = lists; within = omega arith; names = tt; keys = tt; keys_room = k; names_room = n }
+pub IsMark-empty : (s : Sequences) (room spare : ℕ) → s.lists ≡ [] ∷ [] ∷ [] → AreListed s → spare ≤ s.spare → spare ≤ room → IsMark s [] room 0 spare
+IsMark-empty s room spare lists listed k n = record { lists = lists; listed = listed; within = omega arith; names = tt; keys = tt; keys_room = k; names_room = n }
 
 -- there is more room
-pub IsMark-room : (s t : Sequences) (es : List (ℕ × ℕ)) (room more n spare new : ℕ) → IsMark s es room n spare → t.lists ≡ s.lists → new ≤ t.spare → new ≤ more → IsMark t es more n new
-IsMark-room s t es room more n spare new m same k r = record { lists = same ∙ m.lists; within = m.within; names = m.names; keys = m.keys; keys_room = k; names_room = r }
+pub IsMark-room : (s t : Sequences) (es : List (ℕ × ℕ)) (room more n spare new : ℕ) → IsMark s es room n spare → t.lists ≡ s.lists → t.live ≡ s.live → new ≤ t.spare → new ≤ more → IsMark t es more n new
+IsMark-room s t es room more n spare new m same live k r = record { lists = same ∙ m.lists; listed = λ q there. ap (λ l. is_in_list l q) same ∙ m.listed q (ap (λ l. set.contains l q) (sym live) ∙ there); within = m.within; names = m.names; keys = m.keys; keys_room = k; names_room = r }
 
 -- a new key is that of no name
 fresh : (s : Sequences) (es : List (ℕ × ℕ)) (room n spare key : ℕ) → IsMark s es room n spare → is_in_list s.lists key ≡ false → has_key key (keys_in es) ≡ false
@@ -32,18 +34,23 @@ fresh s es room n spare key m loose =
     ap (λ l. has_key key (keys_in l)) (sym (take-append-drop n es)) ∙ ap (has_key key) (keys-append (take n es) (drop n es))
     ∙ has_key-append key (keys_in (take n es)) (keys_in (drop n es)) ∙ or_none _ _ others grey
 
+-- there are two lists
+two : {s : Sequences} {es : List (ℕ × ℕ)} {room n spare : ℕ} → IsMark s es room n spare → 1 < length s.lists
+two m = subst (λ (l : List (List ℕ)). 1 < length l) (sym m.lists) (omega arith)
+
 -- one more name is grey
 pub IsMark-greyed : (s t : Sequences) (es : List (ℕ × ℕ)) (room more n spare name key : ℕ) → IsMark s es room n spare
-    → t.lists ≡ pushed 0 key s.lists → is_in_list s.lists key ≡ false → has_name (names_in es) name ≡ false
+    → t.lists ≡ pushed 0 key s.lists → t.live ≡ set.insert s.live key → is_in_list s.lists key ≡ false → has_name (names_in es) name ≡ false
     → s.spare ≡ t.spare + 1 → room ≤ more + 1
     → IsMark t (es ++ (name, key) ∷ []) more n (spare - 1)
-IsMark-greyed s t es room more n spare name key m lists loose new k r =
+IsMark-greyed s t es room more n spare name key m lists live loose new k r =
     let e : ℕ × ℕ = (name, key) in
     record {
       lists =
           lists ∙ ap (pushed 0 key) m.lists
           ∙ ap (λ l. l ∷ keys_in (take n es) ∷ []) (sym (keys-append (drop n es) (e ∷ [])) ∙ ap keys_in (sym (drop-append-le n es (e ∷ []) m.within)))
           ∙ ap (λ l. keys_in (drop n (es ++ e ∷ [])) ∷ keys_in l ∷ []) (sym (take-append-le n es (e ∷ []) m.within));
+      listed = AreListed-added s t 0 key m.listed (omega (arith, two m)) lists live;
       within = omega (arith, m.within, length-append es (e ∷ []));
       names = subst HasEachOnce (sym (names-append es (e ∷ []))) (HasEachOnce-push (names_in es) name m.names new);
       keys = subst HasEachOnce (sym (keys-append es (e ∷ []))) (HasEachOnce-push (keys_in es) key m.keys (fresh s es room n spare key m loose));
@@ -83,8 +90,8 @@ next_linked s es room n spare e m at =
 
 -- that name is grey no more
 pub IsMark-scanned : (s t : Sequences) (es : List (ℕ × ℕ)) (room n spare : ℕ) (e : ℕ × ℕ) → IsMark s es room n spare → slice_get es n ≡ Some e
-    → t.lists ≡ pushed 1 e.1 (unlinked e.1 s.lists) → t.spare ≡ s.spare → IsMark t es room (n + 1) spare
-IsMark-scanned s t es room n spare e m at lists kept =
+    → t.lists ≡ pushed 1 e.1 (unlinked e.1 s.lists) → t.live ≡ s.live → t.spare ≡ s.spare → IsMark t es room (n + 1) spare
+IsMark-scanned s t es room n spare e m at lists live kept =
     let parts = cut es n e at in
     let k = e.1 in
     let before = keys_in (take n es) in
@@ -101,6 +108,7 @@ IsMark-scanned s t es room n spare e m at lists kept =
           ∙ ap (λ l. l ∷ (without k before ++ k ∷ []) ∷ []) first
           ∙ ap (λ l. after ∷ (l ++ k ∷ []) ∷ []) second
           ∙ ap (λ l. after ∷ l ∷ []) (sym (keys-append (take n es) (e ∷ [])) ∙ ap keys_in (sym parts.1));
+      listed = AreListed-moved s t 1 k m.listed (two m) lists live;
       within = let w = slice_get_within es n e at in omega arith;
       names = m.names;
       keys = m.keys;
@@ -148,6 +156,10 @@ less k (x ∷ xs) h =
     let is : x ≡ k = cc in
     let gone : without k (x ∷ xs) ≡ without k xs = cond-false (not (x == k)) (x ∷ without k xs) (without k xs) (ap not (eq-eqb x k is)) in
     omega (arith, ap length gone, filter_short (λ y. not (y == k)) xs)
+
+-- a list without keys has none once a key is taken out
+pub emptied_stays : (ls : List (List ℕ)) (list k : ℕ) → keys_of ls list ≡ [] → keys_of (unlinked k ls) list ≡ []
+emptied_stays ls list k none = get_or-map (without k) ls list [] ∙ ap (without k) none
 
 pub shorter : (ls : List (List ℕ)) (list k : ℕ) → first_key (keys_of ls list) ≡ Some k → length (keys_of (unlinked k ls) list) < length (keys_of ls list)
 shorter ls list k h = subst (λ l. length l < length (keys_of ls list)) (sym (get_or-map (without k) ls list [])) (less k (keys_of ls list) h)

@@ -1,12 +1,12 @@
 -- The names marked lie between the roots and what they reach, and what a scan changes.
-use Rattle.std.proofs.Common.{◌≡◌, ◌≢◌, ◌↔◌, ℕ, zero, suc, ◌+◌, ◌<◌, ◌≤◌, Bool, true, false, ◌||◌, ◌==◌, List, [], ◌∷◌, ◌++◌, map, take, drop, length, length-take-le, slice_index_or, slice_get, get_or, Option, Some, None, refl, sym, ap, ◌∙◌, subst, arith, inl, inr, ◌⊎◌, ⊎_elim}
-use Rattle.std.proofs.lemmas.Bool.{cases_Bool, or_cases, eq-eqb, eqb-true, false_from_ne_true}
+use Rattle.std.proofs.Common.{◌≡◌, ◌↔◌, ℕ, zero, suc, ◌<◌, ◌≤◌, Bool, true, false, ◌||◌, ◌==◌, List, [], ◌∷◌, ◌++◌, take, drop, length, length-take-le, slice_index_or, slice_get, get_or, Option, Some, refl, sym, ap, ◌∙◌, subst, arith, ⊎_elim}
+use Rattle.std.proofs.lemmas.Bool.{cases_Bool, or_cases, eqb-true, false_from_ne_true}
 use Rattle.std.proofs.lemmas.List.{get_or-take}
 use Rattle.std.proofs.lemmas.List.Kept.{AllPairs-from_increasing}
 use Rattle.std.proofs.lemmas.Option.{slice_get_within, get_or_from_slice_get}
 use Rattle.std.specs.List.Sorted.{IsStrictlyIncreasing}
 use Rattle.bmx_ilist.proofs.Keys.{clash, same}
-use Rattle.bmx_mark.specs.Marks.{Marking, names_in, has_name, is_marked, next_grey, IsTarget, IsNewTarget, AreNewTargets, Greys, Scans}
+use Rattle.bmx_mark.specs.Marks.{Marking, names_in, has_name, is_marked, next_grey, Greys, Scans}
 use Rattle.bmx_mark.specs.Reach.{IsReached, Root, InField, IsBetween}
 use Rattle.bmx_mark.proofs.Named.{has-append}
 

@@ -1,13 +1,13 @@
 -- A scan of one name, target by target.
-use Rattle.std.proofs.Common.{◌≡◌, ◌≢◌, ◌↔◌, ℕ, zero, suc, ◌+◌, ◌<◌, ◌≤◌, Bool, true, false, ◌||◌, ◌==◌, nat_lt, List, [], ◌∷◌, ◌++◌, map, take, drop, length, slice_index_or, get_or, Option, Some, None, refl, sym, ap, ◌∙◌, subst, arith, inl, inr, ◌⊎◌, ⊎_elim, length-append, append_assoc}
+use Rattle.std.proofs.Common.{◌≡◌, ℕ, zero, suc, ◌+◌, ◌<◌, ◌≤◌, Bool, true, false, ◌||◌, ◌==◌, nat_lt, List, [], ◌∷◌, ◌++◌, take, drop, length, get_or, Option, Some, None, refl, sym, ap, ◌∙◌, subst, arith, inl, inr, ◌⊎◌, ⊎_elim, append_assoc}
 use Rattle.std.proofs.lemmas.Bool.{cases_Bool, cases_lt, or_cases, eq-eqb, eqb-true, ltb-true, ltb-false, le-ltb}
-use Rattle.std.proofs.lemmas.List.{get_or_past, get_or_append_left, get_or_push, length_push, append-nil, length-map}
+use Rattle.std.proofs.lemmas.List.{get_or_append_left, get_or_push, length_push, append-nil, length-map}
 use Rattle.std.specs.List.Sorted.{IsStrictlyIncreasing}
 use Rattle.bmx_ilist.proofs.Keys.{clash, has_key-append}
 use Rattle.bmx_mark.specs.Marks.{Marking, names_in, has_name, is_marked, next_grey, IsTarget, IsNewTarget, AreNewTargets, Greys, Scans}
 use Rattle.bmx_mark.specs.Inside.Targets.{is_above, IsLeast}
-use Rattle.bmx_mark.proofs.Named.{names-append, has-append}
-use Rattle.bmx_mark.proofs.Reaching.{right, or_nothing, scan_marked, grey_marked}
+use Rattle.bmx_mark.proofs.Named.{names-append}
+use Rattle.bmx_mark.proofs.Reaching.{right, or_nothing, scan_marked}
 
 -- the targets up to the floor were looked at: those that weren't marked are grey, rising
 pub record IsScanning (target : ℕ → ℕ → Option ℕ) (old now : Marking) (floor : Option ℕ) : Type 0 where

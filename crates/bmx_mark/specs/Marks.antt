@@ -2,7 +2,8 @@
 use Rattle.std.specs.Prelude.{◌≡◌, ℕ, ◌+◌, Bool, ◌||◌, ◌==◌, if◌then◌else◌, List, [], ◌∷◌, ◌++◌, map, length, take, drop, slice_index_or, Option, Some, None, IsTrue, IsFalse, refl}
 use Rattle.std.specs.List.{list_any}
 use Rattle.std.specs.List.Sorted.{IsStrictlyIncreasing}
-use Rattle.bmx_ilist.specs.Sequences.{HasEachOnce}
+use Rattle.std.specs.FinSet as set
+use Rattle.bmx_ilist.specs.Sequences.{Sequences, is_in_list, HasEachOnce}
 
 -- grey names, the one that has been grey longest first, and the other marked ones in the order in which
 -- they ceased to be grey, each name with its key; and how many more names can be marked without memory
@@ -43,6 +44,10 @@ next_grey m = slice_index_or (names_in m.grey) 0 0
 pub record AreApart (m : Marking) : Type 0 where
   pub names : HasEachOnce (names_in (m.scanned ++ m.grey))
   pub keys : HasEachOnce (keys_in (m.scanned ++ m.grey))
+
+-- each key that lives is on a list
+abbrev pub AreListed : Sequences → Type 0
+AreListed s = (key : ℕ) → IsTrue (set.contains s.live key) → IsTrue (is_in_list s.lists key)
 
 -- a field of x refers to y
 abbrev pub IsTarget : (ℕ → ℕ → Option ℕ) → ℕ → ℕ → Type 0

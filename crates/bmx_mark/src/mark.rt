@@ -1,5 +1,5 @@
 ghost use Rattle.std.specs.Prelude.{◌≡◌, ℕ, ◌+◌, ◌-◌, ◌^◌, ◌<◌, ◌≤◌, ◌↔◌, List, [], ◌∷◌, ◌++◌, Option, length, drop, take, max, slice_set, IsTrue, IsFalse, IsSome, IsOk, IfOk, OnOk, OnErr};
-ghost use Rattle.bmx_mark.specs.Marks.{Marking, names_in, keys_in, is_marked, key_of, next_grey, AreNewTargets, Greys, Scans, AreApart};
+ghost use Rattle.bmx_mark.specs.Marks.{Marking, names_in, keys_in, is_marked, key_of, next_grey, AreNewTargets, Greys, Scans, AreApart, AreListed};
 ghost use Rattle.bmx_mark.specs.Reach.{IsReached, IsBetween};
 ghost use Rattle.bmx_ilist.specs.Sequences.{keys_of};
 
@@ -182,9 +182,11 @@ impl Mark {
         self.keys.contains_key(&name)
     }
 
-    /// The keys of the grey names on list 0, and those of all other marked names on list 1, in order.
+    /// The keys of the grey names on list 0, and those of all other marked names on list 1, in order. No other
+    /// key lives.
     pub fn lists(&self) -> &Lists
-        ensures { result.now.lists ≡ keys_in self.now.grey ∷ keys_in self.now.scanned ∷ [] }
+        ensures lists { result.now.lists ≡ keys_in self.now.grey ∷ keys_in self.now.scanned ∷ [] }
+        ensures live { AreListed result.now }
     {
         &self.lists
     }
@@ -221,6 +223,7 @@ fn end_keys(lists: &mut Lists, list: u32)
     ensures others { (other : ℕ) → keys_of lists.old.lists other ≡ [] → keys_of lists.new.lists other ≡ [] }
     ensures len { length lists.new.lists ≡ length lists.old.lists }
     ensures spare { lists.old.spare ≤ lists.new.spare }
+    ensures listed { AreListed lists.old → AreListed lists.new }
 {
     while let Some(key) = lists.first(list) {
         lists.unlink(key);

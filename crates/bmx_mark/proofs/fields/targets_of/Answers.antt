@@ -1,4 +1,4 @@
-use Rattle.std.proofs.Common.{◌≡◌, ℕ, ◌<◌, ◌≤◌, length, None, sym, ◌∙◌, arith, ⊎_elim, rules}
+use Rattle.std.proofs.Common.{◌<◌, ◌≤◌, None, sym, ◌∙◌, arith, ⊎_elim}
 use Rattle.std.proofs.lemmas.Bool.{cases_lt}
 use Rattle.std.proofs.lemmas.List.{get_or_past}
 use Rattle.bmx_mark.proofs.fields.targets_of.Goals as goal

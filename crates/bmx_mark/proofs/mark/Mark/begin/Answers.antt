@@ -1,7 +1,7 @@
-use Rattle.std.proofs.Common.{◌≡◌, ℕ, ◌+◌, ◌<◌, ◌≤◌, ◌^◌, ◌||◌, true, false, length, take, max, suc, get_or, slice_get, Some, None, List, [], ◌∷◌, ◌++◌, sym, ap, ◌∙◌, subst, arith, rules, IsOk}
+use Rattle.std.proofs.Common.{◌≡◌, ℕ, ◌+◌, ◌<◌, ◌≤◌, ◌||◌, false, length, take, suc, get_or, slice_get, Some, None, List, [], ◌∷◌, ◌++◌, sym, ap, ◌∙◌, arith}
 use Rattle.std.proofs.Math.Seq.{take-suc}
 use Rattle.std.proofs.lemmas.Option.{slice_get-get_or, slice_get_within, get_or_from_slice_get}
-use Rattle.bmx_mark.specs.Marks.{Marking, names_in, has_name, is_marked, Greys}
+use Rattle.bmx_mark.specs.Marks.{names_in, has_name, is_marked}
 use Rattle.bmx_mark.proofs.Named.{names-append}
 use Rattle.bmx_mark.proofs.Reaching.{IsBetween-begun, root_new, take_all}
 use Rattle.bmx_mark.proofs.mark.Mark.begin.Goals as goal

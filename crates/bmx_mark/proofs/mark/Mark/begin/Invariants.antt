@@ -1,4 +1,4 @@
-use Rattle.std.proofs.Common.{◌≡◌, ◌+◌, [], length, take, max}
+use Rattle.std.proofs.Common.{◌≡◌, ◌+◌, [], take, max}
 use Rattle.bmx_mark.specs.Marks.{names_in}
 use Rattle.bmx_mark.proofs.mark.Mark.begin.Given as goal
 

@@ -1,4 +1,4 @@
-use Rattle.std.proofs.Common.{◌≡◌, ℕ, ◌+◌, ◌-◌, ◌<◌, ◌≤◌, true, false, List, [], ◌∷◌, ◌++◌, take, drop, sym, ap, ◌∙◌, subst, arith, rules, IsOk}
+use Rattle.std.proofs.Common.{◌≡◌, ℕ, ◌-◌, ◌<◌, false, List, [], ◌∷◌, ◌++◌, take, drop, sym, ap, ◌∙◌, subst, arith, rules, IsOk}
 use Rattle.std.proofs.lemmas.List.{take-append-le, drop-append-le}
 use Rattle.std.specs.FinSet as set
 use Rattle.indexmap.specs.IndexMap.{spare}
@@ -6,7 +6,7 @@ use Rattle.indexmap.proofs.CallerLemmas.{insert_entry-new}
 use Rattle.bmx_ilist.specs.Sequences.{is_in_list, pushed}
 use Rattle.bmx_ilist.proofs.Keys.{clash}
 use Rattle.bmx_ilist.proofs.Calls.{inserted_lives}
-use Rattle.bmx_mark.specs.Marks.{Marking, names_in, has_name, is_marked, Greys}
+use Rattle.bmx_mark.specs.Marks.{Marking, names_in, has_name, is_marked}
 use Rattle.bmx_mark.specs.Inside.Marks.{IsMark}
 use Rattle.bmx_mark.proofs.Named.{same_name, found, marked-is, not_found}
 use Rattle.bmx_mark.proofs.Kept.{IsMark-greyed}
@@ -55,6 +55,7 @@ invariant_of-self c =
     subst (λ (l : List (ℕ × ℕ)). IsMark c.push_back.new.self l (spare c.insert.new.self) m.scanned (m.spare - 1)) (sym entries)
     (IsMark-greyed m.lists c.push_back.new.self es (spare m.keys) (spare c.insert.new.self) m.scanned m.spare c.args.name key c.self.invariant
     (c.push_back.ensures.lists ∙ ap (pushed 0 key) c.add_reserved-key.ensures.lists)
+    (c.push_back.ensures.live ∙ c.add_reserved-key.ensures.live)
     (ap (λ l. is_in_list l key) (sym c.add_reserved-key.ensures.lists) ∙ c.add_reserved-key.ensures.loose)
     absent
     (omega (arith, c.push_back.ensures.spare, c.add_reserved-key.ensures.spare))

@@ -1,4 +1,4 @@
-use Rattle.std.proofs.Common.{◌≡◌, ℕ, true, Option, Some, None, List, [], sym, ap, ◌∙◌, rules}
+use Rattle.std.proofs.Common.{◌≡◌, None, sym, ap, ◌∙◌, rules}
 use Rattle.bmx_mark.specs.Marks.{Marking}
 use Rattle.bmx_mark.proofs.Kept.{none_grey, grey_none}
 use Rattle.bmx_mark.proofs.Reaching.{IsBetween-done}

@@ -1,5 +1,4 @@
-use Rattle.std.proofs.Common.{◌≡◌, ℕ, ◌+◌, ◌<◌, List, [], ◌∷◌, ◌++◌, take, drop, slice_get, slice_index_or, Some, sym, ap, ◌∙◌, arith, rules}
-use Rattle.std.proofs.lemmas.Option.{slice_get_within}
+use Rattle.std.proofs.Common.{ℕ, ◌+◌, List, ◌++◌, take, drop, slice_index_or, sym, ap, ◌∙◌}
 use Rattle.bmx_mark.specs.Marks.{Marking, names_in, next_grey}
 use Rattle.bmx_mark.proofs.Kept.{cut, next_linked, IsMark-scanned, same_marking}
 use Rattle.bmx_mark.proofs.mark.Mark.scan_next.Goals as goal
@@ -12,7 +11,7 @@ move_to-requires-clause-linked c =
 pub invariant_of-self : goal.invariant_of-self
 invariant_of-self c =
     let m = c.self.inside in
-    IsMark-scanned m.lists c.move_to.new.self m.keys.entries _ m.scanned m.spare (c.in-Some.name.now, c.in-Some.key.now) c.self.invariant (sym c.in-Some.ensures.entry) c.move_to.ensures.lists c.move_to.ensures.spare
+    IsMark-scanned m.lists c.move_to.new.self m.keys.entries _ m.scanned m.spare (c.in-Some.name.now, c.in-Some.key.now) c.self.invariant (sym c.in-Some.ensures.entry) c.move_to.ensures.lists c.move_to.ensures.live c.move_to.ensures.spare
 
 pub returns-clause-value : goal.returns-clause-value
 returns-clause-value c =

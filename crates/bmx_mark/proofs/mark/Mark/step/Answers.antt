@@ -1,7 +1,6 @@
-use Rattle.std.proofs.Common.{◌≡◌, ℕ, ◌<◌, ◌≤◌, ◌^◌, true, false, length, Option, None, Some, slice_index_or, sym, ap, ◌∙◌, subst, arith, ⊎_elim}
+use Rattle.std.proofs.Common.{◌≡◌, ℕ, ◌<◌, ◌≤◌, ◌^◌, true, false, Option, None, Some, slice_index_or, sym, ap, ◌∙◌, subst, arith, ⊎_elim}
 use Rattle.std.proofs.lemmas.Bool.{cases_Bool, ltb-true}
-use Rattle.bmx_types.specs.Words.{maker, count_of}
-use Rattle.bmx_mark.specs.Marks.{Marking, is_marked, next_grey, Scans}
+use Rattle.bmx_mark.specs.Marks.{Marking, is_marked, next_grey}
 use Rattle.bmx_mark.specs.Inside.Targets.{is_above}
 use Rattle.bmx_mark.proofs.Scanning.{IsScanning, IsScanning-start, IsScanning-end, IsScanning-marked, IsScanning-greyed, has_room}
 use Rattle.bmx_mark.proofs.Reaching.{IsBetween-scanned}
