@@ -8,7 +8,7 @@ help:
 	@echo 'make examples       runs each example and compares what it prints'
 	@echo 'make runs           runs the program by a table of words, streams and want of memory'
 	@echo 'make claims         counts what one has to believe of each claim'
-	@echo 'make bench          times scripts and cleanings; YARDSTICK=F compares with plain Rust'
+	@echo 'make bench          times scripts and cleanings, counts for keys and marks; YARDSTICK=F compares with plain Rust'
 	@echo 'make check          proves every crate over what earlier checks kept'
 
 # Proves and builds the program, runs the first example, and leaves the program as bin/bmx.
@@ -44,10 +44,11 @@ claims:
 
 # Times a script of 2,000 lines and one of 20,000, and prints the ratio. With YARDSTICK=F, a folder with a plain program
 # of the same language and its measure.py, counts the instructions of both besides, by kind of script. Times cleanings
-# of ten records beside 100 to 100,000 others too.
+# of ten records beside 100 to 100,000 others too, and counts instructions for each key on lists and each name marked.
 bench: build
 	python3 bench/lines.py bin/bmx
 	python3 bench/cleaning.py
+	python3 bench/parts.py
 ifdef YARDSTICK
 	python3 $(YARDSTICK)/measure.py bin/bmx $(YARDSTICK)/target/release/yardstick --line-writes --sizes 20000 --no-time
 endif
