@@ -14,3 +14,6 @@ pub mod Telling
 pub mod Replayed
 pub mod Without
 pub mod Pairing
+pub mod References
+pub mod Referring
+pub mod Standing

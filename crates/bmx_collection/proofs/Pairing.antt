@@ -50,7 +50,7 @@ module _ {X : Type 0} (pair_of : X → Pair) where
       (Contains-append_cases (filter (λ z. is_ahead (pair_of z) (pair_of x)) xs) (x ∷ filter (λ z. is_ahead (pair_of x) (pair_of z)) xs) y c)
 
 -- what passes is found, and what is found passes
-passes_found : {X : Type 0} (p : X → Bool) (xs : List X) (x : X) → Contains xs x → p x ≡ true → IsSome (find p xs)
+pub passes_found : {X : Type 0} (p : X → Bool) (xs : List X) (x : X) → Contains xs x → p x ≡ true → IsSome (find p xs)
 passes_found p [] x c e = absurd (nothing_in x c)
 passes_found p (y ∷ xs) x c e = by (p y) refl (λ there. passes_found p xs x there e)
   where
@@ -61,7 +61,7 @@ passes_found p (y ∷ xs) x c e = by (p y) refl (λ there. passes_found p xs x t
         rest
         (one_of y x xs c)
 
-found_passes : {X : Type 0} (p : X → Bool) (xs : List X) → IsSome (find p xs) → (x : X) × Contains xs x × (p x ≡ true)
+pub found_passes : {X : Type 0} (p : X → Bool) (xs : List X) → IsSome (find p xs) → (x : X) × Contains xs x × (p x ≡ true)
 found_passes p [] e = cc
 found_passes p (y ∷ xs) e = by (p y) refl e (found_passes p xs)
   where
@@ -74,12 +74,12 @@ found_passes p (y ∷ xs) e = by (p y) refl e (found_passes p xs)
 
 -- of a node with so many steps: its tables were made by then; none that it made for itself ends a scion whose stub
 -- stands; a stub has its scion's bunch, and has one
-record IsSafe (me clock : ℕ) (l : Links) (tables : List Table) : Type 0 where
-  early : (t : Table) → Contains tables t → t.from ≡ me → t.clock ≤ clock
-  safe : (t : Table) (q : Scion) (s : Stub) → Contains tables t → t.from ≡ me → t.to ≡ me → Contains l.scions q → Contains l.stubs s →
+pub record IsSafe (me clock : ℕ) (l : Links) (tables : List Table) : Type 0 where
+  pub early : (t : Table) → Contains tables t → t.from ≡ me → t.clock ≤ clock
+  pub safe : (t : Table) (q : Scion) (s : Stub) → Contains tables t → t.from ≡ me → t.to ≡ me → Contains l.scions q → Contains l.stubs s →
       stub_pair s ≡ scion_pair q → is_stale t.bunch t.clock t.stubs q ≡ false
-  alike : (q : Scion) (s : Stub) → Contains l.scions q → Contains l.stubs s → stub_pair s ≡ scion_pair q → s.bunch ≡ q.bunch
-  answered : (s : Stub) → Contains l.stubs s → IsSome (find_one scion_pair l.scions s.source s.target)
+  pub alike : (q : Scion) (s : Stub) → Contains l.scions q → Contains l.stubs s → stub_pair s ≡ scion_pair q → s.bunch ≡ q.bunch
+  pub answered : (s : Stub) → Contains l.stubs s → IsSome (find_one scion_pair l.scions s.source s.target)
 
 -- a scion that was stored later isn't stale
 later_stays : (bunch clock : ℕ) (listed : List Pair) (q : Scion) → clock < q.clock → is_stale bunch clock listed q ≡ false
@@ -286,7 +286,7 @@ rule_safe st me stamp n told (TakeTable t) tables d taken k =
     (nothing_more me (n.state.clock + 1) (links_cleaned t n.state n.links) tables
     (one_step_more me n.state.clock (links_cleaned t n.state n.links) tables (cleaned_safe me n.state.clock n.state n.links tables t taken.0 taken.1 k)))
 
-clock_after : (cs : List Change) (s : NodeState) → (after_changes s cs).clock ≡ s.clock
+pub clock_after : (cs : List Change) (s : NodeState) → (after_changes s cs).clock ≡ s.clock
 clock_after [] s = refl
 clock_after (c ∷ cs) s = clock_after cs (after_change s c) ∙ one c
   where
@@ -354,13 +354,13 @@ by_its_maker st me stamp n m (Collector i d) step =
 
 -- ## all nodes
 
-abbrev AllSafe : (ℕ → LinkedNode) → List Table → Type 0
+abbrev pub AllSafe : (ℕ → LinkedNode) → List Table → Type 0
 AllSafe nodes tables = (k : ℕ) → IsSafe k (nodes k).state.clock (nodes k).links tables
 
 tables_one_more : (past : List LinkedEvent) (e : LinkedEvent) → tables_made (past ++ e ∷ []) ≡ tables_made past ++ cons_option (table_made e.deed) []
 tables_one_more past e = filter_map-append (λ (f : LinkedEvent). table_made f.deed) past (e ∷ [])
 
-event_safe : (st : Setting) (nodes : ℕ → LinkedNode) (past : List LinkedEvent) (e : LinkedEvent) (n : LinkedNode) → FitsDeed st past e.node e.stamp e.deed →
+pub event_safe : (st : Setting) (nodes : ℕ → LinkedNode) (past : List LinkedEvent) (e : LinkedEvent) (n : LinkedNode) → FitsDeed st past e.node e.stamp e.deed →
     IsDeed st e.node (nodes e.node) e.stamp e.deed n → AllSafe nodes (tables_made past) → AllSafe (put nodes e.node n) (tables_made (past ++ e ∷ []))
 event_safe st nodes past e n fits step all k =
     subst (IsSafe k (put nodes e.node n k).state.clock (put nodes e.node n k).links) (sym (tables_one_more past e)) (by (two e.node k))
@@ -389,7 +389,7 @@ replay_safe st history legal past (e ∷ rest) nodes last whole all r =
     replay_safe st history legal (past ++ e ∷ []) rest (put nodes e.node r.0) last (joined past (e ∷ []) rest ∙ whole)
     (event_safe st nodes past e r.0 (legal.fits past rest e whole).deed r.1 all) r.2
 
-first_safe : (st : Setting) → AllSafe (first_linked st) []
+pub first_safe : (st : Setting) → AllSafe (first_linked st) []
 first_safe st k = record {
   early = λ t there from. absurd (nothing_in t there);
   safe = λ t q x there from at cq cs same. absurd (nothing_in t there);

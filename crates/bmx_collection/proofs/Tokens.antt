@@ -51,7 +51,7 @@ other_stays bunch kept None e = refl
 other_stays bunch kept (Some k) e = ap (λ (b : Bool). cond (b && not kept) None (Some k)) e
 
 -- an entry of the bunch that stands was kept
-stands_kept : (bunch : ℕ) (kept : Bool) (o : Option Known) → option_map_or (λ k. k.bunch == bunch) (known_left bunch kept o) false ≡ true → kept ≡ true
+pub stands_kept : (bunch : ℕ) (kept : Bool) (o : Option Known) → option_map_or (λ k. k.bunch == bunch) (known_left bunch kept o) false ≡ true → kept ≡ true
 stands_kept bunch true o e = refl
 stands_kept bunch false None e = cc
 stands_kept bunch false (Some k) e = by (k.bunch == bunch) refl e

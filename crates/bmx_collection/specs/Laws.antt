@@ -1,5 +1,6 @@
 -- What holds of a collector's step by the definitions alone, whatever came before it.
 use Rattle.std.specs.Prelude.{◌≡◌, ℕ, suc, ◌+◌, ◌^◌, ◌++◌, ◌<◌, ◌≤◌, ◌↔◌, false, true, List, map, Some, None}
+use Rattle.bmx_types.specs.Openings.{IsOpening}
 use Rattle.bmx_table.specs.declared.tables.Table.{Table}
 use Rattle.bmx_clean.specs.declared.cleaner.Applied.TheVariants.{Early, Removed}
 use Rattle.bmx_protocol.specs.Nodes.{Setting, NodeState, Known, AreAll}
@@ -12,7 +13,7 @@ use Rattle.bmx_collection.specs.Steps.{LinkedNode, unlinked, first_linked, Colle
 use Rattle.bmx_owner.specs.declared.entering.Record.{Record}
 use Rattle.bmx_collection.specs.Finding.{reached_in, found}
 use Rattle.bmx_collection.specs.Histories.{LinkedEvent, plainly, plain_events, ReplaysLinked, IsLegalLinked, IsWithoutCollector}
-use Rattle.bmx_collection.specs.Worlds.{LinkedWorld, linked_world_of, StubsHaveScions, NoTableEndsAScion}
+use Rattle.bmx_collection.specs.Worlds.{LinkedWorld, linked_world_of, PairsStand, StubsHaveScions, NoTableEndsAScion}
 
 -- ## one step
 
@@ -170,3 +171,9 @@ StubsAreAnswered = AlwaysLinked StubsHaveScions
 -- no table that was made so far, however late and often it comes, ends a scion whose stub stands
 abbrev pub ScionsAreSafe : Type 0
 ScionsAreSafe = AlwaysLinked NoTableEndsAScion
+
+-- what copies refer to is known at their nodes, and has its pair there where it is of another bunch
+abbrev pub PairsAlwaysStand : Type 0
+PairsAlwaysStand =
+    (st : Setting) (history : List LinkedEvent) (nodes : ℕ → LinkedNode) → IsOpening st.nodes st.limit st.births → IsLegalLinked st history →
+    ReplaysLinked st (first_linked st) history nodes → PairsStand st (linked_world_of nodes history)

@@ -1,6 +1,6 @@
--- What the laws over all histories with collectors are to say besides those that hold without: pairs stand for
--- references between bunches, and no table that was made so far can end what is needed. Proved so far is that each stub
--- has its scion, and that no table ends a scion whose stub stands; the rest isn't yet.
+-- What the laws over all histories with collectors say besides those that hold without: pairs stand for references
+-- between bunches, and no table that was made so far can end what is needed. That no table ends a record that is needed,
+-- and that a ready token is wanted, is to be proved; the rest is.
 use Rattle.std.specs.Prelude.{◌≡◌, ℕ, ◌<◌, ◌≢◌, true, false, List, Contains, Some, IsSome}
 use Rattle.bmx_table.specs.declared.tables.Table.{Table}
 use Rattle.bmx_msg.specs.declared.letters.Letter.{Letter}

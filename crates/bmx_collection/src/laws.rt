@@ -1,4 +1,4 @@
-ghost use Rattle.bmx_collection.specs.Laws.{CollectorStepIsDetermined, CollectorRefusalKeeps, CollectorTouchesNoToken, ReachMayBeKept, ReachWithoutReferencesIsRoots, CollectionKeepsItsReach, SecondTakingRemovesNothing, FoundIsTold, PrefixIsLegalLinked, LinkedReplayIsDetermined, WithoutCollectorsAlike, StubsAreAnswered, ScionsAreSafe};
+ghost use Rattle.bmx_collection.specs.Laws.{CollectorStepIsDetermined, CollectorRefusalKeeps, CollectorTouchesNoToken, ReachMayBeKept, ReachWithoutReferencesIsRoots, CollectionKeepsItsReach, SecondTakingRemovesNothing, FoundIsTold, PrefixIsLegalLinked, LinkedReplayIsDetermined, WithoutCollectorsAlike, StubsAreAnswered, ScionsAreSafe, PairsAlwaysStand};
 ghost use Rattle.bmx_collection.specs.Telling.{RunsTell, WorkedRunsAreLegalLinked};
 
 /// The law that a collector's step makes one outcome and one node of a node, an input and a stamp. It does nothing.
@@ -81,4 +81,10 @@ pub fn stubs_are_answered()
 /// stub stands. It does nothing.
 pub fn scions_are_safe()
     ensures { ScionsAreSafe }
+{}
+
+/// The law that after each legal history of a store what copies refer to is known at their nodes, and has its stub and
+/// its scion there where it is of another bunch. It does nothing.
+pub fn pairs_always_stand()
+    ensures { PairsAlwaysStand }
 {}
