@@ -1,4 +1,4 @@
--- What is found by looking at all names of a node is what a collection and a table are to be told.
+-- What is found by looking at all names and segments of a node is what a collector's step is to be told.
 use Rattle.std.proofs.Common.{◌≡◌, ℕ, zero, suc, ◌+◌, ◌^◌, ◌<◌, ◌≤◌, ◌==◌, ◌&&◌, ◌||◌, ◌⊎◌, inl, inr, ⊎_elim, not, nat_lt, Bool, true, false, List, [], ◌∷◌, length, map, filter, filter_map, slice_index_or, AllPairs, Contains, refl, ap, sym, ◌∙◌, subst, arith}
 use Rattle.std.specs.Prelude.{Option, Some, None, is_some}
 use Rattle.std.proofs.lemmas.List.Elements.{All-contains_itself}
@@ -23,13 +23,9 @@ use Rattle.bmx_collection.specs.Finding.{is_value_of, is_root, reached_in, below
 use Rattle.bmx_collection.specs.Laws.{IsRecordBelow, IsWithin, AreWithin, FoundIsTold}
 use Rattle.bmx_collection.proofs.Rising.{listed, listed_there}
 use Rattle.bmx_collection.proofs.Passing.{passing_rises, passes, passed, are_all, none_has}
-use Rattle.bmx_collection.proofs.Listing.{behind, in_flat, from_flat, flat_in_order, in_given, from_given, given_in_order, map_is_given, in_filter, from_filter, find_one_of, find_no, rises_by_pairs}
+use Rattle.bmx_collection.proofs.Listing.{both, clash, behind, in_flat, from_flat, flat_in_order, in_given, from_given, given_in_order, map_is_given, in_filter, from_filter, find_one_of, find_no, rises_by_pairs}
 
 -- ## tests
-
-both_pass : (a b : Bool) → (a && b) ≡ true → (a ≡ true) × (b ≡ true)
-both_pass true b e = (refl, e)
-both_pass false b e = cc
 
 pass_both : (a b : Bool) → a ≡ true → b ≡ true → (a && b) ≡ true
 pass_both true b e f = f
@@ -180,12 +176,12 @@ module _ (n : ℕ) (s : NodeState) (l : Links) (bunch : ℕ) where
   sound : (steps name : ℕ) → Contains (reached_in steps n s l bunch) name → IsReachedHere s l bunch name
   sound zero name c =
       let e : (is_entry s bunch name ≡ true) × (is_root n s l bunch name ≡ true) =
-      both_pass (is_entry s bunch name) (is_root n s l bunch name) (passes (λ x. is_entry s bunch x && is_root n s l bunch x) 0 n name c) in
+      both (is_entry s bunch name) (is_root n s l bunch name) (passes (λ x. is_entry s bunch x && is_root n s l bunch x) 0 n name c) in
       Root e.0 (root_found name e.1)
   sound (suc steps) name c =
       let reached : List ℕ = reached_in steps n s l bunch in
       let e : (is_entry s bunch name ≡ true) × ((is_listed reached name || list_any (λ from. refers s from name) reached) ≡ true) =
-      both_pass (is_entry s bunch name) (is_listed reached name || list_any (λ from. refers s from name) reached)
+      both (is_entry s bunch name) (is_listed reached name || list_any (λ from. refers s from name) reached)
       (passes (λ x. is_entry s bunch x && (is_listed reached x || list_any (λ from. refers s from x) reached)) 0 n name c) in
       ⊎_elim
       (λ h. sound steps name (listed_there reached name h))
@@ -251,7 +247,7 @@ find_record_of n s within name node = by (s.entering name node) refl
 
     found_is : (r : Record) → Contains (records_below n s) r → is_of name node r ≡ true → s.entering name node ≡ Some r
     found_is r c pass =
-        let both : ((r.name == name) ≡ true) × ((r.from == node) ≡ true) = both_pass (r.name == name) (r.from == node) pass in
+        let both : ((r.name == name) ≡ true) × ((r.from == node) ≡ true) = both (r.name == name) (r.from == node) pass in
         let e : (r.name == name) ≡ true = both.0 in
         let f : (r.from == node) ≡ true = both.1 in
         let x : r.name ≡ name = grind (arith, nat_tests, e) in
@@ -398,7 +394,7 @@ module _ (n me : ℕ) (a : Places) (small : n ≤ 2 ^ 24) (within : AreWithin n 
       closed : open_here first ≡ true → ⊥
       closed e =
           let both : ((home_of first == me) ≡ true) × (any_below n (λ bunch. option_map_or (λ segment. segment == segment_of first) (a.opened bunch) false) ≡ true) =
-          both_pass (home_of first == me) (any_below n (λ bunch. option_map_or (λ segment. segment == segment_of first) (a.opened bunch) false)) e in
+          both (home_of first == me) (any_below n (λ bunch. option_map_or (λ segment. segment == segment_of first) (a.opened bunch) false)) e in
           let home : (home_of first == me) ≡ true = both.0 in
           let is : home_of first ≡ me = grind (arith, nat_tests, home) in
           let some : (k : ℕ) × (k < n) × (option_map_or (λ segment. segment == segment_of first) (a.opened k) false ≡ true) =
@@ -408,19 +404,16 @@ module _ (n me : ℕ) (a : Places) (small : n ≤ 2 ^ 24) (within : AreWithin n 
   passes_dropped : (first : ℕ) → first_word first ≡ first → is_dropped n me a first ≡ true → IsDropped me a first
   passes_dropped first is_first e =
       let one : ((a.mapped (home_of first) (segment_of first) && not (open_here first)) ≡ true) × (not (has_object a (home_of first) (segment_of first)) ≡ true) =
-      both_pass (a.mapped (home_of first) (segment_of first) && not (open_here first)) (not (has_object a (home_of first) (segment_of first))) e in
+      both (a.mapped (home_of first) (segment_of first) && not (open_here first)) (not (has_object a (home_of first) (segment_of first))) e in
       let two : (a.mapped (home_of first) (segment_of first) ≡ true) × (not (open_here first) ≡ true) =
-      both_pass (a.mapped (home_of first) (segment_of first)) (not (open_here first)) one.0 in
+      both (a.mapped (home_of first) (segment_of first)) (not (open_here first)) one.0 in
       record {
         is_first = is_first;
         mapped = two.0;
-        closed = λ bunch home opened. clash (open_here first) (not_true (open_here first) two.1) (opens_here bunch home opened);
+        closed = λ bunch home opened. clash (open_here first) (opens_here bunch home opened) (not_true (open_here first) two.1);
         empty = not_true (has_object a (home_of first) (segment_of first)) one.1;
       }
     where
-      clash : (b : Bool) → b ≡ false → b ≡ true → ⊥
-      clash b f t = (let both : true ≡ false = sym t ∙ f in cc)
-
       opens_here : (bunch : ℕ) → home_of first ≡ me → a.opened bunch ≡ Some (segment_of first) → open_here first ≡ true
       opens_here bunch home opened =
           let at : (home_of first == me) ≡ true = grind (arith, nat_tests, home) in
@@ -461,7 +454,7 @@ found_is_told = record {
       record {
         kept = are_reached n node.state node.links bunch within n settled;
         owned = are_all (is_owned node.state bunch) n (λ x e. known_within n node.state within _ x e);
-        gone = are_all (goes node.state bunch kept) n (λ x e. entry_within n node.state node.links bunch within x (both_pass (is_entry node.state bunch x) (not (is_listed kept x)) e).0);
+        gone = are_all (goes node.state bunch kept) n (λ x e. entry_within n node.state node.links bunch within x (both (is_entry node.state bunch x) (not (is_listed kept x)) e).0);
         children = none_has;
         records = refl;
         dropped = none_has;

@@ -1,5 +1,5 @@
 -- Lists made number by number: what they have, and that they are in order; what is found in a list.
-use Rattle.std.proofs.Common.{◌≡◌, ℕ, zero, suc, ◌+◌, ◌<◌, ◌≤◌, ◌==◌, ◌⊎◌, inl, inr, ⊎_elim, Bool, true, false, cond, List, [], ◌∷◌, filter, find, flat_map, filter_map, All, AllPairs, Contains, refl, ap, sym, ◌∙◌, subst, arith}
+use Rattle.std.proofs.Common.{◌≡◌, ℕ, zero, suc, ◌+◌, ◌<◌, ◌≤◌, ◌==◌, ◌&&◌, ◌⊎◌, inl, inr, ⊎_elim, Bool, true, false, cond, List, [], ◌∷◌, ◌++◌, filter, find, flat_map, filter_map, All, AllPairs, Contains, refl, ap, sym, ◌∙◌, subst, arith}
 use Rattle.std.specs.Prelude.{Option, Some, None, map}
 use Rattle.std.specs.List.{cons_option}
 use Rattle.std.proofs.lemmas.Bool.Decides.{nat_tests}
@@ -8,6 +8,17 @@ use Rattle.std.proofs.lemmas.List.Elements.{All-nil, All-cons, All-append, Conta
 use Rattle.std.proofs.lemmas.List.Kept.{AllPairs-cons}
 use Rattle.bmx_owner.proofs.Parts.{AllPairs-append}
 use Rattle.bmx_collection.specs.Finding.{passing}
+
+pub both : (a b : Bool) → (a && b) ≡ true → (a ≡ true) × (b ≡ true)
+both true b e = (refl, e)
+both false b e = cc
+
+pub clash : (b : Bool) → b ≡ true → b ≡ false → ⊥
+clash b t f = (let one : true ≡ false = sym t ∙ f in cc)
+
+pub append_nil : {X : Type 0} (xs : List X) → xs ++ [] ≡ xs
+append_nil [] = refl
+append_nil (x ∷ xs) = ap (λ (l : List _). x ∷ l) (append_nil xs)
 
 -- the numbers from k on
 abbrev pub upto : ℕ → ℕ → List ℕ

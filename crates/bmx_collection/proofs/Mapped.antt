@@ -23,11 +23,8 @@ use Rattle.bmx_collection.specs.ToSpaces.{with_dead_at, with_dead, size_at, word
 use Rattle.bmx_space.specs.Spaces.{segments_for}
 use Rattle.bmx_collection.specs.Sweeps.{swept}
 use Rattle.bmx_collection.specs.Laws.{AreWithin}
+use Rattle.bmx_collection.proofs.Listing.{both}
 use Rattle.bmx_collection.proofs.Within.{is_less}
-
-both : (a b : Bool) → (a && b) ≡ true → (a ≡ true) × (b ≡ true)
-both true b e = (refl, e)
-both false b e = cc
 
 -- what is mapped, and open, is below n
 abbrev MappedBelow : ℕ → (ℕ → ℕ → Bool) → Type 0

@@ -28,11 +28,8 @@ use Rattle.bmx_collection.specs.Tables.{is_stray_table}
 use Rattle.bmx_collection.specs.Steps.{LinkedNode, first_linked, CollectorInput, Collect, Sweep, MakeTable, TakeTable, CollectorTold, CollectorReaction, Refused, Stray, CollectorDone, unchanged, collector_rule}
 use Rattle.bmx_collection.specs.Histories.{Deed, Plain, Collector, LinkedEvent, table_made, tables_made, table_taken, IsTableOf, FitsDeed, IsDeed, ReplaysLinked, IsLegalLinked}
 use Rattle.bmx_collection.specs.Laws.{ScionsAreSafe, StubsAreAnswered}
-use Rattle.bmx_collection.proofs.Listing.{nothing_in, first_of, behind, one_of, from_filter, in_filter}
+use Rattle.bmx_collection.proofs.Listing.{clash, append_nil, nothing_in, first_of, behind, one_of, from_filter, in_filter}
 use Rattle.bmx_collection.proofs.Replayed.{joined}
-
-clash : (b : Bool) → b ≡ true → b ≡ false → ⊥
-clash b t f = (let both : true ≡ false = sym t ∙ f in cc)
 
 -- ## lists with one of each pair
 
@@ -258,10 +255,6 @@ SafeAfter me tables r = IsSafe me (r.node.state.clock + 1) r.node.links (tables 
 
 nothing_more : (me clock : ℕ) (l : Links) (tables : List Table) → IsSafe me clock l tables → IsSafe me clock l (tables ++ [])
 nothing_more me clock l tables k = subst (IsSafe me clock l) (sym (append_nil tables)) k
-  where
-    append_nil : (ts : List Table) → ts ++ [] ≡ ts
-    append_nil [] = refl
-    append_nil (t ∷ ts) = ap (λ (rest : List Table). t ∷ rest) (append_nil ts)
 
 either_safe : (me : ℕ) (tables : List Table) (b : Bool) (r q : CollectorReaction) → SafeAfter me tables r → SafeAfter me tables q → SafeAfter me tables (cond b r q)
 either_safe me tables true r q x y = x
@@ -381,10 +374,6 @@ replay_safe : (st : Setting) (history : List LinkedEvent) → IsLegalLinked st h
     AllSafe nodes (tables_made past) → ReplaysLinked st nodes rest last → AllSafe last (tables_made history)
 replay_safe st history legal past [] nodes last whole all r =
     subst (λ (h : List LinkedEvent). AllSafe last (tables_made h)) (sym (append_nil past) ∙ whole) (subst (λ (f : ℕ → LinkedNode). AllSafe f (tables_made past)) r all)
-  where
-    append_nil : (h : List LinkedEvent) → h ++ [] ≡ h
-    append_nil [] = refl
-    append_nil (e ∷ h) = ap (λ (more : List LinkedEvent). e ∷ more) (append_nil h)
 replay_safe st history legal past (e ∷ rest) nodes last whole all r =
     replay_safe st history legal (past ++ e ∷ []) rest (put nodes e.node r.0) last (joined past (e ∷ []) rest ∙ whole)
     (event_safe st nodes past e r.0 (legal.fits past rest e whole).deed r.1 all) r.2

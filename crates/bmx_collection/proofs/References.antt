@@ -1,13 +1,12 @@
 -- What a node refers to is known there, and has its stub where it is of another bunch: this stands where an entry is
 -- replaced by one that refers to no more, or to what has its stub; where one is added; where a register is set.
-use Rattle.std.proofs.Common.{◌≡◌, ◌≢◌, ℕ, ◌+◌, ◌<◌, ◌≤◌, ◌==◌, ◌⊎◌, inl, inr, ⊎_elim, not, Bool, true, false, cond, List, [], ◌∷◌, ◌++◌, filter, fold, filter_map, Contains, IsSome, refl, ap, sym, ◌∙◌, subst, arith}
+use Rattle.std.proofs.Common.{◌≡◌, ◌≢◌, ℕ, ◌<◌, ◌≤◌, ⊎_elim, Bool, true, false, List, [], ◌∷◌, filter, fold, Contains, IsSome, refl, ap, sym, ◌∙◌, subst, arith}
 use Rattle.std.specs.Prelude.{Option, Some, None, is_some}
 use Rattle.std.specs.Option.{option_map_or}
 use Rattle.std.specs.List.{list_any}
 use Rattle.std.proofs.lemmas.List.Elements.{Contains-append_left, Contains-append_right}
 use Rattle.bmx_types.specs.Words.{maker, count_of, anchor_of}
 use Rattle.bmx_types.specs.Openings.{bunches_of}
-use Rattle.bmx_types.specs.declared.names.Pair.{Pair}
 use Rattle.bmx_types.specs.declared.values.Val.{Val}
 use Rattle.bmx_types.specs.declared.values.Val.TheVariants as val
 use Rattle.bmx_types.specs.Updates.{put}
@@ -19,10 +18,7 @@ use Rattle.bmx_protocol.specs.Nodes.{Setting, Known}
 use Rattle.bmx_protocol.proofs.Basics.{put_same, put_apart, Two, Same, Apart, two, some_same}
 use Rattle.bmx_collection.specs.Links.{Links, with_pair}
 use Rattle.bmx_collection.specs.Reach.{is_reference_to}
-use Rattle.bmx_collection.proofs.Listing.{nothing_in, first_of, behind, one_of, in_filter}
-
-pub clash : (b : Bool) → b ≡ true → b ≡ false → ⊥
-clash b t f = (let both : true ≡ false = sym t ∙ f in cc)
+use Rattle.bmx_collection.proofs.Listing.{clash, nothing_in, first_of, behind, one_of, in_filter}
 
 -- a copy has a reference to the object of a name
 abbrev pub holds : Known → ℕ → Bool

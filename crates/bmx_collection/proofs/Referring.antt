@@ -1,5 +1,5 @@
 -- A step without a collector keeps what a node refers to known, and with its stubs: by each rule.
-use Rattle.std.proofs.Common.{◌≡◌, ◌≢◌, ℕ, zero, suc, ◌+◌, ◌*◌, ◌^◌, ◌<◌, ◌≤◌, ◌==◌, ◌&&◌, ◌||◌, ◌⊎◌, inl, inr, ⊎_elim, not, nat_lt, nat_le, Bool, true, false, cond, List, [], ◌∷◌, ◌++◌, map, length, fold, filter_map, replicate, slice_get, slice_set, Contains, IsSome, refl, ap, sym, ◌∙◌, subst, arith}
+use Rattle.std.proofs.Common.{◌≡◌, ◌≢◌, ℕ, zero, suc, ◌+◌, ◌^◌, ◌<◌, ◌≤◌, ◌==◌, ◌&&◌, ◌||◌, ◌⊎◌, inl, inr, ⊎_elim, not, nat_lt, nat_le, Bool, true, false, cond, List, [], ◌∷◌, ◌++◌, map, length, fold, filter_map, replicate, slice_get, slice_set, Contains, IsSome, refl, ap, sym, ◌∙◌, subst, arith}
 use Rattle.std.specs.Prelude.{ℤ, Option, Some, None, is_some}
 use Rattle.std.specs.Option.{option_map, option_map_or}
 use Rattle.std.specs.List.{list_any, cons_option}
@@ -20,10 +20,9 @@ use Rattle.bmx_types.specs.declared.numbers.Mode.TheVariants as mode
 use Rattle.bmx_types.specs.Updates.{put}
 use Rattle.bmx_graph.specs.declared.answers.Answer.{Answer}
 use Rattle.bmx_graph.specs.declared.answers.Answer.TheVariants as graph
-use Rattle.bmx_graph.specs.declared.effects.Effect.{Effect}
 use Rattle.bmx_graph.specs.declared.effects.Effect.TheVariants as graph_effect
-use Rattle.bmx_graph.specs.State.{State, fields_of}
-use Rattle.bmx_graph.specs.Step.{value_of, target_of, set_at, set_answer, add_to, add_at, add_answer, is_writer, sum_of, answer_of, holding, storing, setting, raised_by, field_at, effect}
+use Rattle.bmx_graph.specs.State.{fields_of}
+use Rattle.bmx_graph.specs.Step.{value_of, target_of, set_at, set_answer, add_to, add_at, add_answer, is_writer, sum_of, answer_of, holding, storing, setting, raised_by, field_at}
 use Rattle.bmx_msg.specs.declared.letters.Field.{Field}
 use Rattle.bmx_msg.specs.declared.letters.Field.TheVariants as msg_field
 use Rattle.bmx_msg.specs.declared.letters.Msg.{Msg}
@@ -31,7 +30,7 @@ use Rattle.bmx_msg.specs.declared.letters.Msg.TheVariants as msg
 use Rattle.bmx_msg.specs.declared.letters.Letter.{Letter}
 use Rattle.bmx_token.specs.Transitions.{Share, Note, Asks, Grants, Recalls, Returns, Operation, Transition, Serves, Acquires, Releases, transition_of}
 use Rattle.bmx_inter.specs.declared.inter.Stub.{Stub}
-use Rattle.bmx_inter.specs.Inter.{stub_pair, stub_of}
+use Rattle.bmx_inter.specs.Inter.{stub_of}
 use Rattle.bmx_barrier.specs.Barrier.{needs_pair}
 use Rattle.bmx_protocol.specs.declared.inputs.Input.{Input}
 use Rattle.bmx_protocol.specs.declared.inputs.Input.TheVariants as input
@@ -41,17 +40,17 @@ use Rattle.bmx_protocol.specs.declared.views.ViewField.{ViewField}
 use Rattle.bmx_protocol.specs.declared.views.ViewField.TheVariants as field
 use Rattle.bmx_protocol.specs.Nodes.{Setting, NodeState, Known, field_of, value_in, fields_known, seen_graph, with_field, share_of}
 use Rattle.bmx_protocol.specs.Places.{Places, differs, clashes_at, with_learnt}
-use Rattle.bmx_protocol.specs.Changes.{Change, Sets, Makes, Knows, Hears, Gives, Gets, Issues, Takes, heard_of, heard, after_change, after_changes}
-use Rattle.bmx_protocol.specs.Rules.{Reaction, only, refused, info_of, told_field, heard_field, info_in, infos, grant_in, name_in, note_in, with_share, known_change, operation_answer, after_operation, operation_rule, About, Token, Fields, Making, Nothing, about, next_name, new_object, stored, graph_changes, answered, graph_rule, token_rule, knows, command_rule, do_rule, serve_rule, copy_after, got_change, took, take_rule}
+use Rattle.bmx_protocol.specs.Changes.{Change, Sets, Hears, Takes, heard_of, heard, after_change, after_changes}
+use Rattle.bmx_protocol.specs.Rules.{Reaction, only, refused, info_of, told_field, heard_field, info_in, infos, grant_in, name_in, note_in, with_share, known_change, operation_answer, after_operation, operation_rule, next_name, new_object, stored, graph_changes, answered, token_rule, knows, do_rule, copy_after, got_change, took, take_rule}
 use Rattle.bmx_protocol.specs.Strays.{is_no_node, is_no_name, is_bad_info, is_bad_msg, is_bad_letter, clashes, some_clash, asker_in, too_large}
 use Rattle.bmx_protocol.specs.Steps.{is_nil, is_taken, Told, IsTold, rule, letter_rule, nowhere}
 use Rattle.bmx_protocol.specs.Histories.{IsOperandOf, IsCommandOf, IsInputOf}
-use Rattle.bmx_protocol.proofs.Basics.{eqb_is, eqb_not, eqb_same, eqb_of, put_same, put_apart, Two, Same, Apart, two, some_same}
+use Rattle.bmx_protocol.proofs.Basics.{eqb_is, eqb_same, eqb_of, put_same, put_apart, Two, Same, Apart, two, some_same}
 use Rattle.bmx_protocol.proofs.Changing.{after_append}
 use Rattle.bmx_collection.specs.Links.{Links, with_pair, pair_in, pairs_in, bunch_at, pairs_of_effect, pairs_of_command, pairs_of_message, pairs_of}
 use Rattle.bmx_collection.specs.Reach.{is_reference_to}
-use Rattle.bmx_collection.proofs.Listing.{nothing_in, first_of, behind, one_of}
-use Rattle.bmx_collection.proofs.References.{clash, holds, HasStub, Stand, the_known, Fit, stubs_stay, stub_comes, restubbed, set, replaced, added}
+use Rattle.bmx_collection.proofs.Listing.{clash, nothing_in, first_of, behind, one_of}
+use Rattle.bmx_collection.proofs.References.{holds, HasStub, Stand, the_known, Fit, stubs_stay, stub_comes, restubbed, set, replaced, added}
 
 neither : (a b : Bool) → (a || b) ≡ false → (a ≡ false) × (b ≡ false)
 neither false b e = (refl, e)

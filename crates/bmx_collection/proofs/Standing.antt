@@ -1,8 +1,8 @@
 -- In every legal history what copies refer to is known at their nodes, and has its pair where it is of another bunch.
-use Rattle.std.proofs.Common.{◌≡◌, ◌≢◌, ℕ, zero, suc, ◌+◌, ◌-◌, ◌^◌, ◌<◌, ◌≤◌, ◌==◌, ◌&&◌, ◌||◌, ◌⊎◌, inl, inr, ⊎_elim, not, nat_lt, nat_le, Bool, true, false, cond, List, [], ◌∷◌, ◌++◌, map, length, fold, filter, find, slice_get, count_by, flat_map, Contains, IsSome, refl, ap, sym, ◌∙◌, subst, arith}
-use Rattle.std.specs.Prelude.{Option, Some, None, is_some, IfSome}
+use Rattle.std.proofs.Common.{◌≡◌, ◌≢◌, ℕ, zero, suc, ◌+◌, ◌-◌, ◌^◌, ◌<◌, ◌≤◌, ◌==◌, ◌&&◌, ◌||◌, ◌⊎◌, inl, inr, ⊎_elim, not, nat_lt, nat_le, Bool, true, false, cond, List, [], ◌∷◌, ◌++◌, map, length, fold, find, slice_get, count_by, flat_map, Contains, IsSome, refl, ap, sym, ◌∙◌, subst, arith}
+use Rattle.std.specs.Prelude.{Option, Some, None, is_some}
 use Rattle.std.specs.Option.{option_map, option_map_or}
-use Rattle.std.specs.List.{list_any, cons_option}
+use Rattle.std.specs.List.{list_any}
 use Rattle.std.proofs.lemmas.Bool.Decides.{nat_tests}
 use Rattle.bmx_types.specs.Words.{maker, count_of, anchor_of}
 use Rattle.bmx_types.specs.Openings.{IsOfBunch, IsOpening, bunches_of}
@@ -14,35 +14,31 @@ use Rattle.bmx_types.specs.declared.commands.Refusal.TheVariants as refusal
 use Rattle.bmx_types.specs.Updates.{put}
 use Rattle.bmx_msg.specs.Letters.{given}
 use Rattle.bmx_owner.specs.Records.{is_listed}
-use Rattle.bmx_table.specs.declared.tables.Table.{Table}
 use Rattle.bmx_inter.specs.declared.inter.Stub.{Stub}
 use Rattle.bmx_inter.specs.declared.inter.Scion.{Scion}
 use Rattle.bmx_inter.specs.Order.{is_same, find_one}
-use Rattle.bmx_inter.specs.Inter.{stub_pair, scion_pair, is_kept, stubs_kept}
+use Rattle.bmx_inter.specs.Inter.{stub_pair, scion_pair, is_kept}
 use Rattle.bmx_inter.proofs.Keys.{is_same-true, is_same-itself}
 use Rattle.bmx_protocol.specs.declared.inputs.Sending.{Sending}
-use Rattle.bmx_protocol.specs.declared.views.ViewField.{ViewField}
-use Rattle.bmx_protocol.specs.declared.views.ViewField.TheVariants as field
-use Rattle.bmx_protocol.specs.Nodes.{Setting, NodeState, Known, AreAll, field_of, is_anchor, birth_of, owned_birth, heard_birth, first_known, first_state}
+use Rattle.bmx_protocol.specs.Nodes.{Setting, NodeState, Known, AreAll, field_of, is_anchor, birth_of, owned_birth, heard_birth, first_known}
 use Rattle.bmx_protocol.specs.Changes.{Change, Sets, Makes, Knows, Hears, Gives, Gets, Issues, Takes, after_change, after_changes, with_step}
 use Rattle.bmx_protocol.specs.Rules.{Reaction}
 use Rattle.bmx_protocol.specs.Steps.{rule, letters_of, sent_changes, changes_of, closed}
-use Rattle.bmx_protocol.proofs.Basics.{eqb_is, eqb_of, put_same, put_apart, Two, Same, Apart, two, some_same, at_each}
+use Rattle.bmx_protocol.proofs.Basics.{eqb_is, eqb_of, Two, Same, Apart, two, some_same}
 use Rattle.bmx_protocol.proofs.Changing.{Each, each_append, kept_by_each, after_append}
-use Rattle.bmx_collection.specs.Links.{Links, no_links, with_pair, pairs_of}
-use Rattle.bmx_collection.specs.Reach.{is_known_as, is_entry, is_reference_to, refers, IsRoot, InRegister, IsAnchor, HasScion, IsReachedHere, Root, InField}
+use Rattle.bmx_collection.specs.Links.{Links, with_pair, pairs_of}
+use Rattle.bmx_collection.specs.Reach.{is_entry, is_reference_to, refers, IsRoot, InRegister, IsAnchor, HasScion, IsReachedHere, Root, InField}
 use Rattle.bmx_collection.specs.Forgetting.{known_left, forgotten, links_kept}
 use Rattle.bmx_collection.specs.ToSpaces.{is_too_large}
 use Rattle.bmx_collection.specs.Tables.{is_stray_table}
-use Rattle.bmx_collection.specs.Steps.{LinkedNode, first_linked, CollectorInput, Collect, Sweep, MakeTable, TakeTable, CollectorTold, CollectorReaction, CollectorDone, Refused, Stray, unchanged, collected, collector_rule, counted, IsCollectorTold, IsCollectorStep}
+use Rattle.bmx_collection.specs.Steps.{LinkedNode, first_linked, CollectorInput, Collect, Sweep, MakeTable, TakeTable, CollectorTold, CollectorReaction, Refused, Stray, unchanged, collector_rule, counted, IsCollectorTold}
 use Rattle.bmx_collection.specs.Histories.{Deed, Plain, Collector, LinkedEvent, FitsDeed, FitsLinked, IsDeed, tables_made, ReplaysLinked, IsLegalLinked}
-use Rattle.bmx_collection.specs.Worlds.{HasPair, PairsStand}
 use Rattle.bmx_collection.specs.Laws.{PairsAlwaysStand}
 use Rattle.bmx_collection.proofs.Rising.{listed, listed_there}
 use Rattle.bmx_collection.proofs.Tokens.{left_was, stands_kept}
-use Rattle.bmx_collection.proofs.Listing.{nothing_in, first_of, behind, one_of, from_filter, in_filter}
+use Rattle.bmx_collection.proofs.Listing.{clash, append_nil, behind, in_filter}
 use Rattle.bmx_collection.proofs.Replayed.{joined}
-use Rattle.bmx_collection.proofs.References.{clash, holds, HasStub, Stand, the_known}
+use Rattle.bmx_collection.proofs.References.{holds, HasStub, Stand, the_known}
 use Rattle.bmx_collection.proofs.Referring.{Left, rule_left}
 use Rattle.bmx_collection.proofs.Pairing.{IsSafe, AllSafe, clock_after, passes_found, found_passes, event_safe, first_safe}
 
@@ -334,7 +330,7 @@ module _ (st : Setting) (opening : IsOpening st.nodes st.limit st.births) (me : 
       let same_name : c.0.name ≡ p.0 + 1 = opening.born.named p.0 c.0 p.1 in
       let found_name : c.0.name ≡ x = p.2 in
       let index : p.0 ≡ x - 1 = omega (arith, same_name, found_name) in
-      (c.0, c.1, subst (λ (i : ℕ). slice_get st.births i ≡ Some c.0) index p.1)
+      (c.0, c.1, subst (λ (i : ℕ). slice_get st.births i ≡ Some c.0) {x = p.0} index p.1)
 
   known_of : (x : ℕ) (b : Birth) → birth_of st x ≡ Some b → ((me == 0) ≡ true) ⊎ (is_anchor st x ≡ true) → (k : Known) × (first_known st me x ≡ Some k) × (k.bunch ≡ b.bunch)
   known_of x b at told = by (me == 0) (nat_lt me st.nodes) (is_anchor st x) (birth_of st x) at (is_less me st.nodes real) told
@@ -458,10 +454,6 @@ replay_whole : (st : Setting) (history : List LinkedEvent) → IsOpening st.node
 replay_whole st history opening legal past [] nodes last whole safe all r =
     subst (λ (h : List LinkedEvent). AllSafe last (tables_made h) × AllWhole st last h) (sym (append_nil past) ∙ whole)
     (subst (λ (f : ℕ → LinkedNode). AllSafe f (tables_made past) × AllWhole st f past) r (safe, all))
-  where
-    append_nil : (h : List LinkedEvent) → h ++ [] ≡ h
-    append_nil [] = refl
-    append_nil (e ∷ h) = ap (λ (more : List LinkedEvent). e ∷ more) (append_nil h)
 replay_whole st history opening legal past (e ∷ rest) nodes last whole safe all r =
     replay_whole st history opening legal (past ++ e ∷ []) rest (put nodes e.node r.0) last (joined past (e ∷ []) rest ∙ whole)
     (event_safe st nodes past e r.0 (legal.fits past rest e whole).deed r.1 safe)

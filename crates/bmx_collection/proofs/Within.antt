@@ -16,11 +16,8 @@ use Rattle.bmx_protocol.proofs.Basics.{eqb_is}
 use Rattle.bmx_collection.specs.Forgetting.{forgotten}
 use Rattle.bmx_collection.specs.Tables.{state_cleaned}
 use Rattle.bmx_collection.specs.Laws.{IsRecordBelow, IsWithin}
+use Rattle.bmx_collection.proofs.Listing.{both}
 use Rattle.bmx_collection.proofs.Tokens.{left_was}
-
-both : (a b : Bool) → (a && b) ≡ true → (a ≡ true) × (b ≡ true)
-both true b e = (refl, e)
-both false b e = cc
 
 pub is_less : (a b : ℕ) → nat_lt a b ≡ true → a < b
 is_less a b e = grind (arith, nat_tests)

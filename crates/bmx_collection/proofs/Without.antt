@@ -114,7 +114,7 @@ cut (f ∷ h) (y ∷ p) r x e =
       past = f ∷ c.past;
       event = c.event;
       rest = c.rest;
-      whole = ap (λ (l : List Event). f ∷ l) c.whole;
+      whole = ap (λ (l : List Event). f ∷ l) {x = c.past ++ c.event ∷ c.rest} c.whole;
       before = λ j. heads j ∷ c.before j;
       at = c.at;
     }

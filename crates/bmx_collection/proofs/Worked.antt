@@ -21,7 +21,7 @@ use Rattle.bmx_protocol.specs.Cases.{Move, Do, Serve, Next, mover, input_of, tol
 use Rattle.std.proofs.lemmas.Bool.Decides.{nat_tests}
 use Rattle.bmx_types.specs.declared.commands.Refusal.TheVariants as refusal
 use Rattle.bmx_protocol.proofs.Basics.{eqb_is, eqb_of, at_each}
-use Rattle.bmx_collection.proofs.Listing.{nothing_in, behind, one_of}
+use Rattle.bmx_collection.proofs.Listing.{both, nothing_in, behind, one_of}
 use Rattle.bmx_collection.specs.Steps.{LinkedNode, unlinked, first_linked, CollectorInput, Collect, Sweep, MakeTable, TakeTable, CollectorTold, CollectorReaction, CollectorDone, Refused, Stray, unchanged, collector_rule, outcome_of, counted, IsCollectorTold, IsCollectorStep, stamp_after_it}
 use Rattle.bmx_collection.specs.Histories.{Plain, Collector, LinkedEvent, plain_events, tables_made, times_taken, FitsPlain, FitsCollector, FitsDeed, FitsLinked, IsDeed, ReplaysLinked, IsLegalLinked}
 use Rattle.bmx_collection.specs.Finding.{reached_in, found}
@@ -40,10 +40,6 @@ use Rattle.bmx_collection.proofs.Mapped as Mapped
 use Rattle.bmx_collection.proofs.Mapped.{address_below, placed_below, made_below, infos_below, to_below, moves_below, births_made_below, place_below, told_below, input_below, collection_below, collection_within, swept_within, opening_below, first_placed}
 use Rattle.bmx_collection.proofs.Found.{found_is_told}
 use Rattle.bmx_collection.proofs.Within.{is_less, births_below, first_within, changes_below, changes_within, step_within, forgotten_within, cleaned_within}
-
-both : (a b : Bool) → (a && b) ≡ true → (a ≡ true) × (b ≡ true)
-both true b e = (refl, e)
-both false b e = cc
 
 is_at_most : (a b : ℕ) → nat_le a b ≡ true → a ≤ b
 is_at_most a b e = grind (arith, nat_tests)

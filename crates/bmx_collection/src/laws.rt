@@ -39,8 +39,8 @@ pub fn second_taking_removes_nothing()
     ensures { SecondTakingRemovesNothing }
 {}
 
-/// The law that what is found by looking at all names of a node is what a collection and a table are to be told. It does
-/// nothing.
+/// The law that what is found by looking at all names and segments of a node is what a collector's step is to be told.
+/// It does nothing.
 pub fn found_is_told()
     ensures { FoundIsTold }
 {}
