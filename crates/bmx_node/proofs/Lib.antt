@@ -24,4 +24,5 @@ pub mod Hearing
 pub mod Grants
 pub mod Passed
 pub mod Telling
+pub mod FewMoves
 pub mod Bringing

@@ -51,7 +51,7 @@ none_any p [] e = λ k d few. absurd (omega (arith, few))
 none_any p (x ∷ xs) e = All-cons (λ y. p y ≡ false) x xs (or_left (p x) (list_any p xs) e) (none_any p xs (or_right (p x) (list_any p xs) e))
 
 -- nothing of it is so
-five : (a b c d e : Bool) → (a || b || c || d || e) ≡ false → (a ≡ false) × (b ≡ false) × (c ≡ false) × (d ≡ false) × (e ≡ false)
+pub five : (a b c d e : Bool) → (a || b || c || d || e) ≡ false → (a ≡ false) × (b ≡ false) × (c ≡ false) × (d ≡ false) × (e ≡ false)
 five true b c d e h = absurd (false≢true (sym h))
 five false true c d e h = absurd (false≢true (sym h))
 five false false true d e h = absurd (false≢true (sym h))
@@ -115,6 +115,9 @@ module _ (st : Setting) (me : ℕ) (s : NodeState) where
 
     msg_good : is_bad_msg st me s letter.msg ≡ false
     msg_good = letter_parts.1
+
+    pub infos_none_bad : list_any (is_bad_info st me s) (infos letter.msg) ≡ false
+    infos_none_bad = (msg_parts letter.msg msg_good).1
 
 -- ## of holdings
 

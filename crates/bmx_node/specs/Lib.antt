@@ -1,4 +1,5 @@
 pub mod Seen
 pub mod Stamped
+pub mod Moved
 pub mod Openings
 pub mod Inside

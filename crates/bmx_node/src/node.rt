@@ -7,7 +7,8 @@ ghost use Rattle.bmx_tokens.specs.Tables.{part_of, IsIndexed};
 ghost use Rattle.bmx_graph.specs.Step.{target_of};
 ghost use Rattle.bmx_memory.specs.Meaning.{MeansWhole};
 ghost use Rattle.bmx_memory.specs.Shown.{shown, AllHaveEntries};
-ghost use Rattle.bmx_node.specs.Seen.{state_of, node_of, Suits, FitsInput, FitsOperand};
+ghost use Rattle.bmx_node.specs.Seen.{state_of, places_of, node_of, Suits, FitsInput, FitsOperand};
+ghost use Rattle.bmx_node.specs.Moved.{MovedAtMost};
 ghost use Rattle.bmx_node.specs.Inside.Keeping.{Keeps, Frame};
 ghost use Rattle.bmx_node.specs.Inside.Reacting.{IsReaction};
 
@@ -28,6 +29,8 @@ pub struct Node {
 
 impl Model for Node {
     ghost use Rattle.std.specs.Prelude.{◌+◌, ◌^◌, ◌≤◌};
+    ghost use Rattle.bmx_node.specs.Seen.{places_of};
+    ghost use Rattle.bmx_node.specs.Moved.{MovedAtMost};
     ghost use Rattle.bmx_node.specs.Stamped.{Stamped};
     ghost use Rattle.bmx_node.specs.Inside.Keeping.{Keeps};
 
@@ -35,7 +38,7 @@ impl Model for Node {
 
     ghost view = { λ n. record { holdings = n.holdings; stamp = n.stamp } };
 
-    ghost invariant = { λ n. Keeps n.holdings × (n.holdings.made ≤ n.holdings.clock + 320000) × (n.stamp ≤ 2 ^ 62 + n.holdings.clock) };
+    ghost invariant = { λ n. Keeps n.holdings × (n.holdings.made ≤ n.holdings.clock + 320000) × (n.stamp ≤ 2 ^ 62 + n.holdings.clock) × MovedAtMost (2 ^ 62 + n.holdings.clock) (places_of n.holdings) };
 }
 
 impl Node {
@@ -96,6 +99,7 @@ impl Node {
         ensures value { result.now ≡ self.now.holdings.memory }
         ensures whole { MeansWhole self.now.holdings.memory }
         ensures known { AllHaveEntries (shown self.now.holdings.memory) }
+        ensures moved { MovedAtMost (2 ^ 62 + self.now.holdings.clock) (places_of self.now.holdings) }
     {
         let _whole = self.holdings.memory.replica();
         &self.holdings.memory
