@@ -1,0 +1,37 @@
+use Rattle.std.proofs.Common.{◌≡◌, ℕ, ◌<◌, ◌∙◌, ap, subst, arith, length}
+use Rattle.bmx_run.specs.Inside.Running.{store_of}
+use Rattle.bmx_run.specs.Inside.Picking.{actions_by, ServesAll}
+use Rattle.bmx_run.proofs.Listing.{length_set}
+use Rattle.bmx_run.proofs.Choosing.{all_nodes, few_nodes, actions_below, below_more, counts_more, serves_more}
+use Rattle.bmx_run.proofs.runner.Runner.enabled.Goals as goal
+
+pub loop-number-preserved : goal.loop-number-preserved
+loop-number-preserved c =
+    let r = c.args.self.now in
+    let n = c.loop-number.number in
+    let count = c.count-count.result in
+    let counts = c.loop-number.enabled.counts in
+    let long : length counts ≡ 8 = c.loop-number.invariant.0 in
+    let e : c.node_no.result ≡ n = omega (arith, c.node_no.ensures) in (
+      length_set counts n count ∙ long,
+      omega (arith, c.loop-number.invariant.1, c.count-count.ensures.few),
+      λ p at.
+          let is : count ≡ length (actions_by p r n) = c.count-count.ensures.count p at ∙ ap (λ (k : ℕ). length (actions_by p r k)) e in
+          omega (arith, c.loop-number.invariant.2 p at, is, below_more p r n),
+      λ p at.
+          let is : count ≡ length (actions_by p r n) = c.count-count.ensures.count p at ∙ ap (λ (k : ℕ). length (actions_by p r k)) e in
+          let short : n < length counts = omega (arith, long, few_nodes p r at, c.loop-number-test.true, c.len-number-end.ensures) in
+          counts_more p r counts n count short is (c.loop-number.invariant.3 p at),
+      λ p at. serves_more p r n (subst (ServesAll p r) e (c.count-count.ensures.served p at)) (c.loop-number.invariant.4 p at),
+    )
+
+pub returns : goal.returns
+returns c =
+    let r = c.args.self.now in
+    let n = c.loop-number.number in λ p at.
+    let last : n ≡ (store_of p).nodes = omega (arith, all_nodes p r at, c.len-number-end.ensures, c.loop-number-test.false, c.loop-number.auto.number-end) in
+    record {
+      total = c.loop-number.invariant.2 p at ∙ ap (λ (k : ℕ). length (actions_below p r k)) last;
+      each = λ m below. c.loop-number.invariant.3 p at m (omega (arith, below, last));
+      served = λ m below. c.loop-number.invariant.4 p at m (omega (arith, below, last));
+    }

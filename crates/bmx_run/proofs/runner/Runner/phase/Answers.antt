@@ -1,0 +1,96 @@
+use Rattle.std.proofs.Common.{◌≡◌, ◌-◌, ◌<◌, ◌∙◌, sym, ap, arith, length, List, ◌++◌}
+use Rattle.bmx_protocol.specs.declared.events.Event.{Event}
+use Rattle.bmx_run.specs.Inside.Running.{Point, IsOpen, Draws, Turned}
+use Rattle.bmx_run.specs.Inside.Picking.{Counts}
+use Rattle.bmx_run.specs.Inside.Phases.{MayGoOn, with_part}
+use Rattle.bmx_run.proofs.Phasing.{IsOn, positive, not_done, done_there, stuck_there, spent_there, may_go_on, on_more, longer, left}
+use Rattle.bmx_run.proofs.runner.Runner.phase.Goals as goal
+
+pub returns-then-is_done-clause-comes : goal.returns-then-is_done-clause-comes
+returns-then-is_done-clause-comes c = λ p s.
+    let r = c.loop-enabled.self in
+    let e = c.enabled-enabled.result in
+    let on : IsOn p r = c.loop-enabled.invariant.0 p s in
+    let counts : Counts (with_part p on.part) r e = c.enabled-enabled.ensures (with_part p on.part) on.is_at in
+    let told = c.is_done.ensures (with_part p on.part) on.is_at s.ends counts in
+    done_there p r c.clear.new.self on (told.0 c.if-is_done.true) c.clear.ensures.seats c.clear.ensures.rest
+
+pub returns-then-enabled-eq0-clause-comes : goal.returns-then-enabled-eq0-clause-comes
+returns-then-enabled-eq0-clause-comes c = λ p s.
+    let r = c.loop-enabled.self in
+    let e = c.enabled-enabled.result in
+    let on : IsOn p r = c.loop-enabled.invariant.0 p s in
+    let counts : Counts (with_part p on.part) r e = c.enabled-enabled.ensures (with_part p on.part) on.is_at in
+    let told = c.is_done.ensures (with_part p on.part) on.is_at s.ends counts in
+    let goes : IsOpen (with_part p on.part) = not_done c.is_done.result told c.if-is_done.false in
+    stuck_there p r e on counts goes c.if-enabled-eq0.true
+
+pub returns-then-len-self-clause-comes : goal.returns-then-len-self-clause-comes
+returns-then-len-self-clause-comes c = λ p s.
+    let r = c.loop-enabled.self in
+    let e = c.enabled-enabled.result in
+    let on : IsOn p r = c.loop-enabled.invariant.0 p s in
+    let counts : Counts (with_part p on.part) r e = c.enabled-enabled.ensures (with_part p on.part) on.is_at in
+    let told = c.is_done.ensures (with_part p on.part) on.is_at s.ends counts in
+    let goes : IsOpen (with_part p on.part) = not_done c.is_done.result told c.if-is_done.false in
+    let some : 0 < e.total = positive e.total c.if-enabled-eq0.false in
+    spent_there p r e on counts goes some (sym r.history.ok.0 ∙ sym c.len.ensures ∙ c.if-len-self.true)
+
+pub turn-requires : goal.turn-requires
+turn-requires c =
+    let p = c.requires.0 in
+    let s = c.requires.1 in
+    let r = c.loop-enabled.self in
+    let e = c.enabled-enabled.result in
+    let on : IsOn p r = c.loop-enabled.invariant.0 p s in
+    let counts : Counts (with_part p on.part) r e = c.enabled-enabled.ensures (with_part p on.part) on.is_at in
+    let told = c.is_done.ensures (with_part p on.part) on.is_at s.ends counts in
+    let goes : IsOpen (with_part p on.part) = not_done c.is_done.result told c.if-is_done.false in
+    let some : 0 < e.total = positive e.total c.if-enabled-eq0.false in
+    let may : MayGoOn (with_part p on.part) r e = may_go_on p r e on counts goes some (λ same. c.if-len-self.false (c.len.ensures ∙ r.history.ok.0 ∙ same)) in
+    (with_part p on.part, may)
+
+pub loop-enabled-smaller : goal.loop-enabled-smaller
+loop-enabled-smaller c =
+    let p = c.requires.0 in
+    let s = c.requires.1 in
+    let r = c.loop-enabled.self in
+    let e = c.enabled-enabled.result in
+    let on : IsOn p r = c.loop-enabled.invariant.0 p s in
+    let counts : Counts (with_part p on.part) r e = c.enabled-enabled.ensures (with_part p on.part) on.is_at in
+    let told = c.is_done.ensures (with_part p on.part) on.is_at s.ends counts in
+    let goes : IsOpen (with_part p on.part) = not_done c.is_done.result told c.if-is_done.false in
+    let some : 0 < e.total = positive e.total c.if-enabled-eq0.false in
+    let may : MayGoOn (with_part p on.part) r e = may_go_on p r e on counts goes some (λ same. c.if-len-self.false (c.len.ensures ∙ r.history.ok.0 ∙ same)) in
+    let more = longer p on.part r c.turn.new.self on.is_at (c.in-Ok.ensures.ok (with_part p on.part) may).0 in
+    let had : length r.history.items ≡ length (p.past ++ on.part) = ap (λ (l : List Event). length l) on.is_at.whole.history in
+    let less : c.turn.new.self.budget - length c.turn.new.self.history.items < r.budget - length r.history.items = omega (arith, more, had, may.room, c.turn.ensures.budget) in
+    less
+
+pub loop-enabled-preserved : goal.loop-enabled-preserved
+loop-enabled-preserved c = (
+  λ p s.
+      let r = c.loop-enabled.self in
+      let e = c.enabled-enabled.result in
+      let on : IsOn p r = c.loop-enabled.invariant.0 p s in
+      let counts : Counts (with_part p on.part) r e = c.enabled-enabled.ensures (with_part p on.part) on.is_at in
+      let told = c.is_done.ensures (with_part p on.part) on.is_at s.ends counts in
+      let goes : IsOpen (with_part p on.part) = not_done c.is_done.result told c.if-is_done.false in
+      let some : 0 < e.total = positive e.total c.if-enabled-eq0.false in
+      let may : MayGoOn (with_part p on.part) r e = may_go_on p r e on counts goes some (λ same. c.if-len-self.false (c.len.ensures ∙ r.history.ok.0 ∙ same)) in
+      let done = c.in-Ok.ensures.ok (with_part p on.part) may in
+      on_more p on.part c.turn.new.self done.0 done.1,
+  c.turn.ensures.budget ∙ c.loop-enabled.invariant.1,
+)
+
+pub returns-in-Err-clause-comes : goal.returns-in-Err-clause-comes
+returns-in-Err-clause-comes c = λ p s.
+    let r = c.loop-enabled.self in
+    let e = c.enabled-enabled.result in
+    let on : IsOn p r = c.loop-enabled.invariant.0 p s in
+    let counts : Counts (with_part p on.part) r e = c.enabled-enabled.ensures (with_part p on.part) on.is_at in
+    let told = c.is_done.ensures (with_part p on.part) on.is_at s.ends counts in
+    let goes : IsOpen (with_part p on.part) = not_done c.is_done.result told c.if-is_done.false in
+    let some : 0 < e.total = positive e.total c.if-enabled-eq0.false in
+    let may : MayGoOn (with_part p on.part) r e = may_go_on p r e on counts goes some (λ same. c.if-len-self.false (c.len.ensures ∙ r.history.ok.0 ∙ same)) in
+    left p on.part c.turn.new.self (c.in-Err.ensures.err (with_part p on.part) may)

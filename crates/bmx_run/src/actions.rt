@@ -1,0 +1,178 @@
+ghost use Rattle.std.specs.Prelude.{◌≡◌, ℕ, ◌<◌, ◌≤◌, ◌^◌, length, slice_get, Some, IfSome};
+ghost use Rattle.bmx_types.specs.Openings.{bunches_of};
+ghost use Rattle.bmx_protocol.specs.Runs.Turns.{letter_actions, is_ready as is_ready_at, wanted_by};
+ghost use Rattle.bmx_node.specs.Seen.{FitsCommand, state_of};
+ghost use Rattle.bmx_run.specs.Inside.Running.{Point, store_of, history_of, IsAt};
+ghost use Rattle.bmx_run.specs.Inside.Steps.{nodes_in};
+ghost use Rattle.bmx_run.specs.Inside.Picking.{Counts, ServesAll, ChoosesAt, actions_at, actions_by, others_by, tries_by, tried, IsNextOrder};
+
+use crate::runner::{Runner, node_no};
+use crate::seats::Order;
+use bmx_types::{Command, Name, NodeNo, Operand};
+
+/// What a node may do next.
+#[derive(Clone, Copy, Debug)]
+pub(crate) enum Action {
+    /// Its next command.
+    Try(Order),
+    /// To serve the head of a name's queue.
+    Serve { node: NodeNo, name: Name },
+    /// To take the next letter from a node.
+    Take { node: NodeNo, from: NodeNo },
+}
+
+/// How many actions are enabled, at each node and in all.
+#[derive(Clone, Copy, Debug)]
+pub(crate) struct Enabled {
+    /// A node's count adds two lengths, and so may take more bits than they.
+    pub(crate) counts: [u128; 8],
+    /// Their sum, which fits whatever they are.
+    pub(crate) total: u128,
+}
+
+impl Runner {
+    /// How many actions are enabled. A look at each node.
+    pub(crate) fn enabled(&self) -> Enabled
+        requires { (p : Point) × IsAt p self.now }
+        ensures { (p : Point) → IsAt p self.now → Counts p self.now result }
+    {
+        let mut enabled = Enabled {
+            counts: [0; 8],
+            total: 0,
+        };
+        for number in 0..self.nodes.len() {
+            let count = self.count(node_no(number as u8));
+            enabled.counts[number] = count;
+            enabled.total += count;
+        }
+        enabled
+    }
+
+    /// How many actions are enabled at a node.
+    fn count(&self, node: NodeNo) -> u128
+        requires at { (p : Point) × IsAt p self.now }
+        requires node { node < length self.now.nodes.items }
+        ensures count { (p : Point) → IsAt p self.now → result ≡ length (actions_by p self.now node) }
+        ensures served { (p : Point) → IsAt p self.now → ServesAll p self.now node }
+        ensures few { result < 2 ^ 66 }
+    {
+        let number = usize::from(node.get());
+        let tries = u128::from(self.may_try(node).is_some());
+        let serves = self.nodes[number].serves_count() as u128;
+        let letters = self.lanes.senders(node) as u128;
+        tries + serves + letters
+    }
+
+    /// The node's next command, where it doesn't wait, or waits and its token is ready.
+    fn may_try(&self, node: NodeNo) -> Option<Order>
+        requires at { (p : Point) × IsAt p self.now }
+        requires node { node < length self.now.nodes.items }
+        ensures tried { (p : Point) → IsAt p self.now → tries_by p self.now node ≡ tried node result }
+        ensures next { (p : Point) → IsAt p self.now → IfSome result (λ g. IsNextOrder p g × (g.node ≡ node)) }
+    {
+        let number = usize::from(node.get());
+        let seat = &self.seats[number];
+        let order = seat.next()?;
+        if seat.waits && !self.is_ready(node, &order.command) {
+            return None;
+        }
+        Some(order)
+    }
+
+    /// Whether the token that a command takes is ready at a node.
+    fn is_ready(&self, node: NodeNo, command: &Command) -> bool
+        requires at { (p : Point) × IsAt p self.now × FitsCommand (bunches_of (store_of p).births) command.now }
+        requires node { node < length self.now.nodes.items }
+        ensures { (p : Point) → IsAt p self.now → result ≡ is_ready_at node (nodes_in (store_of p) self.now.nodes.items node).state command.now }
+    {
+        let Some(on) = taken_by(command) else {
+            return false;
+        };
+        let node = &self.nodes[usize::from(node.get())];
+        match node.target(on) {
+            Some(name) => node.is_ready(name),
+            None => false,
+        }
+    }
+
+    /// The action of a place, from 0, among those that are enabled: by node, and at a node its command, its serves
+    /// by rising name, its letters by rising sender.
+    pub(crate) fn pick(&self, enabled: &Enabled, place: usize) -> Action
+        requires at { (p : Point) × IsAt p self.now × Counts p self.now enabled.now × (place < length (actions_at p self.now)) }
+        ensures { (p : Point) → IsAt p self.now → Counts p self.now enabled.now → ChoosesAt p (actions_at p self.now) place result }
+    {
+        let mut place = place;
+        for number in 0..self.nodes.len() {
+            let count = enabled.counts[number];
+            if (place as u128) < count {
+                return self.action(node_no(number as u8), place);
+            }
+            place -= count as usize;
+        }
+        unreachable!()
+    }
+
+    /// The action of a place among those of a node.
+    fn action(&self, node: NodeNo, place: usize) -> Action
+        requires at { (p : Point) × IsAt p self.now × (place < length (actions_by p self.now node)) }
+        requires node { node < length self.now.nodes.items }
+        ensures { (p : Point) → IsAt p self.now → ChoosesAt p (actions_by p self.now node) place result }
+    {
+        let Some(order) = self.may_try(node) else {
+            return self.serve_or_take(node, place);
+        };
+        if place == 0 {
+            return Action::Try(order);
+        }
+        self.serve_or_take(node, place - 1)
+    }
+
+    /// The action of a place among the serves and the letters of a node.
+    fn serve_or_take(&self, node: NodeNo, place: usize) -> Action
+        requires at { (p : Point) × IsAt p self.now × (place < length (others_by p self.now node)) }
+        requires node { node < length self.now.nodes.items }
+        ensures { (p : Point) → IsAt p self.now → ChoosesAt p (others_by p self.now node) place result }
+    {
+        let server = &self.nodes[usize::from(node.get())];
+        match server.serves(place as u64) {
+            Some(name) => Action::Serve { node, name },
+            None => self.next_letter(node, place - server.serves_count()),
+        }
+    }
+
+    /// The next letter of a place among those of the senders that have one for a node.
+    fn next_letter(&self, node: NodeNo, place: usize) -> Action
+        requires at { (p : Point) × IsAt p self.now × (place < length (letter_actions (history_of p) node (store_of p).nodes)) }
+        ensures { (p : Point) → IsAt p self.now → ChoosesAt p (letter_actions (history_of p) node (store_of p).nodes) place result }
+    {
+        let mut place = place;
+        for number in 0..self.nodes.len() {
+            let from = node_no(number as u8);
+            if self.lanes.first(from, node).is_some() {
+                if place == 0 {
+                    return Action::Take { node, from };
+                }
+                place -= 1;
+            }
+        }
+        unreachable!()
+    }
+}
+
+/// The operand of a command that takes a token.
+fn taken_by(command: &Command) -> Option<Operand>
+    ensures { result ≡ wanted_by command.now }
+{
+    match command {
+        Command::Read { on } | Command::Write { on } => Some(*on),
+        Command::New { .. }
+        | Command::Copy { .. }
+        | Command::Drop { .. }
+        | Command::Done { .. }
+        | Command::Set { .. }
+        | Command::Add { .. }
+        | Command::Get { .. }
+        | Command::Show { .. }
+        | Command::Same { .. } => None,
+    }
+}

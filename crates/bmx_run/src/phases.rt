@@ -1,0 +1,79 @@
+ghost use Rattle.std.specs.Prelude.{◌≡◌, ◌+◌, length, IsTrue, ◌↔◌, OnOk, OnErr};
+ghost use Rattle.bmx_protocol.specs.Runs.Programs.{DoesStage};
+ghost use Rattle.bmx_run.specs.Inside.Running.{Point, store_of, history_of, IsAt, Draws, Turned, Halted};
+ghost use Rattle.bmx_run.specs.Inside.Picking.{Counts};
+ghost use Rattle.bmx_run.specs.Inside.Phases.{Starts, AfterPhase, AreCompleted, AreCleared, MayGoOn};
+
+use crate::actions::{Action, Enabled};
+use crate::runner::Runner;
+use bmx_types::NoMemory;
+use bmx_world::RunEnd;
+use rand_core::utils::NextWord;
+
+impl Runner {
+    /// Runs a phase to its end, as soon as that comes: all programs are completed and, where it ends quietly, no
+    /// letter is in flight and nothing can be served. Behind it a new phase begins, with no command yet.
+    pub(crate) fn phase(&mut self, quiet: bool) -> RunEnd
+        requires { (p : Point) × Starts p quiet self.old }
+        ensures comes { (p : Point) → Starts p quiet self.old → AfterPhase p result self.new }
+        ensures budget { self.new.budget ≡ self.old.budget }
+    {
+        loop {
+            let enabled = self.enabled();
+            if self.is_done(quiet, &enabled) {
+                self.clear();
+                return RunEnd::Ended;
+            }
+            if enabled.total == 0 {
+                return RunEnd::Stuck;
+            }
+            if self.history.len() as u64 == self.budget {
+                return RunEnd::Spent;
+            }
+            match self.turn(&enabled) {
+                Ok(()) => {}
+                Err(NoMemory) => return RunEnd::NoMemory,
+            }
+        }
+    }
+
+    /// Whether the phase is done, where so many actions are enabled.
+    fn is_done(&self, quiet: bool, enabled: &Enabled) -> bool
+        ensures { (p : Point) → IsAt p self.now → p.stage.quiet ≡ quiet → Counts p self.now enabled.now → IsTrue result ↔ DoesStage (store_of p) p.past p.stage p.part }
+    {
+        self.is_completed() && !(quiet && enabled.total > 0)
+    }
+
+    /// Whether each node has completed its program of the phase.
+    fn is_completed(&self) -> bool
+        ensures { (p : Point) → IsAt p self.now → IsTrue result ↔ AreCompleted p }
+    {
+        self.seats.iter().all(|seat| seat.next().is_none())
+    }
+
+    /// Begins a new phase, with no command yet.
+    fn clear(&mut self)
+        ensures seats { AreCleared self.old.seats.items self.new.seats.items }
+        ensures rest { self.new ≡ record self.old { seats = self.new.seats } }
+    {
+        for seat in self.seats.iter_mut() {
+            seat.clear();
+        }
+    }
+
+    /// Does the action that the generator's next word picks.
+    fn turn(&mut self, enabled: &Enabled) -> Result<(), NoMemory>
+        requires { (p : Point) × MayGoOn p self.old enabled.now }
+        ensures ok { (p : Point) → MayGoOn p self.old enabled.now → OnOk result (Turned p self.new × Draws p.seed (length (history_of p) + 1) self.new) }
+        ensures err { (p : Point) → MayGoOn p self.old enabled.now → OnErr result (Halted p self.new) }
+        ensures budget { self.new.budget ≡ self.old.budget }
+    {
+        let word = self.generator.next_word();
+        let place = (u128::from(word) % enabled.total) as usize;
+        match self.pick(enabled, place) {
+            Action::Try(order) => self.try_command(order),
+            Action::Serve { node, name } => self.serve(node, name),
+            Action::Take { node, from } => self.take(node, from),
+        }
+    }
+}
