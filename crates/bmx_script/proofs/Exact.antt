@@ -1,9 +1,9 @@
 -- What the reader computes of a line is what the grammar says of it.
-use Rattle.std.proofs.Common.{◌≡◌, ℕ, ◌<◌, ◌==◌, Bool, true, false, cond, not, ◌&&◌, ◌||◌, nat_lt, nat_le, List, [], ◌∷◌, length, Option, Some, None, is_none, refl, ap, sym, ◌∙◌, subst, arith, Result, Ok, Err}
+use Rattle.std.proofs.Common.{◌≡◌, ℕ, ◌<◌, Bool, true, false, cond, not, ◌&&◌, ◌||◌, nat_lt, List, [], ◌∷◌, length, Option, Some, None, is_none, refl, ap, sym, ◌∙◌, subst, arith, Result, Ok, Err}
 use Rattle.std.specs.Prelude.{codes}
 use Rattle.std.specs.List.{list_any, slice_split, join_with_byte}
 use Rattle.std.proofs.lemmas.List.Splits.{join_with_byte-slice_split}
-use Rattle.std.proofs.lemmas.Bool.{and_parts, leb-true, eq-eqb, eqb-true, or_parts, or_from, not-true, not_from_false}
+use Rattle.std.proofs.lemmas.Bool.{and_parts, or_parts, or_from, not-true, not_from_false}
 use Rattle.bmx_types.specs.declared.commands.Command.{Command}
 use Rattle.bmx_types.specs.declared.commands.Command.TheVariants as command
 use Rattle.bmx_numerals.specs.declared.words.Misfit.{Misfit}
@@ -16,7 +16,7 @@ use Rattle.bmx_script.specs.declared.lines.LineKind.TheVariants as line
 use Rattle.bmx_script.specs.Spelling.{verb_word, operand_words, command_words, line_words, spelling}
 use Rattle.bmx_script.specs.Grammar.{is_within, may_follow, section_of, is_built, is_built_command, is_bunch_word, same_word, named_on, named_in, in_range, fits_command, IsSpelled, HasForm, IsGood}
 use Rattle.bmx_script.specs.Inside.Distinct.{AreDistinct}
-use Rattle.bmx_script.specs.Inside.Parsing.{map_read, read_command, node_line, first_limit, declared_bunch, setting_line, head_line, line_of, read_line}
+use Rattle.bmx_script.specs.Inside.Parsing.{map_read, read_command, node_line, first_limit, declared_bunch, phase_line, setting_line, head_line, line_of, read_line}
 use Rattle.bmx_script.proofs.ReadLemmas.{is_form, split_if, if_true, if_false, form_and, form_map, and_form, map_form, good_and, good_map, and_good, map_good, form_below, below_form, below_good, good_below, form_within, within_form, within_good, good_within}
 use Rattle.bmx_script.proofs.Words.{is_space, same_word-true}
 use Rattle.bmx_script.proofs.Plain.{are_words, plain_line}
@@ -74,22 +74,19 @@ is_good_if b f g x h e = if_true b f g (Ok x) h e
 
 form_line : (k : Knowledge) (ws : List (List ℕ)) (what : LineKind) → may_follow k.section (section_of what) ≡ true → is_built what ≡ true → are_words ws (named_on what) ≡ true → is_form (line_of k (line_words ws what)) ≡ false
 form_line k ws line.Version stands built named = is_form_if (may_follow k.section 1) _ _ stands refl
-form_line k ws (line.Nodes count) stands built named = is_form_if (may_follow k.section 2) _ _ stands (form_map _ _ (form_within 1 1 count))
+form_line k ws (line.Nodes count) stands built named = is_form_if (may_follow k.section 2) _ _ stands (form_map _ _ (form_within 1 8 count))
 form_line k ws (line.Bunch w None) stands built named = is_form_if (may_follow k.section 3 && is_bunch_word w) _ _ (both stands built) (form_declared k w)
 form_line k ws (line.Bunch w (Some f)) stands built named = cc
 form_line k ws (line.Segments l) stands built named = is_form_if (may_follow k.section 4) _ _ stands (form_map _ _ (form_and _ _ (form_within 1 65535 l) (no_form_limit k.limit)))
 form_line k ws (line.Table f t n fate) stands built named = cc
 form_line k ws (line.TablesLose e) stands built named = cc
 form_line k ws (line.Save b f) stands built named = cc
-form_line k ws line.Phase stands built named = cc
-form_line k ws line.Quiet stands built named = cc
+form_line k ws line.Phase stands built named = is_form_if (may_follow k.section 5) _ _ stands refl
+form_line k ws line.Quiet stands built named = is_form_if (may_follow k.section 5) _ _ stands refl
 form_line k ws (line.Do node c) stands built named = form_do k ws node c stands built named
 form_line k ws (line.Collect n b) stands built named = cc
 form_line k ws (line.Sweep n) stands built named = cc
 form_line k ws line.Settle stands built named = cc
-
-one_within : (n : ℕ) → (n == 1) ≡ true → (nat_le 1 n && nat_le n 1) ≡ true
-one_within n h = rw (eqb-true n 1 h) refl
 
 good_limit : (o : Option ℕ) → is_none o ≡ true → first_limit o ≡ Ok tt
 good_limit None h = refl
@@ -102,7 +99,7 @@ not_true false h = cc
 good_line : (k : Knowledge) (what : LineKind) → AreDistinct k.bunches → may_follow k.section (section_of what) ≡ true → is_built what ≡ true → are_words k.bunches (named_on what) ≡ true
     → in_range k what ≡ true → line_of k (line_words k.bunches what) ≡ Ok what
 good_line k line.Version distinct stands built named range = is_good_if (may_follow k.section 1) _ _ _ stands refl
-good_line k (line.Nodes count) distinct stands built named range = is_good_if (may_follow k.section 2) _ _ _ stands (good_map _ _ count (good_within 1 1 count (one_within count range)))
+good_line k (line.Nodes count) distinct stands built named range = is_good_if (may_follow k.section 2) _ _ _ stands (good_map _ _ count (good_within 1 8 count range))
 good_line k (line.Bunch w None) distinct stands built named range =
     let parts : (not (list_any (same_word w) k.bunches) ≡ true) × (nat_lt (length k.bunches) 16 ≡ true) = and_parts (not (list_any (same_word w) k.bunches)) (nat_lt (length k.bunches) 16) range in
     let free : (list_any (same_word w) k.bunches || not (nat_lt (length k.bunches) 16)) ≡ false =
@@ -116,8 +113,8 @@ good_line k (line.Segments l) distinct stands built named range =
 good_line k (line.Table f t n fate) distinct stands built named range = cc
 good_line k (line.TablesLose e) distinct stands built named range = cc
 good_line k (line.Save b f) distinct stands built named range = cc
-good_line k line.Phase distinct stands built named range = cc
-good_line k line.Quiet distinct stands built named range = cc
+good_line k line.Phase distinct stands built named range = is_good_if (may_follow k.section 5) _ _ _ stands refl
+good_line k line.Quiet distinct stands built named range = is_good_if (may_follow k.section 5) _ _ _ stands refl
 good_line k (line.Do node c) distinct stands built named range = good_do k node c distinct stands built named range
 good_line k (line.Collect n b) distinct stands built named range = cc
 good_line k (line.Sweep n) distinct stands built named range = cc
@@ -151,7 +148,7 @@ setting_form k key word e = choose_form (same_word key (codes "bmx") && may_foll
     (λ _ g. choose_form (same_word key (codes "nodes") && may_follow k.section 2) _ _ g
     (λ h f.
     let parts : (same_word key (codes "nodes") ≡ true) × (may_follow k.section 2 ≡ true) = and_parts (same_word key (codes "nodes")) (may_follow k.section 2) h in
-    let n : (n : ℕ) × (word ≡ numeral n) = within_form 1 1 word (map_form _ _ f) in
+    let n : (n : ℕ) × (word ≡ numeral n) = within_form 1 8 word (map_form _ _ f) in
     record { bunches = []; what = line.Nodes n.0; stands = parts.1; built = refl; named = refl; words_are = cc (same_word-true key (codes "nodes") parts.0, n.1) })
     (λ _ i. choose_form (same_word key (codes "segments") && may_follow k.section 4) _ _ i
     (λ h f.
@@ -175,9 +172,20 @@ head_form k key word e = choose_form (same_word key (codes "bunch") && may_follo
     record { bunches = []; what = line.Bunch word None; stands = parts.1; built = parts.2; named = refl; words_are = cc (parts.0) })
     (λ _ g. setting_form k key word g)
 
+phase_form : (k : Knowledge) (word : List ℕ) → is_form (phase_line k word) ≡ false → HasWords k (word ∷ [])
+phase_form k word e = choose_form (same_word word (codes "phase") && may_follow k.section 5) _ _ e
+    (λ h f.
+    let parts : (same_word word (codes "phase") ≡ true) × (may_follow k.section 5 ≡ true) = and_parts (same_word word (codes "phase")) (may_follow k.section 5) h in
+    record { bunches = []; what = line.Phase; stands = parts.1; built = refl; named = refl; words_are = cc (same_word-true word (codes "phase") parts.0) })
+    (λ _ g. choose_form (same_word word (codes "quiet") && may_follow k.section 5) _ _ g
+    (λ h f.
+    let parts : (same_word word (codes "quiet") ≡ true) × (may_follow k.section 5 ≡ true) = and_parts (same_word word (codes "quiet")) (may_follow k.section 5) h in
+    record { bunches = []; what = line.Quiet; stands = parts.1; built = refl; named = refl; words_are = cc (same_word-true word (codes "quiet") parts.0) })
+    (λ _ f. cc))
+
 words_form : (k : Knowledge) (words : List (List ℕ)) → is_form (line_of k words) ≡ false → HasWords k words
 words_form k [] e = cc
-words_form k (a ∷ []) e = cc
+words_form k (a ∷ []) e = phase_form k a e
 words_form k (a ∷ b ∷ []) e = head_form k a b e
 words_form k (a ∷ b ∷ c ∷ words) e =
     let parts : (may_follow k.section 5 ≡ true) × (is_form (node_line k a b (c ∷ words)) ≡ false) = if_form _ _ e in
@@ -207,11 +215,6 @@ node_good k node verb operands what stands e = made_line k (node ∷ verb ∷ op
     let words : command_words k.bunches p.1 ≡ verb ∷ operands = c.words_are in
     record { stands = stands; built = c.built; named = c.named; words_are = cc (n.0, words); range = both n.1 c.fits })
 
-exactly_one : (n : ℕ) → (nat_le 1 n && nat_le n 1) ≡ true → (n == 1) ≡ true
-exactly_one n h =
-    let parts : (nat_le 1 n ≡ true) × (nat_le n 1 ≡ true) = and_parts (nat_le 1 n) (nat_le n 1) h in
-    eq-eqb n 1 (omega (arith, leb-true 1 n parts.0, leb-true n 1 parts.1))
-
 limit_good : (o : Option ℕ) (u : Unit {0}) → first_limit o ≡ Ok u → is_none o ≡ true
 limit_good None u e = refl
 limit_good (Some n) u e = cc
@@ -228,8 +231,8 @@ setting_good k key word what e = split_if (same_word key (codes "bmx") && may_fo
     (λ h f.
     let parts : (same_word key (codes "nodes") ≡ true) × (may_follow k.section 2 ≡ true) = and_parts (same_word key (codes "nodes")) (may_follow k.section 2) h in
     made_line k (key ∷ word ∷ []) _ _ what f (λ n j.
-    let is : (word ≡ numeral n) × ((nat_le 1 n && nat_le n 1) ≡ true) = within_good 1 1 word n j in
-    record { stands = parts.1; built = refl; named = refl; words_are = cc (same_word-true key (codes "nodes") parts.0, is.0); range = exactly_one n is.1 }))
+    let is : (word ≡ numeral n) × (is_within 1 8 n ≡ true) = within_good 1 8 word n j in
+    record { stands = parts.1; built = refl; named = refl; words_are = cc (same_word-true key (codes "nodes") parts.0, is.0); range = is.1 }))
     (λ _ i. split_if (same_word key (codes "segments") && may_follow k.section 4) _ _ (Ok what) i
     (λ h f.
     let parts : (same_word key (codes "segments") ≡ true) × (may_follow k.section 4 ≡ true) = and_parts (same_word key (codes "segments")) (may_follow k.section 4) h in
@@ -262,9 +265,24 @@ head_good k key word what e = split_if (same_word key (codes "bunch") && may_fol
     })))
     (λ _ g. setting_good k key word what g)
 
+phase_good : (k : Knowledge) (word : List ℕ) (what : LineKind) → phase_line k word ≡ Ok what → IsLine k (word ∷ []) what
+phase_good k word what e = split_if (same_word word (codes "phase") && may_follow k.section 5) _ _ (Ok what) e
+    (λ h f.
+    let parts : (same_word word (codes "phase") ≡ true) × (may_follow k.section 5 ≡ true) = and_parts (same_word word (codes "phase")) (may_follow k.section 5) h in
+    let is : line.Phase ≡ what = cc (f) in
+    subst (λ (l : LineKind). IsLine k (word ∷ []) l) is
+    (record { stands = parts.1; built = refl; named = refl; words_are = cc (same_word-true word (codes "phase") parts.0); range = refl }))
+    (λ _ g. split_if (same_word word (codes "quiet") && may_follow k.section 5) _ _ (Ok what) g
+    (λ h f.
+    let parts : (same_word word (codes "quiet") ≡ true) × (may_follow k.section 5 ≡ true) = and_parts (same_word word (codes "quiet")) (may_follow k.section 5) h in
+    let is : line.Quiet ≡ what = cc (f) in
+    subst (λ (l : LineKind). IsLine k (word ∷ []) l) is
+    (record { stands = parts.1; built = refl; named = refl; words_are = cc (same_word-true word (codes "quiet") parts.0); range = refl }))
+    (λ _ f. cc))
+
 words_good : (k : Knowledge) (words : List (List ℕ)) (what : LineKind) → line_of k words ≡ Ok what → IsLine k words what
 words_good k [] what e = cc
-words_good k (a ∷ []) what e = cc
+words_good k (a ∷ []) what e = phase_good k a what e
 words_good k (a ∷ b ∷ []) what e = head_good k a b what e
 words_good k (a ∷ b ∷ c ∷ words) what e =
     let parts : (may_follow k.section 5 ≡ true) × (node_line k a b (c ∷ words) ≡ Ok what) = if_good _ _ what e in

@@ -18,7 +18,7 @@ record HasLimit (o : Option ℕ) : Type 0 where
 
 -- behind the nodes their number is known, behind the bunches they are
 record HasHead (k : Knowledge) : Type 0 where
-  nodes : 2 ≤ k.section → k.nodes ≡ 1
+  nodes : 2 ≤ k.section → 0 < k.nodes
   bunches : 3 ≤ k.section → 0 < length k.bunches
   room : HasRoom k
   limit : HasLimit k.limit
@@ -66,7 +66,7 @@ said_limit l o range =
 
 head_after : (k : Knowledge) (what : LineKind) → HasHead k → may_follow k.section (section_of what) ≡ true → in_range k what ≡ true → HasHead (known_after k what)
 head_after k line.Version head stands range = record { nodes = λ h. absurd (omega arith); bunches = λ h. absurd (omega arith); room = room_after k line.Version head.room range; limit = head.limit }
-head_after k (line.Nodes count) head stands range = record { nodes = λ _. eqb-true count 1 range; bunches = λ h. absurd (omega arith); room = room_after k (line.Nodes count) head.room range; limit = head.limit }
+head_after k (line.Nodes count) head stands range = record { nodes = λ _. leb-true 1 count (and_parts (nat_le 1 count) (nat_le count 8) range).0; bunches = λ h. absurd (omega arith); room = room_after k (line.Nodes count) head.room range; limit = head.limit }
 head_after k (line.Bunch w file) head stands range = record {
   nodes = λ _. head.nodes (behind_nodes k.section stands);
   bunches = λ _. omega (arith, length-append k.bunches (w ∷ []));
@@ -106,5 +106,4 @@ pub counts_of : (lines : List Line) → AreScript lines → HasCounts (known_aft
 counts_of lines script =
     let head : HasHead (known_after_all nothing_known lines) = head_of nothing_known lines no_head script.order in
     let whole : 3 ≤ (known_after_all nothing_known lines).section = leb-true 3 (known_after_all nothing_known lines).section script.head in
-    let one : (known_after_all nothing_known lines).nodes ≡ 1 = head.nodes (omega arith) in
-    record { a_node = omega arith; few_nodes = head.room.few_nodes; a_bunch = head.bunches whole; few_bunches = head.room.few_bunches; a_segment = head.limit.some; few_segments = head.limit.few }
+    record { a_node = head.nodes (omega arith); few_nodes = head.room.few_nodes; a_bunch = head.bunches whole; few_bunches = head.room.few_bunches; a_segment = head.limit.some; few_segments = head.limit.few }

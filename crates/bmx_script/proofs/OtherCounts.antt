@@ -1,4 +1,4 @@
--- No line has fewer than two words or more than five.
+-- No line has more than five words.
 use Rattle.std.proofs.Common.{◌≡◌, ℕ, ◌<◌, ◌≤◌, List, [], ◌∷◌, length, map, Bool, true, false, cond, refl, ap, arith, Result, Ok, Err}
 use Rattle.bmx_numerals.specs.declared.words.Misfit.{Misfit}
 use Rattle.bmx_numerals.specs.declared.words.Misfit.TheVariants.{Form, Range}
@@ -18,11 +18,6 @@ and_nothing (Ok x) g e = rw e refl
 two_ways : (b : Bool) (x y : Result LineKind Misfit) → x ≡ y → cond b x y ≡ y
 two_ways true x y e = e
 two_ways false x y e = refl
-
-pub too_few : {X : Type 0} (k : Knowledge) (f : X → List ℕ) (xs : List X) → length xs < 2 → line_of k (map f xs) ≡ Err Form
-too_few k f [] h = refl
-too_few k f (a ∷ []) h = refl
-too_few k f (a ∷ b ∷ xs) h = absurd (omega arith)
 
 pub too_many : {X : Type 0} (k : Knowledge) (f : X → List ℕ) (xs : List X) → 6 ≤ length xs → line_of k (map f xs) ≡ Err Form
 too_many k f [] h = absurd (omega arith)

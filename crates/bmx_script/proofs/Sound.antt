@@ -1,7 +1,7 @@
 -- A reader that goes on over a line stays sound.
-use Rattle.std.proofs.Common.{◌≡◌, ℕ, ◌+◌, ◌<◌, ◌≤◌, ◌^◌, true, false, not, nat_lt, List, [], ◌∷◌, ◌++◌, length, refl, ap, sym, ◌∙◌, suc, zero, ⊎_elim, arith, Result, Ok, Err}
+use Rattle.std.proofs.Common.{◌≡◌, ℕ, ◌+◌, ◌<◌, ◌≤◌, ◌^◌, true, false, not, nat_lt, nat_le, List, [], ◌∷◌, ◌++◌, length, refl, ap, sym, ◌∙◌, suc, zero, ⊎_elim, arith, Result, Ok, Err}
 use Rattle.std.specs.List.{list_any}
-use Rattle.std.proofs.lemmas.Bool.{and_parts, ltb-true, eqb-true, not-true, ltb-false, or_parts, cases_lt, le-leb}
+use Rattle.std.proofs.lemmas.Bool.{and_parts, ltb-true, leb-true, not-true, ltb-false, or_parts, cases_lt, le-leb}
 use Rattle.std.proofs.Math.ListN.{get_or-append, length-append}
 use Rattle.std.proofs.Math.Seq.{get_or-append_seam}
 use Rattle.bmx_numerals.specs.declared.words.Misfit.{Misfit}
@@ -72,7 +72,7 @@ same_room {k} {l} r n b = record { few_nodes = rw (← n) r.few_nodes; few_bunch
 
 pub room_after : (k : Knowledge) (what : LineKind) → HasRoom k → in_range k what ≡ true → HasRoom (known_after k what)
 room_after k line.Version r range = record { few_nodes = r.few_nodes; few_bunches = r.few_bunches }
-room_after k (line.Nodes count) r range = record { few_nodes = rw (eqb-true count 1 range) (omega arith); few_bunches = r.few_bunches }
+room_after k (line.Nodes count) r range = record { few_nodes = leb-true count 8 (and_parts (nat_le 1 count) (nat_le count 8) range).1; few_bunches = r.few_bunches }
 room_after k (line.Bunch w file) r range =
     let room : length k.bunches < 16 = ltb-true (length k.bunches) 16 (and_parts (not (list_any (same_word w) k.bunches)) (nat_lt (length k.bunches) 16) range).1 in
     record { few_nodes = r.few_nodes; few_bunches = omega (arith, length-append k.bunches (w ∷ [])) }

@@ -1,5 +1,5 @@
 -- Which bytes are a script, and which line is the first bad one, with its cause.
-use Rattle.std.specs.Prelude.{◌≡◌, ℕ, ◌+◌, ◌^◌, ◌<◌, ◌≤◌, ◌==◌, nat_lt, nat_le, Bool, true, false, not, ◌&&◌, ◌||◌, if◌then◌else◌, List, [], ◌∷◌, ◌++◌, length, Option, Some, None, is_none, Result, Ok, Err, IsTrue}
+use Rattle.std.specs.Prelude.{◌≡◌, ℕ, ◌+◌, ◌^◌, ◌<◌, ◌≤◌, ◌==◌, nat_lt, nat_le, Bool, true, false, not, ◌&&◌, ◌||◌, if◌then◌else◌, List, [], ◌∷◌, ◌++◌, length, Option, Some, None, is_none, Result, Ok, Err, IsTrue, refl}
 use Rattle.std.specs.List.{list_any, list_all, onto_first}
 use Rattle.std.specs.Str.{bytes_eq}
 use Rattle.bmx_types.specs.Integers.{is_i64}
@@ -76,6 +76,12 @@ may_follow before section =
     (nat_lt before section && nat_le section (if nat_lt before 3 then before + 1 else 6))
     || ((before == section) && ((before == 4) || (before == 5)))
 
+a_phase_behind_a_phase : may_follow (section_of line.Quiet) (section_of line.Phase) ≡ true
+a_phase_behind_a_phase = refl
+
+no_limit_behind_a_phase : may_follow (section_of line.Phase) (section_of (line.Segments 2)) ≡ false
+no_limit_behind_a_phase = refl
+
 -- a source: a register or an anchor
 abbrev pub is_source : Operand → Bool
 is_source (operand.Register r) = true
@@ -107,6 +113,8 @@ is_built line.Version = true
 is_built (line.Nodes count) = true
 is_built (line.Bunch word file) = is_no_file file && is_bunch_word word
 is_built (line.Segments limit) = true
+is_built line.Phase = true
+is_built line.Quiet = true
 is_built (line.Do node c) = is_built_command c
 is_built what = false
 
@@ -159,10 +167,10 @@ fits_command bunches (command.Show on index) = fits_operand bunches on && nat_lt
 fits_command bunches (command.Same left right) = fits_operand bunches left && fits_operand bunches right
 
 -- a line's numbers are in their ranges, its words are known or new as they have to be, and it isn't said
--- twice how many segments there are. A script has one node so far
+-- twice how many segments there are
 abbrev pub in_range : Knowledge → LineKind → Bool
 in_range k line.Version = true
-in_range k (line.Nodes count) = count == 1
+in_range k (line.Nodes count) = is_within 1 8 count
 in_range k (line.Bunch word file) = not (list_any (same_word word) k.bunches) && nat_lt (length k.bunches) 16
 in_range k (line.Segments limit) = is_within 1 65535 limit && is_none k.limit
 in_range k (line.Table from to number fate) = nat_lt from k.nodes && (nat_lt to k.nodes && (is_within 1 1000000 number && is_within 1 20000 fate.phase))
@@ -174,6 +182,12 @@ in_range k (line.Do node c) = nat_lt node k.nodes && fits_command (length k.bunc
 in_range k (line.Collect node bunch) = nat_lt node k.nodes && nat_lt bunch (length k.bunches)
 in_range k (line.Sweep node) = nat_lt node k.nodes
 in_range k line.Settle = true
+
+an_eighth_node : in_range nothing_known (line.Nodes 8) ≡ true
+an_eighth_node = refl
+
+no_ninth_node : in_range nothing_known (line.Nodes 9) ≡ false
+no_ninth_node = refl
 
 -- the text is the spelling of a line that may stand here, with these words for the bunches
 pub record IsSpelled (k : Knowledge) (bunches : List (List ℕ)) (what : LineKind) (text : List ℕ) : Type 0 where

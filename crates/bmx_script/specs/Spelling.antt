@@ -100,6 +100,9 @@ spelling bunches what = join_with_byte space (line_words bunches what)
 a_value_by_its_anchor : spelling (codes "main" ∷ []) (line.Do 0 (command.Set (operand.Register 5) 31 (operand.Anchor 0))) ≡ codes "0 set r5 31 @main"
 a_value_by_its_anchor = refl
 
+the_end_of_a_phase : spelling [] line.Quiet ≡ codes "quiet"
+the_end_of_a_phase = refl
+
 a_table_of_a_late_phase : spelling [] (line.Table 1 0 2 (record { times = 1; phase = 8 })) ≡ codes "table 1 0 2 after 8"
 a_table_of_a_late_phase = refl
 

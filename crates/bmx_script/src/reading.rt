@@ -3,7 +3,7 @@ ghost use Rattle.std.specs.List.{list_all, slice_split};
 ghost use Rattle.bmx_numerals.specs.Words.{read_below};
 ghost use Rattle.bmx_script.specs.Grammar.{is_bunch_word as is_bunch_word_lem, is_word_byte as is_word_byte_lem, begins_with_letter as begins_with_letter_lem};
 ghost use Rattle.bmx_script.specs.Inside.Reader.{HasRoom};
-ghost use Rattle.bmx_script.specs.Inside.Parsing.{read_register, read_bunch, read_source, read_value, begins_as_source as begins_as_source_lem, read_place, of_one, of_two, of_three, line_of, placed_line, head_line as head_line_lem, setting_line as setting_line_lem, read_version, read_nodes, read_segments, declared_bunch, read_line as read_line_lem};
+ghost use Rattle.bmx_script.specs.Inside.Parsing.{read_register, read_bunch, read_source, read_value, begins_as_source as begins_as_source_lem, read_place, of_one, of_two, of_three, line_of, placed_line, head_line as head_line_lem, setting_line as setting_line_lem, phase_line as phase_line_lem, read_version, read_nodes, read_segments, declared_bunch, read_line as read_line_lem};
 
 use crate::knowledge::{Knowledge, Section, is_word};
 use crate::lines::LineKind;
@@ -51,7 +51,7 @@ fn line(
         [node, verb, a, b, c] => (node, command_of_three(known, verb, (a, b, c))),
         [key, word] => return head_line(alloc, known, key, word),
         [] => return Ok(Err(Misfit::Form)),
-        [_] => return Ok(Err(Misfit::Form)),
+        [word] => return Ok(phase_line(known, word)),
         [_, _, _, _, _, _, ..] => return Ok(Err(Misfit::Form)),
     };
     Ok(node_line(known, node, command))
@@ -79,6 +79,20 @@ fn words_of(text: &[u8]) -> Option<Words<'_>>
     }
     words.push(&text[from..]);
     Some(words)
+}
+
+/// A line of one word: `phase` or `quiet`, in its place.
+#[inline(always)]
+fn phase_line(known: &Knowledge, word: &[u8]) -> Result<LineKind, Misfit>
+    ensures { result ≡ phase_line_lem known.now word.now }
+{
+    if is_word(word, "phase") && known.may_follow(Section::Body) {
+        Ok(LineKind::Phase)
+    } else if is_word(word, "quiet") && known.may_follow(Section::Body) {
+        Ok(LineKind::Quiet)
+    } else {
+        Err(Misfit::Form)
+    }
 }
 
 /// A line of two words: a bunch, or a key and a number.
@@ -126,7 +140,7 @@ fn version_line(word: &[u8]) -> Result<LineKind, Misfit>
 fn nodes_line(word: &[u8]) -> Result<LineKind, Misfit>
     ensures { result ≡ read_nodes word.now }
 {
-    let count = number_within(word, 1, 1)? as u8;
+    let count = number_within(word, 1, 8)? as u8;
     Ok(LineKind::Nodes { count })
 }
 

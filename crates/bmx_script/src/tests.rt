@@ -48,8 +48,7 @@ fn bad_heads(rt: HostRuntime) -> Result<(), Fail> {
         ("bmx 1\nnodes 1\n", 3, BadCause::End),
         ("bmx 2\nnodes 1\n", 1, BadCause::Form),
         ("\nbmx 1\n", 1, BadCause::Form),
-        ("bmx 1\nnodes 9\n", 2, BadCause::Range),
-        ("bmx 1\nnodes 2\n", 2, BadCause::Range),
+        ("bmx 1\nphase\n", 2, BadCause::Form),
     ] {
         let bad = bad_line(&rt, text.as_bytes())?;
         assert_eq!(rt; bad, Some(Bad { line, cause }), "{text}");
@@ -99,6 +98,49 @@ fn bad_ranges(rt: HostRuntime) -> Result<(), Fail> {
 }
 
 #[test]
+fn nodes_and_phases(rt: HostRuntime) -> Result<(), Fail> {
+    for (lines, bad) in [
+        ("nodes 8\nbunch b\n0 drop r0\n7 drop r0", None),
+        (
+            "nodes 1\nbunch b\nphase\nquiet\nquiet\n0 drop r0\nphase",
+            None,
+        ),
+        (
+            "nodes 2\nbunch b\nsegments 9\n# one\n\nquiet\n1 read @b",
+            None,
+        ),
+        ("nodes 0", at(2, BadCause::Range)),
+        ("nodes 9", at(2, BadCause::Range)),
+        ("nodes 08", at(2, BadCause::Form)),
+        ("nodes 8", at(3, BadCause::End)),
+        ("nodes 8\nquiet", at(3, BadCause::Form)),
+        ("nodes 8\nbunch b\n8 drop r0", at(4, BadCause::Range)),
+        (
+            "nodes 2\nbunch b\n1 drop r0\nphase\n2 drop r0",
+            at(6, BadCause::Range),
+        ),
+        ("nodes 2\nbunch b\n01 drop r0", at(4, BadCause::Form)),
+        ("nodes 2\nbunch b\nphase\nsegments 9", at(5, BadCause::Form)),
+        ("nodes 2\nbunch b\nquiet\nphase 2", at(5, BadCause::Form)),
+        ("nodes 2\nbunch b\nphase \n2 drop r0", at(4, BadCause::Form)),
+        ("nodes 2\nbunch b\nphase\nQuiet", at(5, BadCause::Form)),
+        ("nodes 2\nbunch b\n1 quiet", at(4, BadCause::Form)),
+        ("nodes 2\nbunch b\n1 collect b", at(4, BadCause::Form)),
+        ("nodes 2\nbunch b\nquiet\nsettle", at(5, BadCause::Form)),
+    ] {
+        let mut text = String::from_str(rt.alloc(), "bmx 1\n")?;
+        text.push_str(lines)?;
+        assert_eq!(rt; bad_line(&rt, text.as_bytes())?, bad, "{lines}");
+    }
+    Ok(())
+}
+
+/// A bad line.
+fn at(line: u32, cause: BadCause) -> Option<Bad> {
+    Some(Bad { line, cause })
+}
+
+#[test]
 fn a_limit_is_said_once(rt: HostRuntime) -> Result<(), Fail> {
     let text = behind_head(&rt, "segments 2\nsegments 2\n")?;
     let (line, cause) = (5, BadCause::Range);
@@ -119,12 +161,12 @@ fn a_printed_script(rt: HostRuntime) -> Result<(), Fail> {
     assert_eq!(rt; bad_line(&rt, text.as_bytes())?, Some(Bad { line, cause }));
     let text = behind_head(
         &rt,
-        "# a limit\n\nsegments 9\n0 copy r1 @main\n#\n0 same r1 null\n# end",
+        "# a limit\n\nsegments 9\n0 copy r1 @main\n#\nphase\n0 same r1 null\nquiet\n# end",
     )?;
     let printed = printed_again(&rt, text.as_bytes())?;
     assert_eq!(rt;
         printed.as_str(),
-        "bmx 1\nnodes 1\nbunch main\n\n\nsegments 9\n0 copy r1 @main\n\n0 same r1 null\n"
+        "bmx 1\nnodes 1\nbunch main\n\n\nsegments 9\n0 copy r1 @main\n\nphase\n0 same r1 null\nquiet\n"
     );
     let again = printed_again(&rt, printed.as_bytes())?;
     assert_eq!(rt; again.as_str(), printed.as_str());

@@ -6,7 +6,7 @@ use std::alloc::Global;
 use std::test::Fail;
 
 const SCRIPT: &str =
-    "bmx 1\nnodes 1\nbunch main\nsegments 9\n\n# shown\n0 show r0 0\n0 same r0 r1\n0 show r1 0\n0 drop r0\n";
+    "bmx 1\nnodes 2\nbunch main\nsegments 9\n\n# shown\n0 show r0 0\n1 same r0 r1\n0 show r1 0\nphase\n0 drop r0\n";
 
 fn script(alloc: Global) -> Option<Script> {
     read_script(alloc, SCRIPT.as_bytes()).ok()
@@ -28,7 +28,7 @@ fn show(register: u8) -> Command {
     Command::Show { on, index: 0 }
 }
 
-// Most commands of the script with their answers: the first waits and is tried again, and the last is refused.
+// Most commands of the script with their answers: one waits first, node 1 is before it, and the last is refused.
 fn fill(alloc: Global, history: &mut History) -> Option<()> {
     let seven = NodeAnswer::Value(Val::Int(7));
     let same = Command::Same {
@@ -39,8 +39,8 @@ fn fill(alloc: Global, history: &mut History) -> Option<()> {
     history
         .push(event(alloc, 0, show(0), NodeAnswer::Wait)?)
         .ok()?;
+    history.push(event(alloc, 1, same, NodeAnswer::No)?).ok()?;
     history.push(event(alloc, 0, show(0), seven)?).ok()?;
-    history.push(event(alloc, 0, same, NodeAnswer::No)?).ok()?;
     history.push(event(alloc, 0, show(1), refused)?).ok()?;
     Some(())
 }
@@ -50,7 +50,7 @@ fn what_a_script_opens(rt: HostRuntime) -> Result<(), Fail> {
     let script = script(rt.alloc()).ok_or("a script")?;
     let opening = opening(rt.alloc(), &script)?;
     let births = opening.births.as_slice();
-    assert_eq!(rt; (opening.nodes, opening.limit), (1, 9));
+    assert_eq!(rt; (opening.nodes, opening.limit), (2, 9));
     assert_eq!(rt; births.len(), 1);
     assert_eq!(rt; births[0].name.word(), 1);
     assert_eq!(rt; births[0].bunch.get(), 0);
@@ -65,7 +65,7 @@ fn what_a_history_prints(rt: HostRuntime) -> Result<(), Fail> {
     assert!(rt; !has_refusal(&history));
     fill(rt.alloc(), &mut history).ok_or("a history")?;
     let text = text(rt.alloc(), &script, &history)?;
-    assert_eq!(rt; text.as_str(), "0 7 7\n0 8 no\n0 9 refused token\n");
+    assert_eq!(rt; text.as_str(), "1 8 no\n0 7 7\n0 9 refused token\n");
     assert!(rt; has_refusal(&history));
     Ok(())
 }

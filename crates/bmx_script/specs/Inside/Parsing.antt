@@ -112,7 +112,7 @@ read_version word = if same_word word (codes "1") then Ok line.Version else Err 
 
 -- how many nodes there are
 abbrev pub read_nodes : List ℕ → Result LineKind Misfit
-read_nodes word = map_read (λ n. line.Nodes n) (read_within 1 1 word)
+read_nodes word = map_read (λ n. line.Nodes n) (read_within 1 8 word)
 
 -- how many segments a node may make is said once
 abbrev pub first_limit : Option ℕ → Result (Unit {0}) Misfit
@@ -141,10 +141,17 @@ head_line k key word =
     if same_word key (codes "bunch") && may_follow k.section 3 && is_bunch_word word then declared_bunch k word
     else setting_line k key word
 
+-- a line of one word, the end of a phase, in its place
+abbrev pub phase_line : Knowledge → List ℕ → Result LineKind Misfit
+phase_line k word =
+    if same_word word (codes "phase") && may_follow k.section 5 then Ok line.Phase
+    else (if same_word word (codes "quiet") && may_follow k.section 5 then Ok line.Quiet
+    else Err Form)
+
 -- a line, by its words
 abbrev pub line_of : Knowledge → List (List ℕ) → Result LineKind Misfit
 line_of k [] = Err Form
-line_of k (a ∷ []) = Err Form
+line_of k (a ∷ []) = phase_line k a
 line_of k (a ∷ b ∷ []) = head_line k a b
 line_of k (a ∷ b ∷ c ∷ words) = if may_follow k.section 5 then node_line k a b (c ∷ words) else Err Form
 

@@ -1,9 +1,6 @@
 use Rattle.std.proofs.Common.{sym, arith}
-use Rattle.bmx_script.proofs.OtherCounts.{too_few, too_many}
+use Rattle.bmx_script.proofs.OtherCounts.{too_many}
 use Rattle.bmx_script.proofs.reading.line.Goals as goal
-
-pub returns-in-len1 : goal.returns-in-len1
-returns-in-len1 c = sym (too_few c.args.known.now (λ x. x.now) c.args.words.now (omega arith))
 
 pub returns-in-len6-up : goal.returns-in-len6-up
 returns-in-len6-up c = sym (too_many c.args.known.now (λ x. x.now) c.args.words.now (omega arith))
