@@ -1,3 +1,4 @@
+//! What a store of a reference owes to collections. It changes nothing.
 ghost use Rattle.std.specs.Prelude.{◌≡◌, ◌≢◌, ◌-◌, ◌^◌, ◌↔◌, IsTrue, Some, count_by, min};
 ghost use Rattle.bmx_barrier.specs.Barrier.{needs_pair};
 

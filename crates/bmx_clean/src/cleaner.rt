@@ -1,3 +1,4 @@
+//! What a table ends at the node that takes it. It touches records and pairs alone.
 ghost use Rattle.std.specs.Prelude.{◌≡◌, ℕ, ◌≤◌};
 ghost use Rattle.std.specs.List.Sorted.{IsStrictlyIncreasing};
 ghost use Rattle.bmx_owner.specs.Records.{IsInOrder, find_record};

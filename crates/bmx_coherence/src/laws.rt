@@ -1,3 +1,4 @@
+//! The laws of what a store answers, each a public function with an empty body.
 ghost use Rattle.bmx_coherence.specs.Laws.{EveryHistoryIsAGraphRun, FullIsAtTheLimit, NodesHaveTheGraph, CopiesAreCurrent, TargetsStand, EachWaitsForItsWant, StuckNodesNameHolders};
 ghost use Rattle.bmx_coherence.specs.Telling.{LawsTell, WrongRulesBreak};
 

@@ -1,3 +1,4 @@
+//! What a command is answered, as data.
 use bmx_types::{Refusal, Val};
 
 /// What a command is answered.

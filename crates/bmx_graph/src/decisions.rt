@@ -1,3 +1,4 @@
+//! What comes of a command, by what it reads of a graph or of a node. It changes nothing.
 ghost use Rattle.std.specs.Prelude.{◌≡◌, ℕ, ◌<◌, Option, Some, IfOk, IfErr, option_and_then, slice_get};
 ghost use Rattle.bmx_types.specs.declared.commands.Command.TheVariants as command;
 ghost use Rattle.bmx_graph.specs.State.{State};

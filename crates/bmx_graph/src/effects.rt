@@ -1,3 +1,4 @@
+//! What a command changes, as data.
 use bmx_types::{BunchNo, Mode, Name, Val};
 
 /// What a node's command does to the graph where it is done.

@@ -1,3 +1,4 @@
+//! What commands mean, by the parts of a graph. It changes nothing.
 ghost use Rattle.std.specs.Prelude.{◌≡◌, ◌+◌, ◌*◌, ◌<◌, ◌∷◌, replicate};
 ghost use Rattle.bmx_types.specs.Words.{anchor_of};
 ghost use Rattle.bmx_graph.specs.Step.{sum_of};

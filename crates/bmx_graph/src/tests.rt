@@ -1,3 +1,4 @@
+//! Commands on a graph of one bunch, and how each is refused.
 ghost use Rattle.std.specs.Prelude.{IsTrue, IfOk, ◌<◌};
 ghost use Rattle.bmx_graph.specs.Graphs.{IsOperand, HasRegisters};
 

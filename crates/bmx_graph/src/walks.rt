@@ -1,3 +1,4 @@
+//! Which names a graph reaches.
 ghost use Rattle.std.specs.Prelude.{◌≡◌, ◌↔◌, ℕ, List, [], ◌∷◌, OnOk, IfOk, Contains, slice_get};
 ghost use Rattle.std.specs.List.Sorted.{IsStrictlyIncreasing};
 ghost use Rattle.bmx_graph.specs.Inside.Walks.{IsWalk, GoesTo};

@@ -1,3 +1,4 @@
+//! Why a call on lists failed.
 use std::alloc::{AllocError, AllocFailed};
 
 /// There was no memory for the call, which changed nothing.

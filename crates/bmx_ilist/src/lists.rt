@@ -1,3 +1,4 @@
+//! Linked lists over the keys of one arena.
 ghost use Rattle.std.specs.Prelude.{◌≡◌, ◌+◌, ◌≤◌, ◌<◌, length, replicate, [], IsTrue, IsFalse, IfSome, IfOk, OnOk, OnErr, IsOk};
 ghost use Rattle.std.specs.FinSet as set;
 

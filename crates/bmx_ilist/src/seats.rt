@@ -1,3 +1,4 @@
+//! Keys, and where each stands in a list.
 ghost use Rattle.std.specs.Prelude.{◌≡◌, ◌≢◌, ℕ, ◌<◌, length, Some, slice_set, slice_index};
 ghost use Rattle.slab.specs.Slab.{get, slab_len, ContainsKey};
 

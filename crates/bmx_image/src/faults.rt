@@ -1,3 +1,4 @@
+//! Why bytes are no image, as data.
 ghost use Rattle.std.specs.Prelude.{◌≡◌, ◌≤◌, length};
 ghost use Rattle.bmx_image.specs.Faults.{short, at as at_lem, told_of};
 

@@ -1,3 +1,4 @@
+//! The image of what a root reaches. It sees a graph through one trait.
 ghost use Rattle.std.specs.Prelude.{◌≡◌, ◌∷◌, [], ℕ, ◌<◌, List, Option, Some, length, slice_get, IsSome, OnOk, IfOk};
 ghost use Rattle.bmx_types.specs.declared.values.Val.{Val};
 ghost use Rattle.bmx_image.specs.Gathering.{CanGather, IsGathered};

@@ -1,3 +1,4 @@
+//! An image, as data.
 ghost use Rattle.bmx_image.specs.Images.{IsImage};
 ghost use Rattle.bmx_image.specs.Facts.{IsImage-prop};
 

@@ -1,3 +1,4 @@
+//! The laws of the format, each a public function with an empty body.
 ghost use Rattle.bmx_image.specs.Laws.{ReadingIsDetermined, ImageIsReadAgain, ImageHasOneSpelling, NumberHasOneSpelling};
 
 /// The law that bytes have one reading: the objects of an image, or the first item that doesn't fit

@@ -1,3 +1,4 @@
+//! The image that bytes spell.
 ghost use Rattle.std.specs.Prelude.{◌≡◌, ℕ, ◌+◌, ◌∷◌, [], ◌++◌, ◌<◌, ◌≤◌, length, MatchResult, Some, IsTrue};
 ghost use Rattle.std.specs.Int.{w64, cast_unsigned};
 ghost use Rattle.byteorder.specs.Endian.{big_bytes, big_number};

@@ -1,3 +1,4 @@
+//! Images there and back, and bytes with one of them changed.
 ghost use Rattle.std.specs.Prelude.{◌≡◌, length};
 
 use crate::{

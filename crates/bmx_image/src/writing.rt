@@ -1,3 +1,4 @@
+//! The bytes of an image.
 ghost use Rattle.std.specs.Prelude.{◌≡◌, ◌++◌, ◌≤◌, length, OnOk, IfOk};
 ghost use Rattle.byteorder.specs.Endian.{big_bytes};
 ghost use Rattle.bmx_image.specs.Spelling.{field_bytes, object_bytes, image_bytes};

@@ -1,3 +1,4 @@
+//! What a node keeps for references between bunches. It knows nothing of words and letters.
 ghost use Rattle.std.specs.Prelude.{◌≡◌, ◌+◌, ◌^◌, ◌≤◌, ◌<◌, ◌&&◌, not, nat_le, [], slice_get, Some, OnOk, OnErr, IsTrue};
 ghost use Rattle.bmx_inter.specs.Order.{IsInOrder, is_listed};
 ghost use Rattle.bmx_inter.specs.Inter.{scion_pair};

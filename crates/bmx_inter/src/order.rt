@@ -1,3 +1,4 @@
+//! The order of pairs.
 ghost use Rattle.std.specs.Prelude.{◌≡◌, ℕ, IsTrue, MatchResult};
 ghost use Rattle.bmx_types.specs.declared.names.Pair.{Pair};
 ghost use Rattle.bmx_inter.specs.Order.{is_ahead, is_same, is_listed, IsInOrder};

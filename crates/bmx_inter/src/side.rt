@@ -1,3 +1,4 @@
+//! Pairs of one side, by bunch and by source and target.
 ghost use Rattle.std.specs.Prelude.{◌≡◌, ◌≢◌, ℕ, ◌+◌, ◌^◌, ◌≤◌, ◌<◌, Bool, List, Option, [], ◌∷◌, ◌++◌, length, not, filter, count_by, slice_get, OnOk, OnErr, IsFalse, MatchResult};
 ghost use Rattle.bmx_types.specs.declared.names.Pair.{Pair};
 ghost use Rattle.bmx_shelves.specs.Shelves.{on_shelf};

@@ -1,3 +1,4 @@
+//! What is on its way to one node: a queue for each sender.
 ghost use Rattle.std.specs.Prelude.{◌≡◌, ◌∷◌, ◌++◌, [], length, drop, replicate, slice_get, OnOk, OnErr, IfOk};
 ghost use Rattle.bmx_types.specs.Updates.{put};
 ghost use Rattle.bmx_lanes.specs.Sending.{lane_from, senders_below};

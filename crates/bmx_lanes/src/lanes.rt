@@ -1,3 +1,4 @@
+//! What is on its way between all nodes: one inbox for each.
 ghost use Rattle.std.specs.Prelude.{◌≡◌, ◌∷◌, ◌++◌, [], drop, slice_get, OnOk, OnErr, IfOk};
 ghost use Rattle.bmx_types.specs.Updates.{put_at};
 ghost use Rattle.bmx_lanes.specs.Sending.{lane_of, senders_to};

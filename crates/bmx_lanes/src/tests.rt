@@ -1,3 +1,4 @@
+//! Lanes that keep their own order, and go on for long.
 use crate::Lanes;
 use bmx_types::{NoMemory, NodeNo};
 use std::test::Fail;

@@ -1,3 +1,4 @@
+//! The laws of growing histories, each a public function with an empty body.
 ghost use Rattle.bmx_legal.specs.Laws.{EachMayFollow, FlightGrows, HistoryBegins, HistoryGrows};
 ghost use Rattle.bmx_legal.specs.Cases.{LawsTell};
 

@@ -1,3 +1,4 @@
+//! Whom a node gave which name, and how many letters it issued and took. It knows nothing of tokens and words.
 ghost use Rattle.std.specs.Prelude.{◌≡◌, ◌+◌, ◌-◌, ◌^◌, ◌≤◌, ◌<◌, [], ◌∷◌, ◌++◌, length, Some, None, OnOk, OnErr, IfOk};
 ghost use Rattle.bmx_types.specs.Updates.{put, put_at};
 ghost use Rattle.bmx_msg.specs.Letters.{given};

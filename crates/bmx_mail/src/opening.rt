@@ -1,3 +1,4 @@
+//! The records and counts that a store opens with.
 ghost use Rattle.std.specs.Prelude.{◌≡◌, ℕ, ◌+◌, ◌<◌, ◌≤◌, [], None, IfOk, OnOk};
 ghost use Rattle.bmx_types.specs.Openings.{bunches_of};
 ghost use Rattle.bmx_protocol.specs.Nodes.{first_entering};

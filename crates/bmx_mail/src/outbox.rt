@@ -1,3 +1,4 @@
+//! The letters that a step posts. It numbers none.
 ghost use Rattle.std.specs.Prelude.{◌≡◌, ◌-◌, ◌<◌, [], ◌∷◌, ◌++◌, IfOk};
 
 use bmx_msg::Letter;

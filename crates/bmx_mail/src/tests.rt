@@ -1,3 +1,4 @@
+//! A grant that is recorded and counted, and an object that is taken over.
 use crate::{Mail, Outbox};
 use bmx_msg::{Field, Fields, Msg};
 use bmx_protocol::Numbers;

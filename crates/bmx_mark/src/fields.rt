@@ -1,3 +1,4 @@
+//! What each field of an object refers to.
 ghost use Rattle.std.specs.Prelude.{◌≡◌, ℕ, ◌≤◌, None, slice_index_or};
 ghost use Rattle.bmx_mark.specs.Inside.Targets.{is_above, is_below, lower, IsLeast};
 

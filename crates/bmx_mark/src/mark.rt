@@ -1,3 +1,4 @@
+//! The names that a collection has marked so far, and its next step. It sees objects through their edges alone.
 ghost use Rattle.std.specs.Prelude.{◌≡◌, ℕ, ◌+◌, ◌-◌, ◌^◌, ◌<◌, ◌≤◌, ◌↔◌, List, [], ◌∷◌, ◌++◌, Option, length, drop, take, max, slice_set, IsTrue, IsFalse, IsSome, IsOk, IfOk, OnOk, OnErr};
 ghost use Rattle.bmx_mark.specs.Marks.{Marking, names_in, keys_in, is_marked, key_of, next_grey, AreNewTargets, Greys, Scans, AreApart, AreListed};
 ghost use Rattle.bmx_mark.specs.Reach.{IsReached, IsBetween};

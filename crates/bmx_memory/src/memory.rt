@@ -1,3 +1,4 @@
+//! What a node has of objects and registers, as its rules see it.
 ghost use Rattle.std.specs.Prelude.{◌≡◌, ℕ, ◌+◌, ◌<◌, ◌≤◌, true, false, Some, None, IsSome, IfSome, IsErrOf, OnOk, OnErr};
 ghost use Rattle.bmx_types.specs.declared.values.Val.TheVariants.{Null};
 ghost use Rattle.bmx_protocol.specs.Places.{no_places, is_full};

@@ -1,3 +1,4 @@
+//! Objects that are made, told, heard of and filled.
 use crate::Memory;
 use bmx_msg::{Fields, Msg};
 use bmx_segment::PlaceError;

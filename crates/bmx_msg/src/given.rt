@@ -1,3 +1,4 @@
+//! The names that a message gives, one by one.
 ghost use Rattle.std.specs.Prelude.{◌≡◌, [], ◌∷◌, ◌++◌, ◌+◌, ◌<◌, length, drop, IfNone, IfSome, option_to_list};
 ghost use Rattle.std.specs.Iterator.{YieldsFirst, item_count};
 ghost use Rattle.bmx_msg.specs.Letters.{targets, given};

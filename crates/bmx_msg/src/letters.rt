@@ -1,3 +1,4 @@
+//! Letters between nodes, as data.
 ghost use Rattle.std.specs.Prelude.{◌≡◌, IfOk};
 
 use bmx_types::{Info, Items, Name, NoMemory, NodeNo};

@@ -1,3 +1,4 @@
+//! The objects that node 0 opens with.
 ghost use Rattle.std.specs.Prelude.{◌≡◌, ℕ, ◌+◌, ◌<◌, ◌≤◌, length, Contains, All, OnOk, IfOk};
 ghost use Rattle.bmx_types.specs.Openings.{AreBirths, bunches_of};
 ghost use Rattle.bmx_types.specs.Updates.{put};

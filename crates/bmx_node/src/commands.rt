@@ -1,3 +1,4 @@
+//! A command of the node's program.
 ghost use Rattle.std.specs.Prelude.{◌+◌, ◌≤◌, ◌≡◌, ℕ, ◌<◌, ◌^◌, ◌∷◌, [], if◌then◌else◌, false, OnErr, IfOk};
 ghost use Rattle.bmx_graph.specs.Step.{IsPossible};
 ghost use Rattle.bmx_memory.specs.Shown.{shown};

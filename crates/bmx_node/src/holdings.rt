@@ -1,3 +1,4 @@
+//! What a node has: tokens, memory and mail, kept as one. Only here do they change.
 ghost use Rattle.std.specs.Prelude.{◌≡◌, ℕ, ◌+◌, ◌<◌, ◌≤◌, ◌^◌, ◌∷◌, [], if◌then◌else◌, not, length, map, filter_map, All, OnOk, OnErr, IfOk};
 ghost use Rattle.bmx_types.specs.declared.addresses.Info.{Info as InfoOf};
 ghost use Rattle.bmx_graph.specs.Step.{target_of};

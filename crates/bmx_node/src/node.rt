@@ -1,3 +1,4 @@
+//! A node: its public calls, and its one step.
 ghost use Rattle.std.specs.Prelude.{◌≡◌, ℕ, ◌+◌, ◌<◌, ◌≤◌, ◌^◌, max, false, length, slice_get, OnOk, OnErr, IfOk};
 ghost use Rattle.std.specs.Option.{option_map_or};
 ghost use Rattle.bmx_protocol.specs.Nodes.{Setting, AreAll, seen_graph};

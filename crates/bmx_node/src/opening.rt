@@ -1,3 +1,4 @@
+//! What a node has as the store opens.
 ghost use Rattle.std.specs.Prelude.{◌≡◌, ◌<◌, IfOk};
 ghost use Rattle.bmx_types.specs.Openings.{bunches_of};
 ghost use Rattle.bmx_protocol.specs.Steps.{first_node};

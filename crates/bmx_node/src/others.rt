@@ -1,3 +1,4 @@
+//! The tokens that a store opens with, and what a node other than node 0 has heard of.
 ghost use Rattle.std.specs.Prelude.{◌≡◌, ℕ, ◌<◌, ◌≤◌, if◌then◌else◌, length, filter, Some, None, IfOk};
 ghost use Rattle.std.specs.Option.{option_map};
 ghost use Rattle.bmx_types.specs.Openings.{bunches_of};

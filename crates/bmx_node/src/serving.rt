@@ -1,3 +1,4 @@
+//! A token that is served, and the grant that comes of it.
 ghost use Rattle.std.specs.Prelude.{◌≡◌, ℕ, ◌+◌, ◌≤◌, ◌++◌, List, true, length, IsSome, OnErr, IfOk};
 ghost use Rattle.bmx_mail.specs.Mails.{MailState, CanIssue};
 ghost use Rattle.bmx_token.specs.Transitions.{Serves};

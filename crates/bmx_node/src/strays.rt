@@ -1,3 +1,4 @@
+//! Which letters a node refuses to take. It changes nothing.
 ghost use Rattle.std.specs.Prelude.{◌≡◌, ◌==◌, ℕ, ◌+◌, nat_lt};
 ghost use Rattle.bmx_protocol.specs.Nodes.{Setting, NodeState};
 ghost use Rattle.bmx_protocol.specs.Strays.{is_no_node, is_no_name, is_bad_info, is_bad_msg, is_bad_letter};

@@ -1,3 +1,4 @@
+//! A letter that is taken.
 ghost use Rattle.std.specs.Prelude.{◌≡◌, ℕ, ◌+◌, ◌<◌, ◌≤◌, ◌^◌, ◌||◌, ◌∷◌, ◌++◌, [], if◌then◌else◌, true, false, length, map, filter_map, Some, IsSome, OnOk, OnErr, IfOk};
 ghost use Rattle.bmx_memory.specs.Shown.{shown};
 ghost use Rattle.bmx_protocol.specs.Nodes.{Setting, Known};

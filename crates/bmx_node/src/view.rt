@@ -1,3 +1,4 @@
+//! What a node shows of itself. It changes nothing.
 ghost use Rattle.std.specs.Prelude.{◌≡◌, ◌==◌, ℕ, ◌<◌, length, find, filter_map, map, slice_get, AllPairs, Option, Some, IsSome, is_some, IfOk};
 ghost use Rattle.std.specs.Option.{option_map, option_and_then};
 ghost use Rattle.bmx_memory.specs.Shown.{shown, Object, known_with};

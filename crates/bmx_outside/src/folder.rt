@@ -1,3 +1,4 @@
+//! The current folder as a shelf: the one file of the workspace that touches files.
 ghost use Rattle.std.specs.Prelude.{◌≡◌, None};
 
 use crate::shelves::{Shelf, ShelfError};

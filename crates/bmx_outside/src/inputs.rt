@@ -1,3 +1,4 @@
+//! Sources in memory, for tests of what reads.
 ghost use Rattle.std.specs.Prelude.{◌≡◌, ◌≤◌, ◌<◌, ◌↔◌, length, take, drop, Some, IfOk, OnErr, IsErr, IsOkAnd};
 ghost use Rattle.std.specs.Io.KnownBytes.{Consumes, IsAtEnd};
 ghost use Rattle.bmx_outside.specs.Memory.{IsNextToFail, after_fault, after_success, given_count};

@@ -1,3 +1,4 @@
+//! Shelves in memory, for tests of what keeps bytes.
 ghost use Rattle.std.specs.Prelude.{◌≡◌, ◌↔◌, ℕ, List, [], Some, IfOk, IfErr, IsErrOf, IsOkAnd, OnOk};
 ghost use Rattle.std.specs.Str.{bytes_eq};
 ghost use Rattle.std.specs.List.{position};

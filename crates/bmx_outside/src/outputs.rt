@@ -1,3 +1,4 @@
+//! Sinks in memory, for tests of what writes.
 ghost use Rattle.std.specs.Prelude.{◌≡◌, ◌<◌, ◌↔◌, [], ◌++◌, length, take, Some, IfOk, IfErr, IsErrOf, IsOkAnd};
 ghost use Rattle.bmx_outside.specs.Memory.{IsNextToFail, after_fault, after_success, taken_count};
 

@@ -1,3 +1,4 @@
+//! Which calls of a device in memory are to fail.
 ghost use Rattle.std.specs.Prelude.{◌≡◌, ◌↔◌, IsTrue, []};
 ghost use Rattle.bmx_outside.specs.Memory.{IsNextToFail, after_fault, after_success};
 

@@ -1,3 +1,4 @@
+//! Shelves in memory and a folder, and their failures.
 use crate::{Calls, DirShelf, MemShelf, NoFaultShelf, Shelf, ShelfError};
 use bmx_types::Items;
 use std::alloc::Global;

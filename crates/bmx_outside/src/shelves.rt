@@ -1,3 +1,4 @@
+//! What holds bytes under names, seen through one trait.
 ghost use Rattle.std.specs.Prelude.{◌≡◌, ℕ, ◌≤◌, List, Option, IfOk, IfSome, OnOk, IsErrOf};
 ghost use Rattle.bmx_outside.specs.Faults.{Rose};
 ghost use Rattle.bmx_outside.specs.Shelves.{IfTold, KeepsOthers, Stores};

@@ -1,3 +1,4 @@
+//! Writing bytes to what takes them. It touches the sink alone.
 ghost use Rattle.std.specs.Prelude.{◌≡◌, ℕ, ◌≤◌, ◌<◌, List, Option, Ok, length, take, IfOk, OnOk, OnErr, IsErrOf, IsOk};
 ghost use Rattle.std.specs.Io.KnownBytes.{Appends};
 ghost use Rattle.bmx_outside.specs.Faults.{Rose};

@@ -1,3 +1,4 @@
+//! Reading bytes from what gives them. It touches the source alone.
 ghost use Rattle.std.specs.Prelude.{◌≡◌, ℕ, ◌≤◌, ◌<◌, List, Option, Some, length, take, drop, IfOk, OnOk, OnErr, IsErrOf, IfSome, vec_len};
 ghost use Rattle.std.specs.Io.KnownBytes.{Consumes, IsAtEnd};
 ghost use Rattle.bmx_outside.specs.Faults.{Rose};

@@ -1,3 +1,4 @@
+//! The streams of the system as a source and a sink. No contract tells their bytes.
 ghost use Rattle.std.specs.Prelude.{◌≡◌, ◌≤◌, ◌<◌, ◌-◌, ◌^◌, length, None, IfOk, OnOk, OnErr, IfErr, IsErr};
 ghost use Rattle.bmx_outside.specs.Faults.{one_more};
 

@@ -1,3 +1,4 @@
+//! Devices that fail at each of their calls in turn.
 ghost use Rattle.std.specs.Prelude.{◌≤◌, IfOk, None};
 
 use crate::{

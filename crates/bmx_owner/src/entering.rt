@@ -1,3 +1,4 @@
+//! Which names a node gave to which other nodes. It knows nothing of tokens and letters.
 ghost use Rattle.std.specs.Prelude.{◌≡◌, ◌+◌, ◌^◌, ◌≤◌, ◌<◌, ◌↔◌, [], length, slice_get, Some, OnOk, OnErr, IfOk, IsTrue, MatchResult};
 ghost use Rattle.std.specs.List.Sorted.{IsStrictlyIncreasing};
 

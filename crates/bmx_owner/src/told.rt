@@ -1,3 +1,4 @@
+//! What a table says of records, and the walk that ends them.
 ghost use Rattle.std.specs.Prelude.{◌≡◌, ◌+◌, ◌<◌, ◌==◌, not, [], filter, count_by, length, IsFalse, MatchResult};
 ghost use Rattle.std.specs.List.{list_any};
 ghost use Rattle.std.specs.List.Sorted.{IsStrictlyIncreasing};

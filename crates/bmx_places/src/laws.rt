@@ -1,3 +1,4 @@
+//! The laws of where objects lie, each a public function with an empty body.
 ghost use Rattle.bmx_places.specs.Laws.{BlocksAreKept, OneShape, OnePlace, NoInfoClashes, NextIsTaken, NoLetterIsStray};
 ghost use Rattle.bmx_places.specs.Cases.{LawsTell};
 

@@ -1,3 +1,4 @@
+//! Events and histories, as data.
 use crate::inputs::{Done, Input};
 use bmx_types::{Items, NodeNo};
 

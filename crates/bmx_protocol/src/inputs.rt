@@ -1,3 +1,4 @@
+//! What a node is told, and what it answers, as data.
 use bmx_msg::Letter;
 use bmx_types::{Command, Items, Name, NodeNo, Refusal, Val};
 

@@ -1,3 +1,4 @@
+//! The laws of a node's step and of legal histories, each a public function with an empty body.
 ghost use Rattle.bmx_protocol.specs.Laws.{ToldIsDetermined, StepIsDetermined, RefusalKeeps, WaitKeeps, EmptyIsLegal, PrefixIsLegal, ReplayIsDetermined, StampIsWithinPlace, WorkedRunsAreLegal, IssuedIsCounted, StateHasOneView, ShownStepsAgree, ServedAreListed};
 
 /// The law that for each node and input there is what its rule is told beside the state, and that it is

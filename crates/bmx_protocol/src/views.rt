@@ -1,3 +1,4 @@
+//! What a node shows of itself, as data.
 use bmx_owner::RecordList;
 use bmx_token::{Queue, Role};
 use bmx_types::{BunchNo, Items, Mode, Name, NodeNo, NodeNos, Vals};

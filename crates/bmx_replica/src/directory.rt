@@ -1,3 +1,4 @@
+//! Where the object of a name lies. It knows nothing of words.
 ghost use Rattle.std.specs.Prelude.{◌≡◌, ◌+◌, ◌<◌, ◌≤◌, [], length, slice_get, IsSome, IsOk, OnOk, Some, None};
 ghost use Rattle.bmx_replica.specs.Slots.{slot_of};
 ghost use Rattle.bmx_replica.specs.Inside.Slots.{PutsSlot};

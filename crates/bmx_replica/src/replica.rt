@@ -1,3 +1,4 @@
+//! A node's objects by name: entries and heap, kept as one. Only here do they change.
 ghost use Rattle.std.specs.Prelude.{◌≡◌, ◌≢◌, ℕ, ◌+◌, ◌<◌, ◌≤◌, ◌↔◌, [], true, min, replicate, Some, None, IsTrue, IsOk, IsErrOf, IsSome, IsSomeAnd, IfSome, IfNone, OnOk, OnErr, All, length, map};
 ghost use Rattle.std.specs.Option.{option_map};
 ghost use Rattle.bmx_types.specs.Words.{home_of, segment_of, index_of};

@@ -1,3 +1,4 @@
+//! Objects that move, are forgotten and are lent segments.
 ghost use Rattle.std.specs.Prelude.{◌≡◌, ◌<◌};
 
 use crate::{LearnError, Replica, Word, Words};

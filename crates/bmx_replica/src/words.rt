@@ -1,3 +1,4 @@
+//! Values and registers as words.
 ghost use Rattle.std.specs.Prelude.{◌≡◌, ◌<◌, Some, length, replicate, slice_get, slice_set};
 ghost use Rattle.bmx_segment.specs.declared.headers.Kind.TheVariants.{Null};
 

@@ -1,3 +1,4 @@
+//! What may happen next, and which of it the seed picks. It changes nothing but the generator.
 ghost use Rattle.std.specs.Prelude.{◌≡◌, ℕ, ◌<◌, ◌≤◌, ◌^◌, length, slice_get, Some, IfSome};
 ghost use Rattle.bmx_types.specs.Openings.{bunches_of};
 ghost use Rattle.bmx_protocol.specs.Runs.Turns.{letter_actions, is_ready as is_ready_at, wanted_by};

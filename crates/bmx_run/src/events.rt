@@ -1,3 +1,4 @@
+//! An event: one step of one node, its letters sent, its line printed, and its place in the history.
 ghost use Rattle.std.specs.Prelude.{◌≡◌, ◌+◌, ◌<◌, ◌≤◌, ◌++◌, length, string_bytes, string_len, string_capacity, OnOk, OnErr};
 ghost use Rattle.bmx_protocol.specs.Nodes.{Setting};
 ghost use Rattle.bmx_script.specs.Printing.{line_text};

@@ -1,3 +1,4 @@
+//! A phase: event after event, until its commands are done and, where it asks so, no letter is on its way.
 ghost use Rattle.std.specs.Prelude.{◌≡◌, ◌+◌, length, IsTrue, ◌↔◌, OnOk, OnErr};
 ghost use Rattle.bmx_protocol.specs.Runs.Programs.{DoesStage};
 ghost use Rattle.bmx_run.specs.Inside.Running.{Point, store_of, history_of, IsAt, Draws, Turned, Halted};

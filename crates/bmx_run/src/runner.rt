@@ -1,3 +1,4 @@
+//! A run from its opening to its end: it owns nodes, letters, history and text, and nothing else changes them.
 ghost use Rattle.std.specs.Prelude.{◌≡◌, ℕ, ◌<◌, ◌^◌, List, [], length, Contains, IfOk};
 ghost use Rattle.bmx_memory.specs.Meaning.{MeansWhole};
 ghost use Rattle.bmx_node.specs.Stamped.{Stamped};

@@ -1,3 +1,4 @@
+//! What each node has to do in a phase. It knows nothing of nodes and letters.
 ghost use Rattle.std.specs.Prelude.{◌≡◌, ◌+◌, ◌<◌, ◌∷◌, ◌++◌, [], length, slice_get, false, OnOk, OnErr};
 ghost use Rattle.bmx_protocol.specs.Histories.{is_wait};
 ghost use Rattle.bmx_run.specs.Inside.Seats.{SeatAfter};

@@ -1,3 +1,4 @@
+//! What is known of a script before a line of it. It sees no bytes.
 ghost use Rattle.std.specs.Prelude.{◌≡◌, ◌++◌, OnOk, OnErr};
 ghost use Rattle.std.specs.List.{list_any, position_from};
 ghost use Rattle.bmx_script.specs.Grammar.{same_word, nothing_known, known_after, may_follow, section_of as section_of_lem};

@@ -1,3 +1,4 @@
+//! The laws of the language, each a public function with an empty body.
 ghost use Rattle.bmx_script.specs.Laws.{ReadingIsDetermined, PrefixIsEnough};
 
 /// The law that bytes have one reading: the lines of a script, or the first bad line and why. It does

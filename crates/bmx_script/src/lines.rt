@@ -1,3 +1,4 @@
+//! The lines of a script, as data.
 use bmx_types::{BunchNo, Command, Items, NodeNo, Text};
 
 /// How often a table is taken, and from which phase on.

@@ -1,3 +1,4 @@
+//! A line of output, made without memory.
 ghost use Rattle.std.specs.Prelude.{◌≡◌, ◌+◌, ◌≤◌, ◌++◌, ◌∷◌, [], length, true, IfOk};
 ghost use Rattle.bmx_numerals.specs.Numerals.{numeral, signed_numeral};
 ghost use Rattle.bmx_script.specs.Printing.{is_ascii, name_text, value_text, refusal_text, answer_text, line_text};

@@ -1,3 +1,4 @@
+//! A line's words, and what they say. It sees one line, and what is known before it.
 ghost use Rattle.std.specs.Prelude.{◌≡◌, ◌==◌, ◌≤◌, ◌<◌, length, map, true, IfOk, IfSome, IfNone};
 ghost use Rattle.std.specs.List.{list_all, slice_split};
 ghost use Rattle.bmx_numerals.specs.Words.{read_below};

@@ -1,3 +1,4 @@
+//! A whole script, read line by line.
 ghost use Rattle.std.specs.Prelude.{◌≡◌, ◌==◌, ◌≢◌, ◌+◌, ◌^◌, ◌<◌, ◌≤◌, [], ◌∷◌, length, IfOk, IfErr, IfSome, OnOk, Ok, Err};
 ghost use Rattle.std.specs.List.{position_from};
 ghost use Rattle.bmx_script.specs.Grammar.{AreScript, nodes_of, bunches_of, limit_of, lines_of, is_comment as is_comment_lem, is_long as is_long_lem, is_skipped as is_skipped_lem};

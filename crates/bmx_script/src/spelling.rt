@@ -1,3 +1,4 @@
+//! A script as text.
 ghost use Rattle.std.specs.Prelude.{◌≡◌, ◌-◌, [], ◌++◌, ◌∷◌, replicate, codes, string_bytes, IfOk, OnOk, Ok};
 ghost use Rattle.bmx_numerals.specs.Numerals.{numeral};
 ghost use Rattle.bmx_script.specs.Spelling.{word_of as word_of_lem, register_word, operand_word, verb_word, operand_words, from_words, fate_words, spaced, spelling, printed};

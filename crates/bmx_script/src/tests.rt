@@ -1,3 +1,4 @@
+//! Scripts that are read, and those that are refused at their first bad line.
 use crate::{
     Bad, BadCause, LineKind, ScriptError, Shown, print_line, print_script, read_script, shown_line,
 };

@@ -1,3 +1,4 @@
+//! What reading a line comes to, as data.
 use crate::lines::{BadCause, LineKind};
 
 /// What a line of a script comes to.

@@ -1,3 +1,4 @@
+//! An object's header as the word of its mark.
 ghost use Rattle.std.specs.Prelude.{◌≡◌, ℕ, ◌+◌, ◌*◌, ◌/◌, ◌%◌, ◌^◌, ◌<◌, ◌≤◌, ◌==◌, if◌then◌else◌};
 ghost use Rattle.bmx_segment.specs.declared.headers.Kind.{Kind as KindOf};
 ghost use Rattle.bmx_types.specs.Words.{IsName, IsAddress};

@@ -1,3 +1,4 @@
+//! The segments of one node: made, mapped, filled and dropped. Only here do they change.
 ghost use Rattle.std.specs.Prelude.{◌≡◌, ◌≢◌, ◌⊎◌, ℕ, ◌+◌, ◌-◌, ◌*◌, ◌^◌, ◌<◌, ◌≤◌, ◌↔◌, List, [], ◌∷◌, ◌++◌, length, slice_index, max, replicate, slice_set, IsTrue, IsOk, IsErr, IsSome, IsSomeAnd, IfOk, IfErr, IfSome, IfNone, IsOkAnd, IsErrOf, OnOk, OnErr, vec_len, Some, None, MatchOption, if◌then◌else◌, is_some, ◌==◌};
 ghost use Rattle.bmx_types.specs.Words.{home_of, segment_of, index_of, address_word};
 ghost use Rattle.std.specs.Vec.{vec_capacity};

@@ -1,3 +1,4 @@
+//! The mapped segments by home and number.
 ghost use Rattle.std.specs.Vec.{vec_capacity};
 ghost use Rattle.std.specs.Prelude.{◌≡◌, ◌≢◌, ℕ, ◌+◌, ◌-◌, ◌*◌, ◌^◌, ◌<◌, ◌≤◌, ◌↔◌, [], length, slice_index, slice_index_or, max, min, is_some, if◌then◌else◌, IsTrue, IsOk, IsSome, IfOk, IfNone, IfSome, OnOk, OnErr, Some, None, option_copied, MatchOption, vec_len};
 ghost use Rattle.std.specs.Option.{option_map};

@@ -1,3 +1,4 @@
+//! Places, headers and fields in segments.
 ghost use Rattle.std.specs.Prelude.{◌≡◌};
 
 use crate::{Clash, Header, Kind, PlaceError, Segments, State};

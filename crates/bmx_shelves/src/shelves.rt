@@ -1,3 +1,4 @@
+//! Items under keys, on numbered lists.
 ghost use Rattle.std.specs.Prelude.{◌≡◌, ◌≢◌, ℕ, ◌+◌, ◌^◌, ◌≤◌, ◌<◌, [], ◌∷◌, ◌++◌, length, take, drop, slice_get, IfOk, OnOk, OnErr, Some, None, IsOk};
 ghost use Rattle.bmx_ilist.specs.Sequences.{is_in_list, pushed};
 ghost use Rattle.bmx_shelves.specs.Shelves.{on_shelf};

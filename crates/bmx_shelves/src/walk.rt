@@ -1,3 +1,4 @@
+//! Taking items off a shelf in one walk.
 ghost use Rattle.std.specs.Prelude.{◌≡◌, ◌≢◌, ℕ, ◌+◌, ◌<◌, Bool, not, [], filter, count_by, length, IsFalse, IsTrue};
 ghost use Rattle.bmx_shelves.specs.Shelves.{on_shelf};
 

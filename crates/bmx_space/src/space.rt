@@ -1,3 +1,4 @@
+//! Where a collection moves objects to. It touches segments alone.
 ghost use Rattle.std.specs.Prelude.{◌≡◌, ℕ, ◌+◌, ◌-◌, ◌<◌, ◌≤◌, ◌↔◌, IsTrue, IsErrOf, OnOk, OnErr, Some, None};
 ghost use Rattle.bmx_segment.specs.declared.segments.PlaceError.TheVariants.{Full};
 ghost use Rattle.bmx_segment.specs.Heaps.{made_of, Makes, PlacesIn, CanSet};

@@ -1,3 +1,4 @@
+//! Dropping the segments that nothing needs. It touches segments alone.
 ghost use Rattle.std.specs.Prelude.{◌≡◌, ◌+◌, ◌<◌, ◌≤◌, ◌↔◌, IsTrue};
 ghost use Rattle.bmx_segment.specs.Stores.{segment_key};
 ghost use Rattle.bmx_space.specs.Sweeps.{IsUnneeded};

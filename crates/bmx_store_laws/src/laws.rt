@@ -1,3 +1,4 @@
+//! The laws of each object's token in a store, each a public function with an empty body.
 ghost use Rattle.bmx_store_laws.specs.Laws.{OneOwner, OneSeat, ReadersAreListed, WriteExcludes, WantsStandOnce, ParentsAnswer, ParentsLead, NamesAreCounted, LawsApply};
 
 /// The law that in every legal history each name that stands somewhere has one owner, a node of the store. It

@@ -1,3 +1,4 @@
+//! What one node tells another of a bunch, as a list of rows, and how it is made of what the node keeps.
 ghost use Rattle.std.specs.Prelude.{◌≡◌, ℕ, List, IfOk, slice_get};
 ghost use Rattle.bmx_types.specs.declared.names.Pair.{Pair};
 ghost use Rattle.bmx_table.specs.Tables.{own_alone};

@@ -1,3 +1,4 @@
+//! What calls on a token answer, as data.
 use crate::parts::Queue;
 use bmx_types::{NodeNo, NodeNos};
 

@@ -1,3 +1,4 @@
+//! Rising lists of nodes.
 ghost use Rattle.std.specs.Prelude.{◌≡◌, length, nat_lt, take_while, OnOk, OnErr};
 ghost use Rattle.bmx_token.specs.Nodes.{nodes_with, nodes_without};
 

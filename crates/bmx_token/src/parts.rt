@@ -1,3 +1,4 @@
+//! What a node keeps of one object's token, as data.
 ghost use Rattle.std.specs.Prelude.{◌≡◌, ℕ, ◌<◌, length, drop, IsTrue, IfOk, OnOk, OnErr, true, Some, None};
 ghost use Rattle.bmx_types.specs.declared.numbers.Mode.TheVariants.{Read, Write};
 ghost use Rattle.bmx_token.specs.declared.parts.Role.TheVariants.{Owner};

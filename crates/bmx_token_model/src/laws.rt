@@ -1,3 +1,4 @@
+//! The laws of one object's token, each a public function with an empty body.
 ghost use Rattle.bmx_token_model.specs.Laws.{ClearedIsUnneeded, EachOwesOneAnswer, EachWantIsPlaced, GiftsAreRecorded, IdleIsUnneeded, NoLetterIsStray, NobodyAsksItself, OwnershipIsOne, ParentsLeadToTheOwner, ReadersAreListed, TablesKeepTheLaws, TokensExclude, WhoIsAskedAnswers};
 
 /// The law that an object is nowhere or has one owner, whatever steps are taken from an opening. It

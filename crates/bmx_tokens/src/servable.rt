@@ -1,3 +1,4 @@
+//! Names in rising order, by binary search.
 ghost use Rattle.std.specs.Prelude.{◌≡◌, ◌↔◌, ◌+◌, ◌<◌, ◌≤◌, [], length, slice_get, Contains, OnOk, OnErr, IfSome, IfNone, true, false};
 ghost use Rattle.std.specs.List.Sorted.{IsStrictlyIncreasing};
 ghost use Rattle.bmx_token.specs.Nodes.{nodes_with as names_with, nodes_without as names_without};

@@ -1,3 +1,4 @@
+//! Names as they are served, and an owner that hands over.
 use crate::Tokens;
 use bmx_token::{Acquire, Part, Release, Requested, Revoked, Served};
 use bmx_types::{Mode, Name, NoMemory, NodeNo};

@@ -1,3 +1,4 @@
+//! A node's tokens by name. It knows nothing of words and letters.
 ghost use Rattle.std.specs.Prelude.{◌≡◌, ◌≤◌, ◌<◌, ◌+◌, ◌↔◌, ℕ, [], length, slice_get, Contains, Some, None, IsSome, IsTrue, OnOk, OnErr, IfOk, IfSome, IfNone};
 ghost use Rattle.std.specs.List.Sorted.{IsStrictlyIncreasing};
 ghost use Rattle.bmx_token.specs.Tokens.{acquire, release, serve, request, granted, inval, ack};

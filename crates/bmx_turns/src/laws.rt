@@ -1,3 +1,4 @@
+//! The laws of serial histories, each a public function with an empty body.
 ghost use Rattle.bmx_turns.specs.Cases.{CrossedWritersAreStuck};
 ghost use Rattle.bmx_turns.specs.Laws.{SerialFollowsItsScript, SerialEndsFirst, StuckRunsNot, StuckEndsTurns};
 

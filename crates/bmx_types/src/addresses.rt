@@ -1,3 +1,4 @@
+//! Addresses of words, and what is told of an object's place.
 ghost use Rattle.std.specs.Prelude.{◌≡◌, ℕ, ◌+◌, ◌*◌, ◌/◌, ◌%◌, ◌^◌, ◌≤◌, ◌<◌, ◌↔◌, IsSome, IfSome};
 ghost use Rattle.bmx_types.specs.Words.{address_word, home_of, segment_of, index_of, IsAddress};
 

@@ -1,3 +1,4 @@
+//! Commands of programs, as data.
 use crate::numbers::BunchNo;
 
 /// What a command names: a register from 0 to 15, a bunch's anchor, a number or null.

@@ -1,3 +1,4 @@
+//! Lists and bytes, as data.
 ghost use Rattle.std.specs.Prelude.{◌≡◌, ℕ, List, [], ◌∷◌, ◌++◌, ◌<◌, length, take, IsOk, IfOk, OnOk, OnErr, slice_get, slice_set, insert, remove, Some, IsTrue, ◌↔◌, ◌≤◌};
 ghost use Rattle.std.specs.Slice.Iter.{iter_rest};
 

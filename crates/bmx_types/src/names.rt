@@ -1,3 +1,4 @@
+//! Names of objects.
 ghost use Rattle.std.specs.Prelude.{◌≡◌, ℕ, ◌+◌, ◌*◌, ◌/◌, ◌%◌, ◌^◌, ◌≤◌, ◌<◌, ◌↔◌, IsSome, IfSome};
 ghost use Rattle.bmx_types.specs.Words.{maker, count_of, IsName, name_word};
 

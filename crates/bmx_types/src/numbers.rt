@@ -1,3 +1,4 @@
+//! Nodes, bunches and modes by their numbers, and the want of memory.
 ghost use Rattle.std.specs.Prelude.{◌≡◌, ℕ, ◌≤◌, ◌<◌, ◌↔◌, IsSome, IfSome};
 
 use crate::lists::Items;

@@ -1,3 +1,4 @@
+//! What a store opens with, as data.
 ghost use Rattle.bmx_types.specs.Openings.{IsOpening};
 
 use crate::lists::Items;

@@ -1,3 +1,4 @@
+//! Texts, as data.
 ghost use Rattle.std.specs.Prelude.{◌≡◌, ℕ, List, [], ◌++◌, length, string_bytes, OnOk, OnErr, IfOk, Some};
 
 use crate::numbers::NoMemory;

@@ -1,3 +1,4 @@
+//! What fields and registers hold, as data.
 use crate::lists::Items;
 use crate::names::Name;
 

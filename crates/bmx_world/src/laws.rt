@@ -1,3 +1,4 @@
+//! Every law of histories that is proved so far, each a public function with an empty body.
 ghost use Rattle.bmx_world.specs.Promises.{EveryHistoryKeepsOneStore};
 ghost use Rattle.bmx_protocol.specs.Laws.{ToldIsDetermined, StepIsDetermined, RefusalKeeps, WaitKeeps, StateHasOneView, ShownStepsAgree, EmptyIsLegal, PrefixIsLegal, ReplayIsDetermined, StampIsWithinPlace, IssuedIsCounted, ServedAreListed, WorkedRunsAreLegal};
 ghost use Rattle.bmx_store_laws.specs.Laws.{OneOwner, OneSeat, WriteExcludes, ReadersAreListed, WantsStandOnce, ParentsAnswer, ParentsLead, NamesAreCounted, LawsApply as TokenLawsApply};

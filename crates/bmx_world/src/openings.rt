@@ -1,3 +1,4 @@
+//! What the store of a script opens with.
 ghost use Rattle.std.specs.Prelude.{◌≡◌, ◌<◌, ◌≤◌, replicate, IfOk};
 ghost use Rattle.bmx_node.specs.Openings.{setting_of};
 ghost use Rattle.bmx_world.specs.Scripts.{anchor_size, anchor_birth, anchors as anchors_lem, setting_of_script};

@@ -1,3 +1,4 @@
+//! What a program answers, as data.
 use crate::runs::Run;
 use crate::statuses::Status;
 

@@ -1,3 +1,4 @@
+//! A run of a script, and how it ended, as data.
 use bmx_node::Node;
 use bmx_protocol::History;
 use bmx_script::Script;

@@ -1,3 +1,4 @@
+//! How a program ends: its line on standard error, and its exit code.
 ghost use Rattle.std.specs.Prelude.{◌≡◌, Some, IfOk};
 ghost use Rattle.std.specs.Process.{exit_status};
 ghost use Rattle.bmx_world.specs.Statuses.{code_of, line_of, cause_word as cause_word_lem};

@@ -1,3 +1,4 @@
+//! What a script opens, what a history prints, and how each status is told.
 use crate::{Status, has_refusal, opening, text};
 use bmx_protocol::{Done, Event, History, Input, NodeAnswer};
 use bmx_script::{Bad, BadCause, Script, read_script};

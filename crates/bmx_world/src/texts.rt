@@ -1,3 +1,4 @@
+//! What a history prints.
 ghost use Rattle.std.specs.Prelude.{◌≡◌, ℕ, List, IfOk, OnOk};
 ghost use Rattle.bmx_protocol.specs.Runs.Programs.{completion};
 ghost use Rattle.bmx_world.specs.Texts.{printed_of, is_refusal as is_refusal_lem, has_refusal as has_refusal_lem, text_of};

@@ -1,3 +1,4 @@
+//! References within a bunch and out of it.
 use crate::{count_pairs, must_grey, on_store};
 use bmx_msg::{Field, Fields};
 use bmx_types::{Address, BunchNo, Info, Items, Name, NodeNo, Place};

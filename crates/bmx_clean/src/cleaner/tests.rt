@@ -1,3 +1,4 @@
+//! Tables that come early, and whose scions a table ends.
 ghost use Rattle.std.specs.Prelude.{◌≡◌, ◌≤◌, [], IfOk};
 
 use crate::{Applied, apply};

@@ -1,3 +1,4 @@
+//! Keys that leave a list and move to another.
 ghost use Rattle.std.specs.Prelude.{◌≡◌, ℕ, ◌<◌, length, IsTrue, IfOk, OnOk};
 ghost use Rattle.bmx_ilist.specs.Sequences.{is_in_list};
 

@@ -1,3 +1,4 @@
+//! Pairs as they are stored, kept and ended.
 ghost use Rattle.std.specs.Prelude.{◌==◌, ◌&&◌};
 
 use crate::{Inter, Scion, Stub};

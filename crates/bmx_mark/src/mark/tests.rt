@@ -1,3 +1,4 @@
+//! Marks over a small graph, step by step.
 ghost use Rattle.std.specs.Prelude.{◌≡◌, ◌+◌, ◌≤◌, ◌<◌, ◌==◌, ◌&&◌, ◌||◌, [], ◌∷◌, length, Some, None, IfOk, if◌then◌else◌};
 
 use crate::{Edges, Mark};

@@ -1,3 +1,4 @@
+//! Records as they grow, and as tables end them.
 ghost use Rattle.std.specs.Prelude.{◌≡◌, ◌≤◌, IfOk, []};
 
 use crate::{Record, Records};

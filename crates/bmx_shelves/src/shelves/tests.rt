@@ -1,3 +1,4 @@
+//! Items on shelves, in their order.
 ghost use Rattle.std.specs.Prelude.{◌≡◌, ◌+◌, ◌≤◌, ◌<◌, length, IfOk};
 ghost use Rattle.bmx_shelves.specs.Shelves.{on_shelf};
 

@@ -1,3 +1,4 @@
+//! How many segments hold so many words.
 use crate::Space;
 use bmx_segment::{PlaceError, Segments};
 use bmx_types::{BunchNo, NodeNo};

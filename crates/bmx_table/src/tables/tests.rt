@@ -1,3 +1,4 @@
+//! What a table lists of rows by hand.
 ghost use Rattle.std.specs.Prelude.{◌≡◌, ℕ, List, [], ◌==◌, if◌then◌else◌, slice_get};
 
 use crate::{Rows, snapshot};
