@@ -1,6 +1,7 @@
 -- What a node answers a command the graph may answer, and what the command changes at the node it changes in the graph.
-use Rattle.std.proofs.Common.{◌≡◌, ◌≢◌, ℕ, ℤ, refl, ap, sym, subst, ◌∙◌, Bool, true, false, cond, List, [], ◌∷◌, ◌++◌}
-use Rattle.std.specs.Prelude.{◌==◌, Option, Some, None, is_some, unwrap_or, slice_get}
+use Rattle.std.proofs.Common.{◌≡◌, ℕ, ℤ, refl, ap, sym, subst, ◌∙◌, Bool, true, false, cond, List, [], ◌∷◌, map}
+use Rattle.std.specs.Prelude.{Option, Some, None, is_some, unwrap_or, slice_get}
+use Rattle.std.specs.Option.{option_map}
 use Rattle.bmx_types.specs.declared.values.Val.{Val}
 use Rattle.bmx_types.specs.declared.values.Val.TheVariants as val
 use Rattle.bmx_types.specs.declared.numbers.Mode.{Mode}
@@ -19,14 +20,13 @@ use Rattle.bmx_graph.specs.declared.effects.Effect.TheVariants.{Nothing, Makes a
 use Rattle.bmx_graph.specs.declared.answers.Answer.{Answer}
 use Rattle.bmx_graph.specs.declared.answers.Answer.TheVariants as graph
 use Rattle.bmx_graph.specs.Inside.Parts.{is_excluded}
-use Rattle.bmx_token.specs.Transitions.{Share, Note, Asks, Grants, Recalls, Returns, Send, Transition, Operation, Acquires, Releases, Serves, silently, saying, transition_of}
+use Rattle.bmx_token.specs.Transitions.{Share, Note, Asks, Grants, Send, Transition, Operation, Acquires, Releases, silently, saying, transition_of}
+use Rattle.bmx_protocol.specs.declared.views.ViewField.{ViewField}
 use Rattle.bmx_protocol.specs.declared.inputs.NodeAnswer.{NodeAnswer}
 use Rattle.bmx_protocol.specs.declared.inputs.NodeAnswer.TheVariants as answer
 use Rattle.bmx_protocol.specs.Nodes.{NodeState, Known, fields_known, value_in, seen_graph, share_of}
-use Rattle.bmx_protocol.specs.Changes.{Change, Knows, after_changes}
-use Rattle.bmx_protocol.specs.Rules.{Draft, Reaction, only, refused, message, drafts_of, info_of, told_fields, grant_in, with_share, operation_answer, after_operation, operation_rule, next_name, new_object, graph_changes, answered, graph_rule, token_rule, knows, command_rule, about}
-use Rattle.bmx_msg.specs.declared.letters.Field.{Field}
-use Rattle.bmx_types.specs.declared.addresses.Info.{Info}
+use Rattle.bmx_protocol.specs.Changes.{Knows, after_changes}
+use Rattle.bmx_protocol.specs.Rules.{Draft, Reaction, refused, message, drafts_of, info_of, told_fields, grant_in, with_share, operation_answer, after_operation, operation_rule, next_name, new_object, graph_changes, answered, graph_rule, token_rule, knows, command_rule, about}
 use Rattle.bmx_protocol.proofs.Basics.{eqb_same, put_same}
 use Rattle.bmx_store_laws.proofs.Copies.{NoGrants}
 use Rattle.bmx_token_model.specs.Machine.{is_grant}
@@ -41,26 +41,17 @@ Ungranting (d ∷ drafts) = (grant_in d.msg ≡ None) × Ungranting drafts
 
 -- a store is of an object that the node holds for writing
 abbrev pub IsOwnStore : ℕ → State → Effect → Type 0
-IsOwnStore me g Nothing = Unit {0}
-IsOwnStore me g (MakesOne register bunch size) = Unit {0}
-IsOwnStore me g (SetsOne register v) = Unit {0}
 IsOwnStore me g (Stores name index v) = g.held me name ≡ Some mode.Write
-IsOwnStore me g (Holds name hold) = Unit {0}
+IsOwnStore me g _ = Unit {0}
 
 -- an effect that makes a name leaves it known
 abbrev pub NamesIt : ℕ → NodeState → NodeState → Effect → Type 0
-NamesIt me s t Nothing = Unit {0}
 NamesIt me s t (MakesOne register bunch size) = is_some (t.known (next_name me s)) ≡ true
-NamesIt me s t (SetsOne register v) = Unit {0}
-NamesIt me s t (Stores name index v) = Unit {0}
-NamesIt me s t (Holds name hold) = Unit {0}
+NamesIt me s t _ = Unit {0}
 
 effect_names : (me : ℕ) (s : NodeState) (e : Effect) → NamesIt me s (after_changes s (graph_changes me s e)) e
-effect_names me s Nothing = tt
 effect_names me s (MakesOne register bunch size) = ap (λ (k : Option Known). is_some k) (put_same s.known (next_name me s) (Some (new_object bunch size)))
-effect_names me s (SetsOne register v) = tt
-effect_names me s (Stores name index v) = tt
-effect_names me s (Holds name hold) = tt
+effect_names me s _ = tt
 
 -- a reaction to a command is a step of the graph, with an effect
 pub record IsShown (me : ℕ) (s : NodeState) (g : State) (c : Command) (o : Reaction) : Type 0 where
@@ -79,9 +70,6 @@ abbrev pub IsAbout : Command → Operand → Type 0
 IsAbout c on = on_of c ≡ Some on
   where
     on_of : Command → Option Operand
-    on_of (command.New register bunch size) = None
-    on_of (command.Copy register value) = None
-    on_of (command.Drop register) = None
     on_of (command.Read on) = Some on
     on_of (command.Write on) = Some on
     on_of (command.Done on) = Some on
@@ -89,7 +77,7 @@ IsAbout c on = on_of c ≡ Some on
     on_of (command.Add on index by) = Some on
     on_of (command.Get register on index) = Some on
     on_of (command.Show on index) = Some on
-    on_of (command.Same left right) = None
+    on_of _ = None
 
 -- what a command finds at its node
 pub record IsSteady (me : ℕ) (s : NodeState) (g : State) : Type 0 where
@@ -101,12 +89,9 @@ pub record IsSteady (me : ℕ) (s : NodeState) (g : State) : Type 0 where
 
 -- it wasn't refused, and needn't wait
 abbrev IsDone : Answer → Type 0
-IsDone graph.Nil = Unit {0}
-IsDone (graph.Value v) = Unit {0}
-IsDone graph.Yes = Unit {0}
-IsDone graph.No = Unit {0}
 IsDone graph.Wait = ⊥
 IsDone (graph.Refused why) = ⊥
+IsDone _ = Unit {0}
 
 -- the graph may answer what it answers itself
 abbrev MayItself : Command → Type 0
@@ -117,12 +102,10 @@ notes_ungranting s lies name [] none = tt
 notes_ungranting s lies name (n ∷ sends) none = (by_note n.note none.0, notes_ungranting s lies name sends none.1)
   where
     by_note : (n : Note) → is_grant n ≡ false → grant_in (message (info_of s lies name) (told_fields s lies name) n) ≡ None
-    by_note (Asks mode.Read asker) e = refl
-    by_note (Asks mode.Write asker) e = refl
     by_note (Grants mode.Read) e = absurd cc
     by_note (Grants mode.Write) e = absurd cc
-    by_note Recalls e = refl
-    by_note Returns e = refl
+    by_note (Asks mode.Read asker) e = refl
+    by_note _ e = refl
 
 module _ (me : ℕ) (s : NodeState) (g : State) (steady : IsSteady me s g) where
   abbrev h : State
@@ -130,9 +113,7 @@ module _ (me : ℕ) (s : NodeState) (g : State) (steady : IsSteady me s g) where
 
   value_same : (on : Operand) → value_of h me on ≡ value_of g me on
   value_same (operand.Register r) = (λ i. cond (eqb_same me i) (s.register r) val.Null) ∙ steady.part.register r
-  value_same (operand.Anchor b) = refl
-  value_same (operand.Int k) = refl
-  value_same operand.Null = refl
+  value_same _ = refl
 
   pub target_same : (on : Operand) → target_of h me on ≡ target_of g me on
   target_same on = ap reference (value_same on)
@@ -142,26 +123,21 @@ module _ (me : ℕ) (s : NodeState) (g : State) (steady : IsSteady me s g) where
 
   -- of what it holds it sees the fields
   fields_same : (x : ℕ) → is_some (g.held me x) ≡ true → fields_of h x ≡ fields_of g x
-  fields_same x holds = by_known (s.known x) refl
+  fields_same x holds = by_known (s.known x) refl (ap (λ (m : Option Mode). is_some m) (steady.part.held x) ∙ holds)
     where
-      unheld : s.known x ≡ None → is_some (g.held me x) ≡ true → ⊥
-      unheld is holds = (let both : false ≡ true = ap (λ (k : Option Known). is_some (held_of k)) (sym is) ∙ ap (λ (m : Option Mode). is_some m) (steady.part.held x) ∙ holds in cc)
+      by_copy : (k : Known) → s.known x ≡ Some k → (c : Option (List ViewField)) → k.copy ≡ c → is_some c ≡ true → fields_of h x ≡ fields_of g x
+      by_copy k is None has some = absurd cc
+      by_copy k is (Some c) has some =
+          let shown : fields_known (s.known x) ≡ Some (map value_in c) = ap fields_known is ∙ ap (λ (o : Option (List ViewField)). option_map (map value_in) o) has in
+          ap (λ (o : Option (List Val)). unwrap_or o []) (shown ∙ sym (steady.part.copies x (map value_in c) shown))
 
-      by_copy : (k : Known) → s.known x ≡ Some k → (held : Option Mode) → k.part.held ≡ held → is_some held ≡ true → fields_of h x ≡ fields_of g x
-      by_copy k is None at some = absurd cc
-      by_copy k is (Some m) at some = copied k.copy refl (steady.copied x k m is at)
-        where
-          copied : (copy : Option (List _)) → k.copy ≡ copy → is_some copy ≡ true → fields_of h x ≡ fields_of g x
-          copied None has some = absurd cc
-          copied (Some fields) has some =
-              ap (λ (j : Option Known). unwrap_or (fields_known j) []) is ∙ (λ i. unwrap_or (fields_known (Some (record k { copy = has i }))) [])
-              ∙ sym (ap (λ (o : Option (List Val)). unwrap_or o [])
-              (steady.part.copies x _ (ap fields_known is ∙ (λ i. fields_known (Some (record k { copy = has i }))))))
+      by_held : (k : Known) → s.known x ≡ Some k → (m : Option Mode) → k.part.held ≡ m → is_some m ≡ true → fields_of h x ≡ fields_of g x
+      by_held k is None at some = absurd cc
+      by_held k is (Some m) at some = by_copy k is k.copy refl (steady.copied x k m is at)
 
-      by_known : (k : Option Known) → s.known x ≡ k → fields_of h x ≡ fields_of g x
-      by_known None is = absurd (unheld is holds)
-      by_known (Some k) is = by_copy k is k.part.held refl
-          (ap (λ (j : Option Known). is_some (held_of j)) (sym is) ∙ ap (λ (m : Option Mode). is_some m) (steady.part.held x) ∙ holds)
+      by_known : (k : Option Known) → s.known x ≡ k → is_some (held_of k) ≡ true → fields_of h x ≡ fields_of g x
+      by_known None is some = absurd cc
+      by_known (Some k) is some = by_held k is k.part.held refl some
 
   -- ## reactions that change nothing
 
@@ -220,16 +196,9 @@ module _ (me : ℕ) (s : NodeState) (g : State) (steady : IsSteady me s g) where
       by_target (Some x) is = subst (λ (b : Bool). IsShown me s g c (cond b (graph_rule me s c) (refused refusal.Empty))) (sym (ap (knows s) (target_same on ∙ is) ∙ aware x is))
           (graph_shown c itself (some x is).0 (some x is).1)
 
-  -- an answer by the fields of what is held, or else
-  by_hold : (b : Bool) (x : ℕ) → (b ≡ true → is_some (g.held me x) ≡ true) → (F : List Val → Answer) (other : Answer) →
-      cond b (F (fields_of h x)) other ≡ cond b (F (fields_of g x)) other
-  by_hold true x holds F other = ap F (fields_same x (holds refl))
-  by_hold false x holds F other = refl
-
   writes : (hold : Option Mode) → is_writer hold ≡ true → hold ≡ Some mode.Write
-  writes None e = absurd cc
-  writes (Some mode.Read) e = absurd cc
   writes (Some mode.Write) e = refl
+  writes _ e = absurd cc
 
   write_some : (hold : Option Mode) → is_writer hold ≡ true → is_some hold ≡ true
   write_some hold e = ap (λ (m : Option Mode). is_some m) (writes hold e)
@@ -260,22 +229,25 @@ module _ (me : ℕ) (s : NodeState) (g : State) (steady : IsSteady me s g) where
     seen : target_of h me on ≡ Some x
     seen = target_same on ∙ is
 
+    -- an answer by a test of how it is held, and by its fields
+    tested_same : (test : Option Mode → Bool) → ((m : Option Mode) → test m ≡ true → is_some m ≡ true) → (F : List Val → Answer) →
+        cond (test (h.held me x)) (F (fields_of h x)) (graph.Refused refusal.NoToken) ≡ cond (test (g.held me x)) (F (fields_of g x)) (graph.Refused refusal.NoToken)
+    tested_same test some F = ap (λ (m : Option Mode). cond (test m) (F (fields_of h x)) (graph.Refused refusal.NoToken)) (held_same x) ∙ by_test (test (g.held me x)) (some (g.held me x))
+      where
+        by_test : (b : Bool) → (b ≡ true → is_some (g.held me x) ≡ true) → cond b (F (fields_of h x)) (graph.Refused refusal.NoToken) ≡ cond b (F (fields_of g x)) (graph.Refused refusal.NoToken)
+        by_test true holds = ap F (fields_same x (holds refl))
+        by_test false holds = refl
+
     set_same : (index : ℕ) → set_answer h me (target_of h me on) index ≡ set_answer g me (target_of g me on) index
-    set_same index = ap (λ (t : Option ℕ). set_answer h me t index) seen
-        ∙ (λ i. cond (is_writer (held_same x i)) (set_at (slice_get (fields_of h x) index)) (graph.Refused refusal.NoToken))
-        ∙ by_hold (is_writer (g.held me x)) x (write_some (g.held me x)) (λ l. set_at (slice_get l index)) (graph.Refused refusal.NoToken)
+    set_same index = ap (λ (t : Option ℕ). set_answer h me t index) seen ∙ tested_same is_writer write_some (λ l. set_at (slice_get l index))
         ∙ sym (ap (λ (t : Option ℕ). set_answer g me t index) is)
 
     add_same : (index : ℕ) (by : ℤ) → add_answer h me (target_of h me on) index by ≡ add_answer g me (target_of g me on) index by
-    add_same index by = ap (λ (t : Option ℕ). add_answer h me t index by) seen
-        ∙ (λ i. cond (is_writer (held_same x i)) (add_at (slice_get (fields_of h x) index) by) (graph.Refused refusal.NoToken))
-        ∙ by_hold (is_writer (g.held me x)) x (write_some (g.held me x)) (λ l. add_at (slice_get l index) by) (graph.Refused refusal.NoToken)
+    add_same index by = ap (λ (t : Option ℕ). add_answer h me t index by) seen ∙ tested_same is_writer write_some (λ l. add_at (slice_get l index) by)
         ∙ sym (ap (λ (t : Option ℕ). add_answer g me t index by) is)
 
     get_same : (index : ℕ) → get_answer h me (target_of h me on) index ≡ get_answer g me (target_of g me on) index
-    get_same index = ap (λ (t : Option ℕ). get_answer h me t index) seen
-        ∙ (λ i. cond (is_some (held_same x i)) (get_at (slice_get (fields_of h x) index)) (graph.Refused refusal.NoToken))
-        ∙ by_hold (is_some (g.held me x)) x (λ e. e) (λ l. get_at (slice_get l index)) (graph.Refused refusal.NoToken)
+    get_same index = ap (λ (t : Option ℕ). get_answer h me t index) seen ∙ tested_same (λ m. is_some m) (λ m e. e) (λ l. get_at (slice_get l index))
         ∙ sym (ap (λ (t : Option ℕ). get_answer g me t index) is)
 
     field_same : (index : ℕ) → is_some (g.held me x) ≡ true → field_at h (target_of h me on) index ≡ field_at g (target_of g me on) index
@@ -328,6 +300,22 @@ module _ (me : ℕ) (s : NodeState) (g : State) (steady : IsSteady me s g) where
   transition_holds : (x : ℕ) (k : Known) (b : Share) (hold : Option Mode) → s.known x ≡ Some k → b.part.held ≡ hold →
       IsPart me (after_changes s (Knows x (with_share k k.copy b) ∷ [])) (changed g me (Holds x hold))
   transition_holds x k b hold is held = part_holds me s g x (with_share k k.copy b) hold held (copy_same x k b is) steady.part
+
+  -- what is shown where an operand means nothing, and of what is known where it means it, is shown of what it comes to
+  token_shown : (Shows : Reaction → Type 0) (act : Operation) (on : Operand) (lies : ℕ → Place) → ((x : ℕ) → target_of g me on ≡ Some x → is_some (s.known x) ≡ true) →
+      (target_of g me on ≡ None → Shows (refused refusal.Empty)) →
+      ((x : ℕ) (k : Known) → target_of g me on ≡ Some x → s.known x ≡ Some k →
+      Shows (after_operation s lies x k (operation_answer me act (share_of k)) (transition_of me act (share_of k)))) →
+      Shows (token_rule me s lies act (target_of h me on))
+  token_shown Shows act on lies aware none some = subst (λ (t : Option ℕ). Shows (token_rule me s lies act t)) (sym (target_same on)) (by_target (target_of g me on) refl)
+    where
+      by_known : (x : ℕ) → target_of g me on ≡ Some x → (k : Option Known) → s.known x ≡ k → is_some k ≡ true → Shows (operation_rule me s lies act (answer.Refused refusal.Empty) x k)
+      by_known x is None known knows = absurd cc
+      by_known x is (Some k) known knows = some x k is known
+
+      by_target : (t : Option ℕ) → target_of g me on ≡ t → Shows (token_rule me s lies act t)
+      by_target None is = none is
+      by_target (Some x) is = by_known x is (s.known x) refl (aware x is)
 
   -- read and write
   abbrev pub takes : Mode → Operand → Command
@@ -420,19 +408,10 @@ module _ (me : ℕ) (s : NodeState) (g : State) (steady : IsSteady me s g) where
 
   take_shown : (m : Mode) (on : Operand) (lies : ℕ → Place) → ((x : ℕ) → target_of g me on ≡ Some x → is_some (s.known x) ≡ true) → IsUncrossed m on →
       IsFree m on (token_rule me s lies (Acquires m) (target_of h me on)) → IsShown me s g (takes m on) (token_rule me s lies (Acquires m) (target_of h me on))
-  take_shown m on lies aware uncrossed = by_target (target_of g me on) refl
-    where
-      Shown : Reaction → Type 0
-      Shown o = IsFree m on o → IsShown me s g (takes m on) o
-
-      by_known : (x : ℕ) → target_of g me on ≡ Some x → (k : Option Known) → s.known x ≡ k → is_some k ≡ true → Shown (operation_rule me s lies (Acquires m) (answer.Refused refusal.Empty) x k)
-      by_known x is None known some = absurd cc
-      by_known x is (Some k) known some = taking_shown m on lies x k (transition_of me (Acquires m) (share_of k)) (operation_answer me (Acquires m) (share_of k)) is known uncrossed (acquiring me m (share_of k))
-
-      by_target : (t : Option ℕ) → target_of g me on ≡ t → Shown (token_rule me s lies (Acquires m) (target_of h me on))
-      by_target None is = subst (λ (t : Option ℕ). Shown (token_rule me s lies (Acquires m) t)) (sym (target_same on ∙ is))
-          (λ free. refused_shown (takes m on) refusal.Empty (subst (λ (a : Answer). MayAnswer (takes m on) a (graph.Refused refusal.Empty)) (sym (empty_answer m on is)) (refusal_fits m on refusal.Empty)))
-      by_target (Some x) is = subst (λ (t : Option ℕ). Shown (token_rule me s lies (Acquires m) t)) (sym (target_same on ∙ is)) (by_known x is (s.known x) refl (aware x is))
+  take_shown m on lies aware uncrossed = token_shown (λ o. IsFree m on o → IsShown me s g (takes m on) o) (Acquires m) on lies aware
+      (λ is free. refused_shown (takes m on) refusal.Empty
+      (subst (λ (a : Answer). MayAnswer (takes m on) a (graph.Refused refusal.Empty)) (sym (empty_answer m on is)) (refusal_fits m on refusal.Empty)))
+      (λ x k is known. taking_shown m on lies x k _ _ is known uncrossed (acquiring me m (share_of k)))
 
   -- done
   giving_shown : (on : Operand) (lies : ℕ → Place) (x : ℕ) (k : Known) (o : Option Transition) (a : NodeAnswer) → target_of g me on ≡ Some x → s.known x ≡ Some k →
@@ -460,17 +439,9 @@ module _ (me : ℕ) (s : NodeState) (g : State) (steady : IsSteady me s g) where
 
   give_shown : (on : Operand) (lies : ℕ → Place) → ((x : ℕ) → target_of g me on ≡ Some x → is_some (s.known x) ≡ true) →
       IsShown me s g (command.Done on) (token_rule me s lies Releases (target_of h me on))
-  give_shown on lies aware = by_target (target_of g me on) refl
-    where
-      by_known : (x : ℕ) → target_of g me on ≡ Some x → (k : Option Known) → s.known x ≡ k → is_some k ≡ true →
-          IsShown me s g (command.Done on) (operation_rule me s lies Releases (answer.Refused refusal.Empty) x k)
-      by_known x is None known some = absurd cc
-      by_known x is (Some k) known some = giving_shown on lies x k (transition_of me Releases (share_of k)) (operation_answer me Releases (share_of k)) is known (releasing me (share_of k))
-
-      by_target : (t : Option ℕ) → target_of g me on ≡ t → IsShown me s g (command.Done on) (token_rule me s lies Releases (target_of h me on))
-      by_target None is = subst (λ (t : Option ℕ). IsShown me s g (command.Done on) (token_rule me s lies Releases t)) (sym (target_same on ∙ is))
-          (refused_shown (command.Done on) refusal.Empty (sym (ap (done_answer g me) is)))
-      by_target (Some x) is = subst (λ (t : Option ℕ). IsShown me s g (command.Done on) (token_rule me s lies Releases t)) (sym (target_same on ∙ is)) (by_known x is (s.known x) refl (aware x is))
+  give_shown on lies aware = token_shown (IsShown me s g (command.Done on)) Releases on lies aware
+      (λ is. refused_shown (command.Done on) refusal.Empty (sym (ap (done_answer g me) is)))
+      (λ x k is known. giving_shown on lies x k _ _ is known (releasing me (share_of k)))
 
   -- ## each command
 

@@ -1,39 +1,57 @@
 -- Each law applies to runs worked by hand, and tells them from the same with one outcome changed.
 use Rattle.std.proofs.Common.{◌≡◌, ℕ, ◌<◌, arith, refl, ap, sym, subst, ◌∙◌, Bool, true, false, cond, List, [], ◌∷◌, replicate, drop, length, zero, suc}
-use Rattle.std.specs.Prelude.{◌==◌, ◌&&◌, nat_lt, Option, Some, None, IsSome, is_some}
+use Rattle.std.specs.Prelude.{◌==◌, ◌&&◌, nat_lt, Option, Some, None, is_some, slice_get, IfSome, ◌↔◌}
+use Rattle.std.specs.Option.{option_map, option_map_or}
+use Rattle.bmx_types.specs.Updates.{put}
+use Rattle.bmx_types.specs.declared.openings.Birth.{Birth}
+use Rattle.bmx_types.specs.declared.commands.Refusal.TheVariants as refusal
+use Rattle.bmx_types.specs.declared.commands.Command.TheVariants as command
+use Rattle.bmx_token.specs.Transitions.{can_serve}
+use Rattle.bmx_protocol.specs.declared.inputs.NodeAnswer.TheVariants as answer
+use Rattle.bmx_protocol.specs.Nodes.{Known, first_known, birth_of, is_anchor, owned_birth, heard_birth}
+use Rattle.bmx_protocol.specs.Places.{is_full}
+use Rattle.bmx_protocol.specs.Histories.{in_flight, waits_with, taken}
+use Rattle.bmx_protocol.specs.Runs.Programs.{CanServe}
+use Rattle.bmx_protocol.specs.Runs.Turns.{is_ready}
 use Rattle.bmx_types.specs.declared.values.Val.{Val}
 use Rattle.bmx_types.specs.declared.values.Val.TheVariants as val
+use Rattle.bmx_types.specs.declared.numbers.Mode.{Mode}
 use Rattle.bmx_types.specs.declared.numbers.Mode.TheVariants as mode
 use Rattle.bmx_types.specs.declared.commands.Command.{Command}
 use Rattle.bmx_graph.specs.declared.answers.Answer.TheVariants as graph
-use Rattle.bmx_graph.specs.State.{State}
 use Rattle.bmx_msg.specs.declared.letters.Field.TheVariants as msg_field
+use Rattle.bmx_msg.specs.declared.letters.Letter.{Letter}
 use Rattle.bmx_protocol.specs.Steps.{first_node}
 use Rattle.bmx_protocol.specs.Worlds.{world_of, IsCurrent}
-use Rattle.bmx_protocol.specs.Cases.{anchor, the_anchor, told_of_the_object, written_by_its_taker}
+use Rattle.bmx_protocol.specs.Cases.{Play, anchor, the_anchor, told_of_the_object, written_by_its_taker}
+use Rattle.bmx_protocol.proofs.Basics.{some_same, none_some, Two, Same, Apart, two, put_apart}
 use Rattle.bmx_store_laws.proofs.Applied.{laws_apply}
 use Rattle.bmx_coherence.specs.Graphs.{graph_after}
 use Rattle.bmx_coherence.specs.Waits.{WaitsFor, WantsAreWaitedFor}
 use Rattle.bmx_coherence.specs.Copies.{AreCurrent, TargetsAreKnown}
+use Rattle.bmx_coherence.specs.Stuck.{IsStuck, IsHeldElsewhere, StuckNamesHolders}
 use Rattle.bmx_coherence.specs.Laws.{IsGraphRun, HasGraph}
-use Rattle.bmx_coherence.specs.Cases.{store, old_fields, read_while_written, never_made, granted, granted_of_old}
+use Rattle.bmx_coherence.specs.Cases.{store, old_fields, read_while_written, never_made, granted, granted_of_old, waiting, never_asked}
 use Rattle.bmx_coherence.specs.Telling.{LawsTell, WrongRulesBreak}
+use Rattle.bmx_coherence.proofs.Parts.{held_of, put_each}
 use Rattle.bmx_coherence.specs.Wrong.{three, hastily_granted, deafly_taken, rashly_dropped}
+use Rattle.bmx_coherence.proofs.Histories.{held_first}
 
 no_run : IsGraphRun store read_while_written → ⊥
 no_run r = (let both : graph.Nil ≡ graph.Wait = r.run.1.1.0 in cc)
 
 -- the first field refers to an object
 refers : Option (List Val) → Bool
-refers None = false
-refers (Some []) = false
-refers (Some (val.Null ∷ fields)) = false
-refers (Some (val.Int k ∷ fields)) = false
 refers (Some (val.Ref x ∷ fields)) = true
+refers _ = false
 
 no_graph : HasGraph (world_of granted.nodes granted_of_old) (graph_after store granted_of_old) → ⊥
 unfolding refers
 no_graph h = (let both : true ≡ false = ap refers (h.grants 0 1 old_fields.letter the_anchor (replicate 32 msg_field.Null) (0, omega arith, refl) refl) in cc)
+
+not_full : IfSome (slice_get never_made 0)
+    (λ e. (e.done.answer ≡ answer.Refused refusal.Full) ↔ (is_full store.limit (first_node store e.node).places 0 1 ≡ true)) → ⊥
+not_full f = (let both : false ≡ true = f.0 refl in cc)
 
 not_current : AreCurrent store (world_of told_of_the_object.nodes never_made) (graph_after store never_made) → ⊥
 not_current c =
@@ -50,14 +68,109 @@ not_waited i =
     let both : false ≡ true = ap (λ (c : Option Command). is_some c) w.waits in
     cc
 
+-- ## stuck nodes
+
+-- what holds of the two nodes, and of every other number
+at_nodes : (P : ℕ → Type 0) → P 0 → P 1 → ((n : ℕ) → (0 == n) ≡ false → (1 == n) ≡ false → P n) → (n : ℕ) → P n
+at_nodes P first second other n = by_two (two 0 n) (two 1 n)
+  where
+    by_two : Two 0 n → Two 1 n → P n
+    by_two (Same e) q = subst P e first
+    by_two (Apart h d) (Same e) = subst P e second
+    by_two (Apart h d) (Apart k f) = other n h k
+
+drop_none : (k : ℕ) → drop {A = Letter} k [] ≡ []
+drop_none zero = refl
+drop_none (suc k) = refl
+
+-- something is known whose queue can be served at a node
+abbrev serves : ℕ → Option Known → Bool
+serves n k = option_map_or (λ j. can_serve n j.part) k false
+
+-- once the anchor is known anew, nothing can be served where it can't be then, and nothing else could be
+idle_put : (n : ℕ) (known : ℕ → Option Known) (k : Known) → serves n (Some k) ≡ false → ((x : ℕ) → (1 == x) ≡ false → serves n (known x) ≡ false) →
+    (x : ℕ) → serves n (put known 1 (Some k) x) ≡ false
+idle_put n known k here else = put_each (λ x j. serves n j ≡ false) known 1 (Some k) here else
+
+idle_else : (n : ℕ) (known : ℕ → Option Known) (k : Option Known) → ((x : ℕ) → (1 == x) ≡ false → serves n (known x) ≡ false) →
+    (x : ℕ) → (1 == x) ≡ false → serves n (put known 1 k x) ≡ false
+idle_else n known k else x h = ap (serves n) (put_apart known 1 x k h) ∙ else x h
+
+idle_first : (x : ℕ) → (serves 0 (first_known store 0 x) ≡ false) × (serves 1 (first_known store 1 x) ≡ false)
+idle_first x = (owned (birth_of store x), heard (is_anchor store x) (birth_of store x))
+  where
+    owned : (b : Option Birth) → serves 0 (option_map owned_birth b) ≡ false
+    owned None = refl
+    owned (Some b) = refl
+
+    heard : (t : Bool) (b : Option Birth) → serves 1 (cond t (option_map heard_birth b) None) ≡ false
+    heard false b = refl
+    heard true None = refl
+    heard true (Some b) = refl
+
+idle_in : (p : Play) → ((x : ℕ) → serves 0 ((p.nodes 0).state.known x) ≡ false) → ((x : ℕ) → serves 1 ((p.nodes 1).state.known x) ≡ false) →
+    (n x : ℕ) → n < 2 → CanServe n (p.nodes n).state x → ⊥
+idle_in p first second zero x below serves = (let both : false ≡ true = sym (first x) ∙ serves in cc)
+idle_in p first second (suc zero) x below serves = (let both : false ≡ true = sym (second x) ∙ serves in cc)
+idle_in p first second (suc (suc n)) x below serves = omega (arith, below)
+
+stuck : IsStuck store (world_of written_by_its_taker.nodes written_by_its_taker.past) written_by_its_taker.past
+stuck = record {
+  no_letter = none;
+  no_serve = idle_in written_by_its_taker (idle_put _ _ _ refl (idle_else _ _ _ (idle_else _ _ _ (λ x _. (idle_first x).0))))
+      (idle_put _ _ _ refl (idle_else _ _ _ (idle_else _ _ _ (idle_else _ _ _ (λ x _. (idle_first x).1)))));
+  not_ready = unready;
+}
+  where
+    none : (n m : ℕ) → in_flight n m written_by_its_taker.past ≡ []
+    none = at_nodes (λ n. (m : ℕ) → in_flight n m written_by_its_taker.past ≡ [])
+        (at_nodes (λ m. in_flight 0 m written_by_its_taker.past ≡ []) refl refl (λ m h k. rw (h, k) refl))
+        (at_nodes (λ m. in_flight 1 m written_by_its_taker.past ≡ []) refl refl (λ m h k. rw (h, k) refl))
+        (λ n h k m. rw (h, k) (drop_none _))
+
+    unready : (n : ℕ) (c : Command) → n < 2 → waits_with n None written_by_its_taker.past ≡ Some c → is_ready n (written_by_its_taker.nodes n).state c ≡ false
+    unready zero c below waits = subst (λ (d : Command). is_ready 0 (written_by_its_taker.nodes 0).state d ≡ false) (some_same waits) refl
+    unready (suc zero) c below waits = none_some waits
+    unready (suc (suc n)) c below waits = absurd (omega (arith, below))
+
+-- node 1 waits for the anchor, and nobody holds it
+no_holder : StuckNamesHolders store (world_of waiting.nodes never_asked) never_asked → ⊥
+no_holder named = unheld (named (record { no_letter = none; no_serve = idle; not_ready = unready }) 1 mode.Write 1 (omega arith)
+    (record { command = command.Write anchor; operand = anchor; waits = refl; takes = refl; means = refl }))
+  where
+    empty : (b : Bool) → cond {A = List Letter} b [] [] ≡ []
+    empty true = refl
+    empty false = refl
+
+    none : (n m : ℕ) → in_flight n m never_asked ≡ []
+    none n m = ap (drop (length (taken n m never_asked))) (empty (1 == n)) ∙ drop_none (length (taken n m never_asked))
+
+    idle : (n x : ℕ) → n < 2 → CanServe n (waiting.nodes n).state x → ⊥
+    idle = idle_in waiting (λ x. (idle_first x).0) (idle_put _ _ _ refl (λ x _. (idle_first x).1))
+
+    unready : (n : ℕ) (c : Command) → n < 2 → waits_with n None never_asked ≡ Some c → is_ready n (waiting.nodes n).state c ≡ false
+    unready zero c below waits = none_some waits
+    unready (suc zero) c below waits = subst (λ (d : Command). is_ready 1 (waiting.nodes 1).state d ≡ false) (some_same waits) refl
+    unready (suc (suc n)) c below waits = absurd (omega (arith, below))
+
+    held_by : (n : ℕ) → is_some (held_of ((waiting.nodes n).state.known 1)) ≡ false
+    held_by = put_each (λ n node. is_some (held_of (node.state.known 1)) ≡ false) (first_node store) 1 (waiting.nodes 1) refl
+        (λ n _. ap (λ (m : Option Mode). is_some m) (held_first (birth_of store 1) (n == 0) (nat_lt n 2 && is_anchor store 1)))
+
+    unheld : IsHeldElsewhere (world_of waiting.nodes never_asked) 1 1 → ⊥
+    unheld h = (let both : false ≡ true = sym (held_by h.holder) ∙ ap (λ (k : Option Known). is_some (held_of k)) h.knows ∙ h.holds in cc)
+
 pub laws_tell : LawsTell
 laws_tell = record {
   apply = laws_apply;
+  stuck = (stuck, record { command = command.Read anchor; operand = anchor; waits = refl; takes = refl; means = refl });
   run = no_run;
+  full = not_full;
   graph = no_graph;
   current = not_current;
   targets = not_known;
   waits = not_waited;
+  holders = no_holder;
 }
 
 -- ## wrong rules

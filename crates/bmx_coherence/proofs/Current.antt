@@ -1,39 +1,33 @@
 -- Each name that stands somewhere has its current copy at its owner, and so has each name that was made and each that
 -- is reached; what copies and letters refer to is known.
-use Rattle.std.proofs.Common.{◌≡◌, ◌≢◌, ◌⊎◌, inl, inr, ℕ, ◌+◌, ◌<◌, ◌≤◌, arith, refl, ap, sym, subst, ◌∙◌, Bool, true, false, cond, List, [], ◌∷◌, map, zero, suc}
-use Rattle.std.specs.Prelude.{◌==◌, ◌||◌, Contains, Option, Some, None, IsSome, is_some, unwrap_or, filter_map}
+use Rattle.std.proofs.Common.{◌≡◌, ℕ, ◌<◌, ◌≤◌, arith, refl, ap, sym, subst, ◌∙◌, Bool, true, false, List, [], ◌∷◌, map, zero, suc}
+use Rattle.std.specs.Prelude.{◌==◌, ◌||◌, Contains, Option, Some, None, IsSome, is_some, unwrap_or}
 use Rattle.std.specs.Option.{option_map}
-use Rattle.std.specs.List.{list_any}
 use Rattle.bmx_types.specs.Words.{name_word, anchor_of}
-use Rattle.bmx_types.specs.Openings.{bunches_of}
 use Rattle.bmx_types.specs.declared.values.Val.{Val}
 use Rattle.bmx_types.specs.declared.values.Val.TheVariants as val
-use Rattle.bmx_types.specs.declared.addresses.Info.{Info}
-use Rattle.bmx_graph.specs.State.{State, fields_of}
+use Rattle.bmx_graph.specs.State.{State}
 use Rattle.bmx_graph.specs.Reached as Reached
 use Rattle.bmx_msg.specs.declared.letters.Field.{Field}
 use Rattle.bmx_msg.specs.declared.letters.Field.TheVariants as msg_field
 use Rattle.bmx_msg.specs.declared.letters.Letter.{Letter}
 use Rattle.bmx_msg.specs.declared.letters.Msg.{Msg}
-use Rattle.bmx_msg.specs.declared.letters.Msg.TheVariants as msg
-use Rattle.bmx_msg.specs.Letters.{target_of, targets, given}
+use Rattle.bmx_msg.specs.Letters.{targets, given}
 use Rattle.bmx_owner.specs.declared.entering.Record.{Record}
-use Rattle.bmx_token.specs.declared.parts.Role.TheVariants as role
-use Rattle.bmx_token_model.specs.Machine.{Message, Numbers, gives}
+use Rattle.bmx_token_model.specs.Machine.{Numbers}
 use Rattle.bmx_token_model.specs.Laws.{RecordsAreKept}
-use Rattle.bmx_token_model.proofs.Readers.{one_or_more}
 use Rattle.bmx_token_model.proofs.Stated.{gifts_are_recorded}
 use Rattle.bmx_protocol.specs.declared.events.Event.{Event}
 use Rattle.bmx_protocol.specs.declared.views.ViewField.{ViewField}
 use Rattle.bmx_protocol.specs.declared.views.ViewField.TheVariants as field
-use Rattle.bmx_protocol.specs.Nodes.{Setting, NodeState, Known, fields_known, value_in}
-use Rattle.bmx_protocol.specs.Rules.{heard_field, grant_in}
+use Rattle.bmx_protocol.specs.Nodes.{Setting, Known, fields_known, value_in}
+use Rattle.bmx_protocol.specs.Rules.{grant_in}
 use Rattle.bmx_protocol.specs.Steps.{Node}
 use Rattle.bmx_protocol.specs.Histories.{in_flight}
 use Rattle.bmx_protocol.specs.Worlds.{World, world_of, Kept, Sent, IsCurrent, names_in, IsSomewhere, At, Between, IsReached}
 use Rattle.bmx_store_laws.specs.Laws.{IsSeated}
 use Rattle.bmx_store_laws.specs.Laws as seated
-use Rattle.bmx_store_laws.specs.Inside.Seen.{has_name, seen, seen_known, seen_record, seen_message, seen_note, tells_of}
+use Rattle.bmx_store_laws.specs.Inside.Seen.{has_name, seen, seen_known, seen_record, seen_message}
 use Rattle.bmx_protocol.proofs.Basics.{eqb_of}
 use Rattle.bmx_store_laws.proofs.Sends.{notes_give}
 use Rattle.bmx_store_laws.proofs.Ruled.{HasNo}
@@ -42,7 +36,7 @@ use Rattle.bmx_store_laws.proofs.Owners.{HandsAmong, among}
 use Rattle.bmx_store_laws.proofs.Lifted.{one_seat}
 use Rattle.bmx_coherence.specs.Graphs.{graph_after}
 use Rattle.bmx_coherence.specs.Copies.{HasRecord}
-use Rattle.bmx_coherence.proofs.Moments.{came, sound}
+use Rattle.bmx_coherence.proofs.Moments.{came, sound, knows_it}
 use Rattle.bmx_coherence.proofs.Transitions.{values_told}
 use Rattle.bmx_coherence.proofs.Events.{Stands}
 
@@ -51,59 +45,42 @@ use Rattle.bmx_coherence.proofs.Events.{Stands}
 -- a reference among values is one among fields
 refers_in : (fields : List ViewField) (y : ℕ) → HasNo y fields → Contains (map value_in fields) (val.Ref y) → ⊥
 refers_in [] y none c = omega (arith, c.1)
-refers_in (f ∷ fields) y none c = by_place (one_or_more (value_in f) (map value_in fields) (val.Ref y) c) (refers_in fields y none.1)
+refers_in (f ∷ fields) y none (zero, below, here) = none.0 (is_ref f here)
   where
     is_ref : (f : ViewField) → value_in f ≡ val.Ref y → f ≡ field.Ref y
-    is_ref field.Null e = absurd cc
-    is_ref (field.Int k) e = absurd cc
     is_ref (field.Ref name) e = (let same : name ≡ y = cc in ap (λ (z : ℕ). field.Ref z) same)
-
-    by_place : (value_in f ≡ val.Ref y) ⊎ Contains (map value_in fields) (val.Ref y) → (Contains (map value_in fields) (val.Ref y) → ⊥) → ⊥
-    by_place (inl here) rest = none.0 (is_ref f here)
-    by_place (inr there) rest = rest there
+    is_ref _ e = absurd cc
+refers_in (f ∷ fields) y none (suc k, below, there) = refers_in fields y none.1 (k, omega arith, there)
 
 no_field : (fields : List ViewField) (y : ℕ) → HasNo y fields → Contains fields (field.Ref y) → ⊥
 no_field [] y none c = omega (arith, c.1)
-no_field (f ∷ fields) y none c = by_place (one_or_more f fields (field.Ref y) c) (no_field fields y none.1)
-  where
-    by_place : (f ≡ field.Ref y) ⊎ Contains fields (field.Ref y) → (Contains fields (field.Ref y) → ⊥) → ⊥
-    by_place (inl here) rest = none.0 here
-    by_place (inr there) rest = rest there
+no_field (f ∷ fields) y none (zero, below, here) = none.0 here
+no_field (f ∷ fields) y none (suc k, below, there) = no_field fields y none.1 (k, omega arith, there)
 
 -- and among the fields of a letter it is one of their targets
 told_in : (fields : List Field) (y : ℕ) → Contains (values_told fields) (val.Ref y) → Contains (targets fields) y
 told_in [] y c = absurd (omega (arith, c.1))
-told_in (f ∷ fields) y c = by_field f (one_or_more (value_in (heard_field f)) (values_told fields) (val.Ref y) c) (told_in fields y)
-  where
-    by_field : (f : Field) → (value_in (heard_field f) ≡ val.Ref y) ⊎ Contains (values_told fields) (val.Ref y) → (Contains (values_told fields) (val.Ref y) → Contains (targets fields) y) →
-        Contains (targets (f ∷ fields)) y
-    by_field msg_field.Null (inl e) rest = absurd cc
-    by_field msg_field.Null (inr there) rest = rest there
-    by_field (msg_field.Int k) (inl e) rest = absurd cc
-    by_field (msg_field.Int k) (inr there) rest = rest there
-    by_field (msg_field.Ref info) (inl e) rest = (let same : info.name ≡ y = cc in (0, omega arith, same))
-    by_field (msg_field.Ref info) (inr there) rest = (let c : Contains (targets fields) y = rest there in (suc c.0, omega (arith, c.1), c.2))
+told_in (msg_field.Ref info ∷ fields) y (zero, below, e) = (let same : info.name ≡ y = cc in (0, omega arith, same))
+told_in (msg_field.Ref info ∷ fields) y (suc k, below, e) =
+    (let c : Contains (targets fields) y = told_in fields y (k, omega arith, e) in (suc c.0, omega (arith, c.1), c.2))
+told_in (f ∷ fields) y (zero, below, e) = absurd cc
+told_in (f ∷ fields) y (suc k, below, e) = told_in fields y (k, omega arith, e)
 
 has_it : (y : ℕ) (names : List ℕ) → Contains names y → has_name y names ≡ true
 has_it y [] c = absurd (omega (arith, c.1))
-has_it y (z ∷ names) c = by_place (one_or_more z names y c) (has_it y names)
+has_it y (z ∷ names) (zero, below, here) = λ i. eqb_of here i || has_name y names
+has_it y (z ∷ names) (suc k, below, there) = (λ i. (z == y) || has_it y names (k, omega arith, there) i) ∙ or_true (z == y)
   where
     or_true : (b : Bool) → (b || true) ≡ true
     or_true true = refl
     or_true false = refl
 
-    by_place : (z ≡ y) ⊎ Contains names y → (Contains names y → has_name y names ≡ true) → has_name y (z ∷ names) ≡ true
-    by_place (inl here) rest = λ i. eqb_of here i || has_name y names
-    by_place (inr there) rest = (λ i. (z == y) || rest there i) ∙ or_true (z == y)
-
 seen_in : (x : ℕ) (letters : List Letter) (l : Letter) → Contains letters l → Contains (map (seen_message x) letters) (seen_message x l)
 seen_in x [] l c = absurd (omega (arith, c.1))
-seen_in x (k ∷ letters) l c = by_place (one_or_more k letters l c) (seen_in x letters l)
-  where
-    by_place : (k ≡ l) ⊎ Contains letters l → (Contains letters l → Contains (map (seen_message x) letters) (seen_message x l)) →
-        Contains (map (seen_message x) (k ∷ letters)) (seen_message x l)
-    by_place (inl here) rest = (0, omega arith, ap (seen_message x) here)
-    by_place (inr there) rest = (let c : Contains (map (seen_message x) letters) (seen_message x l) = rest there in (suc c.0, omega (arith, c.1), c.2))
+seen_in x (k ∷ letters) l (zero, below, here) = (0, omega arith, ap (seen_message x) here)
+seen_in x (k ∷ letters) l (suc i, below, there) =
+    (let c : Contains (map (seen_message x) letters) (seen_message x l) = seen_in x letters l (i, omega arith, there) in
+    (suc c.0, omega (arith, c.1), c.2))
 
 -- ## current copies
 
@@ -129,11 +106,8 @@ module _ (st : Setting) (past : List Event) (nodes : ℕ → Node) (stands : Sta
   -- what a copy refers to is known
   pub target_known : (n x y : ℕ) (k : Known) (fields : List ViewField) → n < st.nodes → (nodes n).state.known x ≡ Some k → k.copy ≡ Some fields →
       (HasNo y fields → ⊥) → is_some ((nodes n).state.known y) ≡ true
-  target_known n x y k fields below is has refers = by_known ((nodes n).state.known y) refl
-    where
-      by_known : (j : Option Known) → (nodes n).state.known y ≡ j → is_some j ≡ true
-      by_known (Some j) at = refl
-      by_known None at = absurd (refers (subst (λ (c : Option (List ViewField)). HasNo y (unwrap_or c [])) has (((came st past nodes stands.now y).aware n below (ap seen_known at)).0.fields x k is)))
+  target_known n x y k fields below is has refers = knows_it ((nodes n).state.known y) (λ at.
+      refers (subst (λ (c : Option (List ViewField)). HasNo y (unwrap_or c [])) has (((came st past nodes stands.now y).aware n below (ap seen_known at)).0.fields x k is)))
 
   pub target_refers : (n x y : ℕ) (k : Known) (fields : List ViewField) → n < st.nodes → (nodes n).state.known x ≡ Some k → k.copy ≡ Some fields →
       Contains fields (field.Ref y) → IsSome ((nodes n).state.known y)
@@ -180,16 +154,10 @@ module _ (st : Setting) (past : List Event) (nodes : ℕ → Node) (stands : Sta
   -- ## names reached
 
   reached_stands : (x : ℕ) → IsReached st g x → IsSomewhere st w x
-  reached_stands x (Reached.InRegister n r below few refers) = by_known ((nodes n).state.known x) refl
-    where
-      by_known : (k : Option Known) → (nodes n).state.known x ≡ k → IsSomewhere st w x
-      by_known (Some k) is = At n k below is
-      by_known None is = absurd (((came st past nodes stands.now x).aware n below (ap seen_known is)).0.registers r ((stands.parts n).register r ∙ refers))
-  reached_stands x (Reached.Anchor b below) = by_known ((nodes 0).state.known (anchor_of b)) refl
-    where
-      by_known : (k : Option Known) → (nodes 0).state.known (anchor_of b) ≡ k → IsSomewhere st w (anchor_of b)
-      by_known (Some k) is = At 0 k stands.now.opening.a_node is
-      by_known None is = absurd (((came st past nodes stands.now (anchor_of b)).aware 0 stands.now.opening.a_node (ap seen_known is)).1 b below refl)
+  reached_stands x (Reached.InRegister n r below few refers) = known_there n x below (knows_it ((nodes n).state.known x) (λ is.
+      ((came st past nodes stands.now x).aware n below (ap seen_known is)).0.registers r ((stands.parts n).register r ∙ refers)))
+  reached_stands x (Reached.Anchor b below) = known_there 0 (anchor_of b) stands.now.opening.a_node (knows_it ((nodes 0).state.known (anchor_of b)) (λ is.
+      ((came st past nodes stands.now (anchor_of b)).aware 0 stands.now.opening.a_node (ap seen_known is)).1 b below refl))
   reached_stands y (Reached.InField x reached refers) =
       let here : IsWhole x = whole x (reached_stands x reached) in
       here.targets_stand y (subst (λ (o : Option (List Val)). Contains (unwrap_or o []) (val.Ref y)) here.current.in_graph refers)

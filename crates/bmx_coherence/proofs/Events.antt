@@ -1,7 +1,7 @@
 -- What stands after one more event of a legal history: nodes are parts of the graph, grants in flight bring its fields,
 -- wants are waited for, and the commands so far are a run.
-use Rattle.std.proofs.Common.{◌≡◌, ◌≢◌, ◌⊎◌, inl, inr, ℕ, ◌+◌, ◌^◌, ◌<◌, ◌≤◌, arith, refl, ap, sym, subst, ◌∙◌, Bool, true, false, cond, not, List, [], ◌∷◌, ◌++◌, map, length, zero, suc}
-use Rattle.std.specs.Prelude.{◌==◌, ◌&&◌, ◌||◌, nat_le, Contains, Option, Some, None, IsSome, IfSome, is_some, count_by, slice_get, filter_map}
+use Rattle.std.proofs.Common.{◌≡◌, ◌⊎◌, inl, inr, ℕ, ◌+◌, ◌≤◌, arith, refl, ap, sym, subst, ◌∙◌, Bool, true, false, cond, not, List, [], ◌∷◌, ◌++◌, map, length, zero, suc}
+use Rattle.std.specs.Prelude.{◌==◌, ◌&&◌, ◌||◌, nat_le, Contains, Option, Some, None, IsSome, IfSome, is_some, slice_get}
 use Rattle.std.specs.Option.{option_map, option_map_or, option_and_then}
 use Rattle.std.specs.List.{flat_map, cons_option}
 use Rattle.std.proofs.lemmas.List.{append-nil}
@@ -10,24 +10,22 @@ use Rattle.bmx_types.specs.Words.{name_word}
 use Rattle.bmx_types.specs.declared.values.Val.{Val}
 use Rattle.bmx_types.specs.declared.numbers.Mode.{Mode}
 use Rattle.bmx_types.specs.declared.numbers.Mode.TheVariants as mode
-use Rattle.bmx_types.specs.declared.addresses.Info.{Info}
 use Rattle.bmx_types.specs.declared.addresses.Place.{Place}
 use Rattle.bmx_types.specs.declared.commands.Operand.{Operand}
 use Rattle.bmx_types.specs.declared.commands.Command.{Command}
 use Rattle.bmx_types.specs.declared.commands.Command.TheVariants as command
 use Rattle.bmx_graph.specs.State.{State, opening_state}
 use Rattle.bmx_types.specs.Updates.{put}
-use Rattle.bmx_graph.specs.Step.{target_of, is_writer, changed, state_after, state_after_all, Act, IsAnswer, IsRun}
+use Rattle.bmx_graph.specs.Step.{target_of, changed, state_after, state_after_all, Act, IsRun}
 use Rattle.bmx_graph.specs.declared.effects.Effect.{Effect}
-use Rattle.bmx_graph.specs.declared.effects.Effect.TheVariants.{Nothing, Makes as MakesOne, Sets as SetsOne, Stores, Holds}
+use Rattle.bmx_graph.specs.declared.effects.Effect.TheVariants.{Nothing, Makes as MakesOne}
 use Rattle.bmx_graph.specs.Inside.Parts.{excludes, is_excluded}
 use Rattle.bmx_graph.proofs.Excluded.{is_excluded-none}
 use Rattle.bmx_graph.specs.declared.answers.Answer.{Answer}
-use Rattle.bmx_msg.specs.declared.letters.Field.{Field}
 use Rattle.bmx_msg.specs.declared.letters.Letter.{Letter}
 use Rattle.bmx_msg.specs.declared.letters.Msg.{Msg}
 use Rattle.bmx_msg.specs.declared.letters.Msg.TheVariants as msg
-use Rattle.bmx_token.specs.Transitions.{Share, Note, Asks, Grants, Recalls, Returns, Send, Transition, Serves, note_transition}
+use Rattle.bmx_token.specs.Transitions.{Transition, Serves, note_transition}
 use Rattle.bmx_protocol.specs.declared.inputs.Input.{Input}
 use Rattle.bmx_protocol.specs.declared.inputs.Input.TheVariants as input
 use Rattle.bmx_protocol.specs.declared.inputs.NodeAnswer.{NodeAnswer}
@@ -37,27 +35,25 @@ use Rattle.bmx_protocol.specs.declared.inputs.Done.{Done}
 use Rattle.bmx_protocol.specs.declared.events.Event.{Event}
 use Rattle.bmx_protocol.specs.declared.views.ViewField.{ViewField}
 use Rattle.bmx_protocol.specs.Nodes.{Setting, NodeState, Known, fields_known, value_in, seen_graph, share_of}
-use Rattle.bmx_protocol.specs.Changes.{Change, after_changes, with_step}
-use Rattle.bmx_protocol.specs.Rules.{Draft, Reaction, only, heard_field, name_in, note_in, grant_in, with_share, operation_rule, copy_after, took, take_rule, next_name, command_rule, about}
+use Rattle.bmx_protocol.specs.Changes.{after_changes, with_step}
+use Rattle.bmx_protocol.specs.Rules.{Draft, Reaction, only, name_in, note_in, operation_rule, copy_after, took, take_rule, command_rule, about}
 use Rattle.bmx_protocol.specs.Strays.{too_large, is_no_node, is_bad_msg, is_bad_letter}
-use Rattle.bmx_protocol.specs.Steps.{Node, command_in, letter_in, Told, rule, numbered, letters_of, sent_changes, closed, IsStep}
+use Rattle.bmx_protocol.specs.Steps.{Node, command_in, rule, numbered, letters_of, sent_changes, closed, IsStep}
 use Rattle.bmx_protocol.specs.Histories.{letters_to, issued, arrived, in_flight, IsNext, is_wait, waits_after, waits_with, IsAgain, IsCommandOf, IsInputOf, IsOperandOf, Fits}
-use Rattle.bmx_protocol.specs.Worlds.{world_of}
-use Rattle.bmx_protocol.proofs.Changing.{after_append, Each}
+use Rattle.bmx_protocol.proofs.Changing.{after_append}
 use Rattle.bmx_store_laws.specs.Inside.Seen.{seen_known}
-use Rattle.bmx_protocol.proofs.Basics.{eqb_is, eqb_not, eqb_of, eqb_apart, Two, Same, Apart, two, put_same}
-use Rattle.bmx_store_laws.proofs.Copies.{NoGrants, GrantsNothing, note_grants}
+use Rattle.bmx_protocol.proofs.Basics.{eqb_is, eqb_not, eqb_of, eqb_apart, Two, Same, Apart, two, put_same, some_same}
+use Rattle.bmx_store_laws.proofs.Copies.{GrantsNothing, note_grants}
 use Rattle.bmx_store_laws.proofs.Sends.{IsLeft, letters_left}
 use Rattle.bmx_store_laws.proofs.Shares.{shares_changed, all_spared}
 use Rattle.bmx_store_laws.proofs.Lifted.{write_excludes}
 use Rattle.bmx_coherence.specs.Graphs.{graph_answer, act_of, acts_of, graph_after}
-use Rattle.bmx_coherence.specs.Waits.{taking}
 use Rattle.bmx_coherence.proofs.Flight.{flight_more, taken_flies}
-use Rattle.bmx_coherence.proofs.Parts.{held_of, want_of, IsPart, KnowsIt, Leaves, parts_left, fields_kept, object_kept, part_else}
-use Rattle.bmx_coherence.proofs.Answers.{Ungranting, IsOwnStore, IsShown, IsSteady, IsAbout, notes_ungranting, NamesIt, takes, target_same, IsFree, IsUncrossed, IsMet, command_shown}
-use Rattle.bmx_coherence.proofs.Transitions.{LeavesIt, served_each, took_each, values_told, BringsFields, EachBrings, heard_values, served_brings}
-use Rattle.bmx_coherence.proofs.Waits.{taken_by, wanted_at, waited, IsWaitingWith, KeepsWants, alike_after, alike_waits, command_waits}
-use Rattle.bmx_coherence.proofs.Moments.{IsMoment, IsAlone, came, sound, real, aware, new_unknown, IsAlonePer, alone_per, beside_copy, beside_grant}
+use Rattle.bmx_coherence.proofs.Parts.{held_of, want_of, IsPart, Leaves, parts_left, fields_kept, object_kept, part_else, HasKept}
+use Rattle.bmx_coherence.proofs.Answers.{Ungranting, IsOwnStore, IsShown, IsSteady, IsAbout, notes_ungranting, NamesIt, takes, target_same, IsUncrossed, command_shown}
+use Rattle.bmx_coherence.proofs.Transitions.{LeavesIt, served_each, took_each, BringsFields, EachBrings, heard_values, served_brings}
+use Rattle.bmx_coherence.proofs.Waits.{taken_by, wanted_at, waited, IsWaitingWith, alike_waits, command_waits}
+use Rattle.bmx_coherence.proofs.Moments.{IsMoment, came, sound, real, aware, new_unknown, IsAlonePer, alone_per, beside_copy, beside_grant, knows_it}
 
 -- what stands after events
 pub record Stands (st : Setting) (past : List Event) (nodes : ℕ → Node) : Type 0 where
@@ -108,9 +104,6 @@ drafts_brought g counts stamp (d ∷ drafts) m l brings c = by_test (d.to == m) 
     by_test true (zero, below, is) rest = subst (λ (k : Letter). BringsFields g k.msg) is brings.0
     by_test true (suc k, below, is) rest = rest (k, omega arith, is)
     by_test false there rest = rest there
-
-same_on : (f on : Operand) → Some f ≡ Some on → f ≡ on
-same_on f on h = cc
 
 -- ## what an event is for the graph
 
@@ -181,12 +174,9 @@ module _ (st : Setting) (past : List Event) (nodes : ℕ → Node) (e : Event) (
       copies = λ x fields has. p.copies x fields (ap (λ (f : ℕ → Option Known). fields_known (f x)) (sym known_after) ∙ has);
     }
 
-    waits_now : (w : Option Command) → IsWaitingWith me own_state w → IsWaitingWith me after.state w
-    waits_now w i = alike_waits me own_state after.state w (record {
-      register = λ r. ap (λ (f : ℕ → Val). f r) register_after;
-      wants = λ y. ap (λ (f : ℕ → Option Known). want_of (f y)) known_after;
-      holds = λ y. ap (λ (f : ℕ → Option Known). held_of (f y)) known_after;
-    }) i
+    waits_now : (h : State) → IsPart me own_state h → (w : Option Command) → IsWaitingWith me own_state w → IsWaitingWith me after.state w
+    waits_now h p w i = alike_waits me own_state h after.state w p
+        (record { part = part_after h p; wants = λ y. ap (λ (f : ℕ → Option Known). want_of (f y)) known_after }) i
 
     pub stands_more : IsSeen st past nodes e after o → Stands st (past ++ e ∷ []) (put nodes me after)
     stands_more seen = record {
@@ -219,7 +209,7 @@ module _ (st : Setting) (past : List Event) (nodes : ℕ → Node) (e : Event) (
 
         wait : (n : ℕ) (b : Bool) → (b ≡ true → me ≡ n) →
             IsWaitingWith n (cond b after (nodes n)).state (cond b (waits_after (waits_with n None past) e.input e.done.answer) (waits_with n None past))
-        wait n true q = subst (λ (k : ℕ). IsWaitingWith k after.state (waits_after (waits_with k None past) e.input e.done.answer)) (q refl) (waits_now _ seen.waits)
+        wait n true q = subst (λ (k : ℕ). IsWaitingWith k after.state (waits_after (waits_with k None past) e.input e.done.answer)) (q refl) (waits_now h seen.part _ seen.waits)
         wait n false q = ev.stands.waits n
 
         by_event : (f : Event) → Contains past f ⊎ Contains (e ∷ []) f → IfSome (command_in f.input) (λ c. IsSome (act_of f))
@@ -229,23 +219,15 @@ module _ (st : Setting) (past : List Event) (nodes : ℕ → Node) (e : Event) (
 
         -- an entry stays
         still : (x : ℕ) → is_some (s.known x) ≡ true → is_some (own_state.known x) ≡ true
-        still x knows = by_known (own_state.known x) refl
+        still x knows = knows_it (own_state.known x) (λ at.
+            (let gone : (seen_known (s.known x) ≡ None) × _ = all_spared x o.changes (seen_known (s.known x)) (sym (shares_changed x o.changes s) ∙ ap seen_known at) in
+            lost (s.known x) gone.0 knows))
           where
-            by_known : (k : Option Known) → own_state.known x ≡ k → is_some k ≡ true
-            by_known (Some k) at = refl
-            by_known None at =
-                (let gone : (seen_known (s.known x) ≡ None) × _ = all_spared x o.changes (seen_known (s.known x)) (sym (shares_changed x o.changes s) ∙ ap seen_known at) in
-                lost (s.known x) gone.0 knows)
-              where
-                lost : (k : Option Known) → seen_known k ≡ None → is_some k ≡ true → false ≡ true
-                lost None a b = b
-                lost (Some k) a b = absurd cc
+            lost : (k : Option Known) → seen_known k ≡ None → is_some k ≡ true → ⊥
+            lost None a b = cc
+            lost (Some k) a b = cc
 
         counted : (count : ℕ) (f : Effect) → NamesIt me s own_state f → own_state.made ≡ (changed g me f).made me → 1 ≤ count → count ≤ own_state.made → is_some (own_state.known (name_word me count)) ≡ true
-        counted count Nothing names made one most = still (name_word me count) (ev.stands.makers me count one (omega (arith, most, made, (ev.stands.parts me).made)))
-        counted count (SetsOne register v) names made one most = still (name_word me count) (ev.stands.makers me count one (omega (arith, most, made, (ev.stands.parts me).made)))
-        counted count (Stores name index v) names made one most = still (name_word me count) (ev.stands.makers me count one (omega (arith, most, made, (ev.stands.parts me).made)))
-        counted count (Holds name hold) names made one most = still (name_word me count) (ev.stands.makers me count one (omega (arith, most, made, (ev.stands.parts me).made)))
         counted count (MakesOne register bunch size) names made one most = by_two (two count (s.made + 1))
           where
             now : own_state.made ≡ s.made + 1
@@ -254,6 +236,7 @@ module _ (st : Setting) (past : List Event) (nodes : ℕ → Node) (e : Event) (
             by_two : Two count (s.made + 1) → is_some (own_state.known (name_word me count)) ≡ true
             by_two (Same same) = ap (λ (c : ℕ). is_some (own_state.known (name_word me c))) same ∙ names
             by_two (Apart f d) = still (name_word me count) (ev.stands.makers me count one (omega (arith, most, now, d)))
+        counted count _ names made one most = still (name_word me count) (ev.stands.makers me count one (omega (arith, most, made, (ev.stands.parts me).made)))
 
         maker : (n count : ℕ) (b : Bool) → (b ≡ true → me ≡ n) → 1 ≤ count → count ≤ (cond b after (nodes n)).state.made → is_some ((cond b after (nodes n)).state.known (name_word n count)) ≡ true
         maker n count true q one most = subst (λ (k : ℕ). is_some (after.state.known (name_word k count)) ≡ true) (q refl)
@@ -269,64 +252,58 @@ module _ (st : Setting) (past : List Event) (nodes : ℕ → Node) (e : Event) (
       ∙ append-nil (acts_of past)
 
   -- with no effect on the graph
-  silent_seen : (o : Reaction) → command_in e.input ≡ None → IsPart me (after_changes s o.changes) g → EachBrings g o.drafts → IsWaitingWith me (after_changes s o.changes) waiting →
-      IsSeen st past nodes e after o
-  silent_seen o none part brings waits = record {
+  silent_seen : (o : Reaction) → command_in e.input ≡ None → HasKept me s g (after_changes s o.changes) → EachBrings g o.drafts → IsSeen st past nodes e after o
+  silent_seen o none kept brings = record {
     effect_is = Nothing;
     graph = ap (state_after_all (opening_state st.births)) (no_act none);
     some = subst (λ (c : Option Command). IfSome c (λ d. IsSome (act_of e))) (sym none) tt;
     run = subst (IsRun (opening_state st.births)) (sym (no_act none)) ev.stands.run;
-    part = part;
+    part = kept.part;
     brings = brings;
     own = tt;
     names = tt;
-    waits = subst (IsWaitingWith me (after_changes s o.changes)) (ap (λ (c : Option Command). option_map_or (λ d. cond (is_wait e.done.answer) (Some d) None) c waiting) (sym none)) waits;
+    waits = subst (IsWaitingWith me (after_changes s o.changes)) (ap (λ (c : Option Command). option_map_or (λ d. cond (is_wait e.done.answer) (Some d) None) c waiting) (sym none))
+        (alike_waits me s g (after_changes s o.changes) waiting (ev.stands.parts me) kept (ev.stands.waits me));
   }
 
   -- what is left of a name by a transition fits the graph, if its fields do
   left_fits : (name : ℕ) (k : Known) (fields : Option (List ViewField)) → s.known name ≡ Some k →
-      ((l : List Val) → option_map (map value_in) fields ≡ Some l → g.object name ≡ Some l) → LeavesIt (Leaves me g) name k fields
-  left_fits name k fields is there h held want = record {
-    held = held ∙ ap held_of (sym is) ∙ (ev.stands.parts me).held name;
-    fields = λ l has. there l (fields_kept k fields h.copy l has);
-  }
-
-  left_wants : (name : ℕ) (k : Known) (fields : Option (List ViewField)) → s.known name ≡ Some k → LeavesIt (KeepsWants s) name k fields
-  left_wants name k fields is h held want = (want ∙ ap want_of (sym is), held ∙ ap held_of (sym is))
+      ((l : List Val) → option_map (map value_in) fields ≡ Some l → g.object name ≡ Some l) → LeavesIt (Leaves me s g) name k fields
+  left_fits name k fields is there h held want = (
+    record {
+      held = held ∙ ap held_of (sym is) ∙ (ev.stands.parts me).held name;
+      fields = λ l has. there l (fields_kept k fields h.copy l has);
+    },
+    want ∙ ap want_of (sym is),
+  )
 
   copy_there : (name : ℕ) (k : Known) → s.known name ≡ Some k → (l : List Val) → option_map (map value_in) k.copy ≡ Some l → g.object name ≡ Some l
   copy_there name k is l has = (ev.stands.parts me).copies name l (ap fields_known is ∙ has)
 
   serve_seen : (lies : ℕ → Place) (unknown : NodeAnswer) (name : ℕ) → command_in e.input ≡ None → IsSeen st past nodes e after (operation_rule me s lies Serves unknown name (s.known name))
   serve_seen lies unknown name none = silent_seen o none
-      (parts_left me g o.changes (served_each (Leaves me g) me s lies unknown name (s.known name) (λ k is. left_fits name k k.copy is (copy_there name k is))) s (ev.stands.parts me))
+      (parts_left me s g o.changes (served_each (Leaves me s g) me s lies unknown name (s.known name) (λ k is. left_fits name k k.copy is (copy_there name k is))) (ev.stands.parts me))
       (served_brings g me s lies unknown name (s.known name) refl (λ k is owns. (sound st past nodes ev.stands.now me name k is).owner_has owns)
       (λ l has. (ev.stands.parts me).copies name l has))
-      (alike_waits me s (after_changes s o.changes) waiting (alike_after s o.changes (served_each (KeepsWants s) me s lies unknown name (s.known name) (λ k is. left_wants name k k.copy is))) (ev.stands.waits me))
     where
       o : Reaction
       o = operation_rule me s lies Serves unknown name (s.known name)
 
   stray_seen : command_in e.input ≡ None → IsSeen st past nodes e after (only answer.Stray)
-  stray_seen none = silent_seen (only answer.Stray) none (ev.stands.parts me) tt (ev.stands.waits me)
+  stray_seen none = silent_seen (only answer.Stray) none (record { part = ev.stands.parts me; wants = λ y. refl }) tt
 
   -- the fields that a letter leaves of its object are the graph's
   letter_fields : (m : Msg) (k : Known) → BringsFields g m → ((l : List Val) → option_map (map value_in) k.copy ≡ Some l → g.object (name_in m) ≡ Some l) →
       (l : List Val) → option_map (map value_in) (copy_after m (Some k)) ≡ Some l → g.object (name_in m) ≡ Some l
-  letter_fields (msg.ReadReq name asker) k brings copy l has = copy l has
-  letter_fields (msg.WriteReq name asker) k brings copy l has = copy l has
   letter_fields (msg.ReadGrant info fields) k brings copy l has = brings info fields refl ∙ ap Some (sym (heard_values fields)) ∙ has
   letter_fields (msg.WriteGrant info fields) k brings copy l has = brings info fields refl ∙ ap Some (sym (heard_values fields)) ∙ has
-  letter_fields (msg.Inval name) k brings copy l has = copy l has
-  letter_fields (msg.InvAck name) k brings copy l has = copy l has
+  letter_fields _ k brings copy l has = copy l has
 
   take_seen : (lies : ℕ → Place) (from : ℕ) (l : Letter) → command_in e.input ≡ None → BringsFields g l.msg → IsSeen st past nodes e after (take_rule me s lies from l.seq l.msg)
   take_seen lies from l none brings = silent_seen o none
-      (parts_left me g o.changes (took_each (Leaves me g) me s lies from l.seq l.msg (s.known (name_in l.msg)) (λ info. tt) (λ name. tt) tt
-      (λ k is. left_fits (name_in l.msg) k (copy_after l.msg (Some k)) is (letter_fields l.msg k brings (copy_there (name_in l.msg) k is)))) s (ev.stands.parts me))
+      (parts_left me s g o.changes (took_each (Leaves me s g) me s lies from l.seq l.msg (s.known (name_in l.msg)) (λ info. tt) (λ name. tt) tt
+      (λ k is. left_fits (name_in l.msg) k (copy_after l.msg (Some k)) is (letter_fields l.msg k brings (copy_there (name_in l.msg) k is)))) (ev.stands.parts me))
       (by_transition (note_transition me from (note_in l.msg) (option_map share_of (s.known (name_in l.msg)))) (note_grants me from (note_in l.msg) (option_map share_of (s.known (name_in l.msg)))))
-      (alike_waits me s (after_changes s o.changes) waiting (alike_after s o.changes (took_each (KeepsWants s) me s lies from l.seq l.msg (s.known (name_in l.msg)) (λ info. tt) (λ name. tt) tt
-      (λ k is. left_wants (name_in l.msg) k (copy_after l.msg (Some k)) is))) (ev.stands.waits me))
     where
       o : Reaction
       o = take_rule me s lies from l.seq l.msg
@@ -384,13 +361,10 @@ module _ (st : Setting) (past : List Event) (nodes : ℕ → Node) (e : Event) (
           by_mode mode.Read = refl
           by_mode mode.Write = refl
 
-      some_is : (a b : Mode) → Some a ≡ Some b → a ≡ b
-      some_is a b h = cc
-
       by_again : (waiting ≡ None) ⊎ (waiting ≡ Some c) → n ≡ m
       by_again (inl none) =
           (let both : Some n ≡ None = sym wants ∙ (ev.stands.waits me).wants x ∙ ap (λ (w : Option Command). wanted_at (waited me s w) x) none in absurd cc)
-      by_again (inr at) = some_is n m (sym wants ∙ (ev.stands.waits me).wants x ∙ ap (λ (w : Option Command). wanted_at (waited me s w) x) at
+      by_again (inr at) = some_same (sym wants ∙ (ev.stands.waits me).wants x ∙ ap (λ (w : Option Command). wanted_at (waited me s w) x) at
           ∙ ap (λ (t : Option (Mode × ℕ)). wanted_at t x) taken ∙ (λ i. cond (eqb_of {a = x} refl i) (Some m) None))
 
   -- where it then holds an object, no other node keeps it from it
@@ -422,11 +396,11 @@ module _ (st : Setting) (past : List Event) (nodes : ℕ → Node) (e : Event) (
       other k apart hold h = (λ i. held_of ((cond (apart i) after (nodes k)).state.known x)) ∙ h
 
       excluded : (k : ℕ) → (me == k) ≡ false → (k ≡ me → ⊥) → (m : Mode) → held_of ((nodes_after me).state.known x) ≡ Some m → (hold : Option Mode) → held_of ((nodes k).state.known x) ≡ hold → excludes m hold ≡ false
-      excluded k apart d mode.Read mine None h = refl
       excluded k apart d mode.Read mine (Some mode.Read) h = refl
       excluded k apart d mode.Read mine (Some mode.Write) h = absurd (d (sym (both k me mode.Read (other k apart (Some mode.Write) h) mine)))
-      excluded k apart d mode.Write mine None h = refl
       excluded k apart d mode.Write mine (Some b) h = absurd (d (both me k b mine (other k apart (Some b) h)))
+      excluded k apart d mode.Read mine None h = refl
+      excluded k apart d mode.Write mine None h = refl
 
       by_node : (k : ℕ) (b : Bool) → (k == me) ≡ b → (not b && excludes m (g.held k x)) ≡ false
       by_node k true q = refl
@@ -436,17 +410,14 @@ module _ (st : Setting) (past : List Event) (nodes : ℕ → Node) (e : Event) (
 
   -- the operand that a command is about is of the store
   about_of : (c : Command) (on : Operand) → IsAbout c on → IsCommandOf st c → IsOperandOf st on
-  about_of (command.New register bunch size) on is of = absurd cc
-  about_of (command.Copy register value) on is of = absurd cc
-  about_of (command.Drop register) on is of = absurd cc
-  about_of (command.Read f) on is of = subst (IsOperandOf st) (same_on f on is) of
-  about_of (command.Write f) on is of = subst (IsOperandOf st) (same_on f on is) of
-  about_of (command.Done f) on is of = subst (IsOperandOf st) (same_on f on is) of
-  about_of (command.Set f index value) on is of = subst (IsOperandOf st) (same_on f on is) of.0
-  about_of (command.Add f index by) on is of = subst (IsOperandOf st) (same_on f on is) of
-  about_of (command.Get register f index) on is of = subst (IsOperandOf st) (same_on f on is) of.1
-  about_of (command.Show f index) on is of = subst (IsOperandOf st) (same_on f on is) of
-  about_of (command.Same left right) on is of = absurd cc
+  about_of (command.Read f) on is of = subst (IsOperandOf st) (some_same is) of
+  about_of (command.Write f) on is of = subst (IsOperandOf st) (some_same is) of
+  about_of (command.Done f) on is of = subst (IsOperandOf st) (some_same is) of
+  about_of (command.Set f index value) on is of = subst (IsOperandOf st) (some_same is) of.0
+  about_of (command.Add f index by) on is of = subst (IsOperandOf st) (some_same is) of
+  about_of (command.Get register f index) on is of = subst (IsOperandOf st) (some_same is) of.1
+  about_of (command.Show f index) on is of = subst (IsOperandOf st) (some_same is) of
+  about_of _ on is of = absurd cc
 
   command_seen : (c : Command) → e.input ≡ input.Do c → (o : Reaction) → o ≡ command_rule me s ev.step.told.full ev.step.told.lies c (about c) → IsSeen st past nodes e after o
   command_seen c is o same = record {

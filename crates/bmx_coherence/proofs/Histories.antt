@@ -1,6 +1,6 @@
 -- What stands after every legal history, by induction over its events from the opening.
-use Rattle.std.proofs.Common.{◌≡◌, ◌⊎◌, inl, inr, ℕ, ◌+◌, ◌-◌, ◌*◌, ◌^◌, ◌<◌, ◌≤◌, arith, refl, ap, sym, subst, ◌∙◌, Bool, true, false, cond, List, [], ◌∷◌, ◌++◌, map, length, zero, suc, get_or}
-use Rattle.std.specs.Prelude.{◌==◌, ◌&&◌, nat_lt, Option, Some, None, is_some, find, slice_get, Contains}
+use Rattle.std.proofs.Common.{◌≡◌, ◌⊎◌, inl, inr, ℕ, ◌+◌, ◌-◌, ◌<◌, ◌≤◌, arith, refl, ap, sym, subst, ◌∙◌, Bool, true, false, cond, List, [], ◌∷◌, ◌++◌, length, zero, suc, get_or}
+use Rattle.std.specs.Prelude.{◌==◌, ◌&&◌, nat_lt, Option, Some, None, is_some, find, slice_get}
 use Rattle.std.specs.Option.{option_map}
 use Rattle.std.proofs.lemmas.Option.{slice_get_cases}
 use Rattle.std.proofs.lemmas.List.{append-nil}
@@ -8,19 +8,17 @@ use Rattle.bmx_types.specs.Words.{name_word}
 use Rattle.bmx_types.specs.Openings.{IsOpening}
 use Rattle.bmx_types.specs.declared.openings.Birth.{Birth}
 use Rattle.bmx_types.specs.declared.values.Val.{Val}
-use Rattle.bmx_types.specs.declared.numbers.Mode.{Mode}
 use Rattle.bmx_graph.specs.State.{opening_state}
 use Rattle.bmx_types.specs.Updates.{put}
 use Rattle.bmx_protocol.specs.declared.events.Event.{Event}
-use Rattle.bmx_protocol.specs.Nodes.{Setting, Known, fields_known, value_in, field_of, birth_of, is_anchor, owned_birth, heard_birth, first_known}
+use Rattle.bmx_protocol.specs.Nodes.{Setting, Known, fields_known, birth_of, is_anchor, owned_birth, heard_birth, first_known}
 use Rattle.bmx_protocol.specs.Steps.{Node, first_node, IsStep}
 use Rattle.bmx_protocol.specs.Histories.{Replays, AreAfter, IsLegal}
 use Rattle.bmx_protocol.proofs.Prefixes.{joined, empty_is_legal, prefix_is_legal}
 use Rattle.bmx_protocol.proofs.Basics.{eqb_is, eqb_of}
 use Rattle.bmx_coherence.proofs.Parts.{held_of, want_of, IsPart, values_again}
 use Rattle.bmx_coherence.proofs.Waits.{nothing_waits}
-use Rattle.bmx_coherence.proofs.Moments.{IsMoment}
-use Rattle.bmx_coherence.proofs.Events.{Stands, IsEvent, one_more}
+use Rattle.bmx_coherence.proofs.Events.{Stands, one_more}
 
 -- ## the opening
 

@@ -1,7 +1,7 @@
 -- A moment of a store: a legal history, and the nodes that it leads to. What the laws of one object say of it: tokens
 -- are sound, who writes is alone, and the next name of a node is new.
-use Rattle.std.proofs.Common.{◌≡◌, ◌≢◌, inl, inr, ℕ, ◌+◌, ◌^◌, ◌<◌, ◌≤◌, arith, refl, ap, sym, subst, ◌∙◌, Bool, true, false, cond, List, [], ◌∷◌, ◌++◌, map}
-use Rattle.std.specs.Prelude.{◌==◌, ◌⊎◌, nat_lt, Contains, Option, Some, None, IsSome, is_some, count_by}
+use Rattle.std.proofs.Common.{◌≡◌, ◌≢◌, inl, inr, ℕ, ◌+◌, ◌^◌, ◌<◌, ◌≤◌, arith, refl, ap, sym, subst, ◌∙◌, true, cond, List, [], ◌∷◌, ◌++◌, map, zero, suc}
+use Rattle.std.specs.Prelude.{◌==◌, ◌⊎◌, Contains, Option, Some, None, IsSome, is_some, count_by}
 use Rattle.std.specs.Option.{option_map}
 use Rattle.std.proofs.lemmas.List.{map-append}
 use Rattle.std.proofs.lemmas.Nat.{div-mul-add, mod-mul-add}
@@ -12,12 +12,11 @@ use Rattle.bmx_types.specs.declared.values.Val.TheVariants as val
 use Rattle.bmx_types.specs.declared.addresses.Info.{Info}
 use Rattle.bmx_types.specs.declared.commands.Operand.{Operand}
 use Rattle.bmx_types.specs.declared.commands.Operand.TheVariants as operand
-use Rattle.bmx_types.specs.declared.numbers.Mode.{Mode}
 use Rattle.bmx_types.specs.declared.numbers.Mode.TheVariants as mode
 use Rattle.bmx_graph.specs.State.{State}
 use Rattle.bmx_graph.specs.Step.{reference, target_of}
 use Rattle.bmx_graph.specs.declared.effects.Effect.{Effect}
-use Rattle.bmx_graph.specs.declared.effects.Effect.TheVariants.{Nothing, Makes, Sets, Stores, Holds}
+use Rattle.bmx_graph.specs.declared.effects.Effect.TheVariants.{Makes, Stores}
 use Rattle.bmx_graph.specs.Step as graph_step
 use Rattle.bmx_msg.specs.declared.letters.Field.{Field}
 use Rattle.bmx_msg.specs.declared.letters.Letter.{Letter}
@@ -25,9 +24,8 @@ use Rattle.bmx_msg.specs.declared.letters.Msg.{Msg}
 use Rattle.bmx_msg.specs.declared.letters.Msg.TheVariants as msg
 use Rattle.bmx_token.specs.declared.parts.Role.{Role}
 use Rattle.bmx_token.specs.declared.parts.Role.TheVariants as role
-use Rattle.bmx_token.specs.Transitions.{Share, Note}
-use Rattle.bmx_token_model.specs.Machine.{IsNowhere, IsSilent}
-use Rattle.bmx_token_model.proofs.Readers.{one_or_more}
+use Rattle.bmx_token.specs.Transitions.{Note}
+use Rattle.bmx_token_model.specs.Machine.{IsNowhere}
 use Rattle.bmx_token_model.proofs.Sound.{IsSound, IsSoundIf}
 use Rattle.bmx_token_model.proofs.Shared.{IsShared, shared_run}
 use Rattle.bmx_protocol.specs.declared.events.Event.{Event}
@@ -36,16 +34,15 @@ use Rattle.bmx_protocol.specs.Nodes.{Setting, Known, fields_known, value_in, sha
 use Rattle.bmx_protocol.specs.Rules.{next_name, grant_in}
 use Rattle.bmx_protocol.specs.Steps.{Node}
 use Rattle.bmx_protocol.specs.Histories.{AreAfter, IsLegal, IsOperandOf, in_flight}
-use Rattle.bmx_protocol.specs.Worlds.{world_of, HasOwned, IsMoving, HasParent, IsSomewhere, At}
+use Rattle.bmx_protocol.specs.Worlds.{world_of, HasOwned, At}
 use Rattle.bmx_store_laws.specs.Laws.{IsSeated, HasReader, IsCounted, handovers_of}
 use Rattle.bmx_store_laws.specs.Laws as seated
 use Rattle.bmx_store_laws.specs.Inside.Seen.{seen, seen_known, seen_message, seen_note, first_world}
-use Rattle.bmx_protocol.proofs.Basics.{eqb_of, eqb_is}
-use Rattle.bmx_store_laws.proofs.Openings.{IsAware}
+use Rattle.bmx_protocol.proofs.Basics.{eqb_of, some_same}
 use Rattle.bmx_store_laws.proofs.Histories.{Came, came_after, each_name}
 use Rattle.bmx_store_laws.proofs.Owners.{moving_counted}
 use Rattle.bmx_store_laws.proofs.Chains.{nodes_of}
-use Rattle.bmx_store_laws.proofs.Lifted.{one_seat, readers_are_listed_always, write_excludes}
+use Rattle.bmx_store_laws.proofs.Lifted.{one_seat, readers_are_listed_always}
 use Rattle.bmx_coherence.proofs.Parts.{held_of, IsPart, IsBeside}
 use Rattle.bmx_coherence.proofs.Answers.{IsOwnStore}
 
@@ -63,18 +60,18 @@ pub record IsAlone (past : List Event) (nodes : ℕ → Node) (me x : ℕ) : Typ
 -- what a list has stands between others
 split_at : (xs : List Letter) (x : Letter) → Contains xs x → (before : List Letter) × (after : List Letter) × (xs ≡ before ++ x ∷ after)
 split_at [] x c = absurd (omega (arith, c.1))
-split_at (y ∷ xs) x c = by_place (one_or_more y xs x c) (split_at xs x)
-  where
-    by_place : (y ≡ x) ⊎ Contains xs x → (Contains xs x → (before : List Letter) × (after : List Letter) × (xs ≡ before ++ x ∷ after)) →
-        (before : List Letter) × (after : List Letter) × (y ∷ xs ≡ before ++ x ∷ after)
-    by_place (inl here) rest = ([], xs, ap (λ (z : Letter). z ∷ xs) here)
-    by_place (inr there) rest = (y ∷ (rest there).0, (rest there).1, ap (λ (l : List Letter). y ∷ l) (rest there).2)
+split_at (y ∷ xs) x (zero, below, here) = ([], xs, ap (λ (z : Letter). z ∷ xs) here)
+split_at (y ∷ xs) x (suc k, below, there) =
+    let s : (before : List Letter) × (after : List Letter) × (xs ≡ before ++ x ∷ after) = split_at xs x (k, omega arith, there) in
+    (y ∷ s.0, s.1, ap (λ (l : List Letter). y ∷ l) s.2)
 
-granted_is : (p q : Info × List Field) → Some p ≡ Some q → p ≡ q
-granted_is p q e = cc
+-- what isn't unknown is known
+pub knows_it : (k : Option Known) → (k ≡ None → ⊥) → is_some k ≡ true
+knows_it None none = absurd (none refl)
+knows_it (Some k) none = refl
 
 granted_info : (i j : Info) (l f : List Field) → ◌≡◌ {A = Option (Info × List Field)} (Some (i, l)) (Some (j, f)) → i ≡ j
-granted_info i j l f e = ap (λ (p : Info × List Field). p.0) (granted_is (i, l) (j, f) e)
+granted_info i j l f e = ap (λ (p : Info × List Field). p.0) (some_same e)
 
 noted : (i info : Info) (x : ℕ) (n : Note) → i ≡ info → info.name ≡ x → cond (i.name == x) (Some n) None ≡ None → ⊥
 noted i info x n same named none =
@@ -96,12 +93,11 @@ module _ (st : Setting) (past : List Event) (nodes : ℕ → Node) (now : IsMome
   -- a node knows what an operand means
   pub aware : (me x : ℕ) (on : Operand) (g : State) → me < st.nodes → IsPart me (nodes me).state g → IsOperandOf st on → target_of g me on ≡ Some x →
       is_some ((nodes me).state.known x) ≡ true
-  aware me x on g below part of means = by_known ((nodes me).state.known x) refl
+  aware me x on g below part of means = knows_it ((nodes me).state.known x) (unknown on of means)
     where
       refers : (v : Val) → reference v ≡ Some x → v ≡ val.Ref x
-      refers val.Null e = absurd cc
-      refers (val.Int k) e = absurd cc
       refers (val.Ref y) e = (let same : y ≡ x = cc in ap (λ (z : ℕ). val.Ref z) same)
+      refers _ e = absurd cc
 
       anchored : (b : ℕ) → Some (anchor_of b) ≡ Some x → x ≡ anchor_of b
       anchored b e = cc
@@ -109,12 +105,7 @@ module _ (st : Setting) (past : List Event) (nodes : ℕ → Node) (now : IsMome
       unknown : (on : Operand) → IsOperandOf st on → target_of g me on ≡ Some x → (nodes me).state.known x ≡ None → ⊥
       unknown (operand.Register r) of means none = ((came x).aware me below (ap seen_known none)).0.registers r (part.register r ∙ refers (g.register me r) means)
       unknown (operand.Anchor b) of means none = ((came x).aware me below (ap seen_known none)).1 b of (anchored b means)
-      unknown (operand.Int k) of means none = cc
-      unknown operand.Null of means none = cc
-
-      by_known : (k : Option Known) → (nodes me).state.known x ≡ k → is_some k ≡ true
-      by_known (Some k) is = refl
-      by_known None is = absurd (unknown on of means is)
+      unknown _ of means none = cc
 
   -- ## the next name of a node
 
@@ -147,12 +138,9 @@ module _ (st : Setting) (past : List Event) (nodes : ℕ → Node) (now : IsMome
 
   -- a letter that grants an object speaks of it
   granted_note : (x : ℕ) (m : Msg) (info : Info) (fields : List Field) → grant_in m ≡ Some (info, fields) → info.name ≡ x → seen_note x m ≡ None → ⊥
-  granted_note x (msg.ReadReq name asker) info fields e named none = cc
-  granted_note x (msg.WriteReq name asker) info fields e named none = cc
   granted_note x (msg.ReadGrant i l) info fields e named none = noted i info x _ (granted_info i info l fields e) named none
   granted_note x (msg.WriteGrant i l) info fields e named none = noted i info x _ (granted_info i info l fields e) named none
-  granted_note x (msg.Inval name) info fields e named none = cc
-  granted_note x (msg.InvAck name) info fields e named none = cc
+  granted_note x _ info fields e named none = cc
 
   pub new_alone : (me : ℕ) → count_by (λ (f : Event). f.node == me) past + 1 < 2 ^ 55 → IsAlone past nodes me (next_name me (nodes me).state)
   new_alone me few = record {
@@ -201,10 +189,7 @@ module _ (st : Setting) (past : List Event) (nodes : ℕ → Node) (now : IsMome
       same = (sole me x k is owns).others owner reads.known reads.owned
 
       known_same : reads.known ≡ k
-      known_same = some_is reads.known k (sym reads.owned.known ∙ ap (λ (z : ℕ). (nodes z).state.known x) same ∙ is)
-        where
-          some_is : (a b : Known) → Some a ≡ Some b → a ≡ b
-          some_is a b h = cc
+      known_same = some_same (sym reads.owned.known ∙ ap (λ (z : ℕ). (nodes z).state.known x) same ∙ is)
 
       none : reads.known.part.readers ≡ []
       none = ap (λ (j : Known). j.part.readers) known_same ∙ (sound me x k is).owner_writes owns held
@@ -239,45 +224,34 @@ module _ (st : Setting) (past : List Event) (nodes : ℕ → Node) (now : IsMome
           write i f is_write at = omega (arith, moving_counted (world_of nodes past) x n m l i f (record { there = there; grants = is_write; named = at }), (sole me x k is owns).none n m)
 
           by_message : (g : Msg) → l.msg ≡ g → grant_in g ≡ Some (info, fields) → ⊥
-          by_message (msg.ReadReq name asker) e some = cc
-          by_message (msg.WriteReq name asker) e some = cc
           by_message (msg.ReadGrant i f) e some = read i f e (ap (λ (z : Info). z.name) (granted_info i info f fields some) ∙ named)
           by_message (msg.WriteGrant i f) e some = write i f e (ap (λ (z : Info). z.name) (granted_info i info f fields some) ∙ named)
-          by_message (msg.Inval name) e some = cc
-          by_message (msg.InvAck name) e some = cc
+          by_message _ e some = cc
 
   -- ## objects that effects leave
 
   -- where each object that an effect changes is nowhere else, it leaves each object that is
   abbrev pub IsAlonePer : ℕ → State → Effect → Type 0
-  IsAlonePer me g Nothing = Unit {0}
   IsAlonePer me g (Makes register bunch size) = IsAlone past nodes me (graph_step.next_name g me)
-  IsAlonePer me g (Sets register v) = Unit {0}
   IsAlonePer me g (Stores name index v) = IsAlone past nodes me name
-  IsAlonePer me g (Holds name hold) = Unit {0}
+  IsAlonePer me g _ = Unit {0}
 
   pub alone_per : (me : ℕ) (g : State) (e : Effect) → count_by (λ (f : Event). f.node == me) past + 1 < 2 ^ 55 → IsPart me (nodes me).state g → IsOwnStore me g e → IsAlonePer me g e
-  alone_per me g Nothing few part own = tt
   alone_per me g (Makes register bunch size) few part own = subst (IsAlone past nodes me) (ap (λ (n : ℕ). name_word me (n + 1)) part.made) (new_alone me few)
-  alone_per me g (Sets register v) few part own = tt
   alone_per me g (Stores name index v) few part own = by_known ((nodes me).state.known name) refl (part.held name ∙ own)
     where
       by_known : (k : Option Known) → (nodes me).state.known name ≡ k → held_of ((nodes me).state.known name) ≡ Some mode.Write → IsAlone past nodes me name
       by_known None is held = (let both : None ≡ Some mode.Write = sym (ap held_of is) ∙ held in absurd cc)
       by_known (Some k) is held = writer_alone me name k is (sym (ap held_of is) ∙ held)
-  alone_per me g (Holds name hold) few part own = tt
+  alone_per me g _ few part own = tt
 
   pub beside_copy : (me : ℕ) (g : State) (e : Effect) → IsAlonePer me g e → (n x : ℕ) (fields : List Val) → n ≢ me → fields_known ((nodes n).state.known x) ≡ Some fields → IsBeside g me x e
-  beside_copy me g Nothing alone n x fields apart has = tt
   beside_copy me g (Makes register bunch size) alone n x fields apart has = λ same. alone.copies n apart fields (ap (λ (z : ℕ). fields_known ((nodes n).state.known z)) same ∙ has)
-  beside_copy me g (Sets register v) alone n x fields apart has = tt
   beside_copy me g (Stores name index v) alone n x fields apart has = λ same. alone.copies n apart fields (ap (λ (z : ℕ). fields_known ((nodes n).state.known z)) same ∙ has)
-  beside_copy me g (Holds name hold) alone n x fields apart has = tt
+  beside_copy me g _ alone n x fields apart has = tt
 
   pub beside_grant : (me : ℕ) (g : State) (e : Effect) → IsAlonePer me g e → (n m : ℕ) (l : Letter) (info : Info) (fields : List Field) → Contains (in_flight n m past) l →
       grant_in l.msg ≡ Some (info, fields) → IsBeside g me info.name e
-  beside_grant me g Nothing alone n m l info fields there grants = tt
   beside_grant me g (Makes register bunch size) alone n m l info fields there grants = λ same. alone.grants n m l info fields there grants (sym same)
-  beside_grant me g (Sets register v) alone n m l info fields there grants = tt
   beside_grant me g (Stores name index v) alone n m l info fields there grants = λ same. alone.grants n m l info fields there grants (sym same)
-  beside_grant me g (Holds name hold) alone n m l info fields there grants = tt
+  beside_grant me g _ alone n m l info fields there grants = tt

@@ -1,6 +1,6 @@
 -- A node's part of the graph: its registers, what it holds, how many names it made, and its copies, which have the
 -- fields of the graph. What changes of a node, and effects of its commands on the graph, make of it.
-use Rattle.std.proofs.Common.{◌≡◌, ℕ, ◌+◌, refl, ap, sym, subst, ◌∙◌, Bool, true, false, cond, List, [], ◌∷◌, ◌++◌, map, zero, suc}
+use Rattle.std.proofs.Common.{◌≡◌, ℕ, ◌+◌, refl, ap, sym, subst, ◌∙◌, Bool, true, false, cond, List, [], ◌∷◌, map, zero, suc}
 use Rattle.std.specs.Prelude.{◌==◌, ◌≢◌, Option, Some, None, is_some, unwrap_or, replicate, slice_set}
 use Rattle.std.specs.Option.{option_map, option_map_or}
 use Rattle.std.proofs.lemmas.List.{map-set}
@@ -8,7 +8,6 @@ use Rattle.bmx_types.specs.Words.{name_word}
 use Rattle.bmx_types.specs.declared.values.Val.{Val}
 use Rattle.bmx_types.specs.declared.values.Val.TheVariants as val
 use Rattle.bmx_types.specs.declared.numbers.Mode.{Mode}
-use Rattle.bmx_types.specs.declared.addresses.Info.{Info}
 use Rattle.bmx_graph.specs.State.{State, fields_of}
 use Rattle.bmx_types.specs.Updates.{put, put_at}
 use Rattle.bmx_graph.specs.Step.{changed}
@@ -18,10 +17,10 @@ use Rattle.bmx_graph.specs.Step as graph_step
 use Rattle.bmx_protocol.specs.declared.views.ViewField.{ViewField}
 use Rattle.bmx_protocol.specs.declared.views.ViewField.TheVariants as field
 use Rattle.bmx_protocol.specs.Nodes.{NodeState, Known, fields_known, field_of, value_in, with_field}
-use Rattle.bmx_protocol.specs.Changes.{Change, Sets, Makes, Knows, Hears, Gives, Gets, Issues, Takes, heard_of, heard, after_change, after_changes}
-use Rattle.bmx_protocol.specs.Rules.{with_share, next_name, new_object, stored, graph_changes}
+use Rattle.bmx_protocol.specs.Changes.{Change, Sets, Makes, Knows, Hears, heard_of, after_change, after_changes}
+use Rattle.bmx_protocol.specs.Rules.{next_name, new_object, stored, graph_changes}
 use Rattle.bmx_protocol.proofs.Changing.{Each, kept_by_each}
-use Rattle.bmx_protocol.proofs.Basics.{eqb_apart, Two, Same, Apart, two, put_same, put_apart, put_at_row, put_at_else}
+use Rattle.bmx_protocol.proofs.Basics.{eqb_apart, put_same, put_apart, put_at_row, put_at_else, eqb_is, none_some}
 
 -- how a node holds an object, and in which mode it wants it
 abbrev pub held_of : Option Known → Option Mode
@@ -37,8 +36,13 @@ pub record IsPart (me : ℕ) (s : NodeState) (g : State) : Type 0 where
   pub made : s.made ≡ g.made me
   pub copies : (x : ℕ) (fields : List Val) → fields_known (s.known x) ≡ Some fields → g.object x ≡ Some fields
 
-some_is : {A : Type 0} (a b : A) → Some a ≡ Some b → a ≡ b
-some_is a b h = cc
+-- what holds where a function changed, and of it elsewhere, holds after the change
+pub put_each : {A : Type 0} (P : ℕ → A → Type 0) (f : ℕ → A) (x : ℕ) (v : A) → P x v → ((y : ℕ) → (x == y) ≡ false → P y (f y)) → (y : ℕ) → P y (put f x v y)
+put_each P f x v here else y = by_test (x == y) refl
+  where
+    by_test : (b : Bool) → (x == y) ≡ b → P y (cond b v (f y))
+    by_test true e = subst (λ (z : ℕ). P z v) (eqb_is x y e) here
+    by_test false e = else y e
 
 -- ## changes of what is known
 
@@ -61,56 +65,48 @@ pub part_knows : (me : ℕ) (s : NodeState) (g next : State) (name : ℕ) (k : K
     IsPart me s g → IsPart me (after_change s (Knows name k)) next
 part_knows me s g next name k else it p = record {
   register = λ r. p.register r ∙ else.register r;
-  held = λ x. held x (two name x);
+  held = put_each (λ x k. held_of k ≡ next.held me x) s.known name (Some k) it.held (λ x h. p.held x ∙ else.held x h);
   made = p.made ∙ else.made;
-  copies = λ x. copies x (two name x);
+  copies = put_each (λ x k. (fields : List Val) → fields_known k ≡ Some fields → next.object x ≡ Some fields) s.known name (Some k) it.fields
+      (λ x h fields e. sym (else.objects x h) ∙ p.copies x fields e);
 }
+
+-- a node has kept its part of the graph, and wants what it wanted
+pub record HasKept (me : ℕ) (s : NodeState) (g : State) (t : NodeState) : Type 0 where
+  pub part : IsPart me t g
+  pub wants : (y : ℕ) → want_of (t.known y) ≡ want_of (s.known y)
+
+-- a change that leaves the part as the graph has it, and what is wanted as it was
+abbrev pub Leaves : ℕ → NodeState → State → Change → Type 0
+Leaves me s g (Sets register v) = ⊥
+Leaves me s g Makes = ⊥
+Leaves me s g (Knows name k) = KnowsIt me g name k × (k.part.want ≡ want_of (s.known name))
+Leaves me s g _ = Unit {0}
+
+kept_knows : (me : ℕ) (s t : NodeState) (g : State) (name : ℕ) (k : Known) → KnowsIt me g name k → k.part.want ≡ want_of (s.known name) →
+    HasKept me s g t → HasKept me s g (after_change t (Knows name k))
+kept_knows me s t g name k it want h = record {
+  part = part_knows me t g g name k (nowhere_else me name g) it h.part;
+  wants = put_each (λ y j. want_of j ≡ want_of (s.known y)) t.known name (Some k) want (λ y _. h.wants y);
+}
+
+change_kept : (me : ℕ) (s : NodeState) (g : State) (t : NodeState) (c : Change) → Leaves me s g c → HasKept me s g t → HasKept me s g (after_change t c)
+change_kept me s g t (Sets register v) none h = absurd none
+change_kept me s g t Makes none h = absurd none
+change_kept me s g t (Knows name k) it h = kept_knows me s t g name k it.0 it.1 h
+change_kept me s g t (Hears from info) none h = by_known (t.known info.name) refl
   where
-    held : (x : ℕ) → Two name x → held_of (put s.known name (Some k) x) ≡ next.held me x
-    held x (Same e) = subst (λ (y : ℕ). held_of (put s.known name (Some k) y) ≡ next.held me y) e (ap held_of (put_same s.known name (Some k)) ∙ it.held)
-    held x (Apart h d) = ap held_of (put_apart s.known name x (Some k) h) ∙ p.held x ∙ else.held x h
+    -- hearing of an object that isn't known brings no copy and no token
+    by_known : (k : Option Known) → t.known info.name ≡ k →
+        HasKept me s g (record t { known = cond (is_some k) t.known (put t.known info.name (Some (heard_of from info))) })
+    by_known (Some k) is = record { part = record { register = h.part.register; held = h.part.held; made = h.part.made; copies = h.part.copies }; wants = h.wants }
+    by_known None is = kept_knows me s t g info.name (heard_of from info)
+        (record { held = sym (ap held_of is) ∙ h.part.held info.name; fields = λ fields e. none_some e }) (sym (ap want_of is) ∙ h.wants info.name) h
+change_kept me s g t _ none h = record { part = record { register = h.part.register; held = h.part.held; made = h.part.made; copies = h.part.copies }; wants = h.wants }
 
-    copies : (x : ℕ) → Two name x → (fields : List Val) → fields_known (put s.known name (Some k) x) ≡ Some fields → next.object x ≡ Some fields
-    copies x (Same e) fields h = subst (λ (y : ℕ). (fields : List Val) → fields_known (put s.known name (Some k) y) ≡ Some fields → next.object y ≡ Some fields) e
-        (λ l d. it.fields l (ap fields_known (sym (put_same s.known name (Some k))) ∙ d)) fields h
-    copies x (Apart h d) fields e = sym (else.objects x h) ∙ p.copies x fields (ap fields_known (sym (put_apart s.known name x (Some k) h)) ∙ e)
-
--- hearing of an object that isn't known brings no copy and no token
-part_hears : (me from : ℕ) (info : Info) (s : NodeState) (g : State) → IsPart me s g → IsPart me (after_change s (Hears from info)) g
-part_hears me from info s g p = by_known (s.known info.name) refl
-  where
-    no_fields : (fields : List Val) → None ≡ Some fields → g.object info.name ≡ Some fields
-    no_fields fields h = absurd cc
-
-    by_known : (k : Option Known) → s.known info.name ≡ k →
-        IsPart me (record s { known = cond (is_some k) s.known (put s.known info.name (Some (heard_of from info))) }) g
-    by_known (Some k) is = record { register = p.register; held = p.held; made = p.made; copies = p.copies }
-    by_known None is = part_knows me s g g info.name (heard_of from info) (nowhere_else me info.name g)
-        (record { held = sym (ap held_of is) ∙ p.held info.name; fields = no_fields }) p
-
--- a change that leaves the part as the graph has it
-abbrev pub Leaves : ℕ → State → Change → Type 0
-Leaves me g (Sets register v) = ⊥
-Leaves me g Makes = ⊥
-Leaves me g (Knows name k) = KnowsIt me g name k
-Leaves me g (Hears from info) = Unit {0}
-Leaves me g (Gives name to seq) = Unit {0}
-Leaves me g (Gets name from seq) = Unit {0}
-Leaves me g (Issues to) = Unit {0}
-Leaves me g (Takes from) = Unit {0}
-
-part_left : (me : ℕ) (g : State) (s : NodeState) (c : Change) → Leaves me g c → IsPart me s g → IsPart me (after_change s c) g
-part_left me g s (Sets register v) none p = absurd none
-part_left me g s Makes none p = absurd none
-part_left me g s (Knows name k) it p = part_knows me s g g name k (nowhere_else me name g) it p
-part_left me g s (Hears from info) none p = part_hears me from info s g p
-part_left me g s (Gives name to seq) none p = record { register = p.register; held = p.held; made = p.made; copies = p.copies }
-part_left me g s (Gets name from seq) none p = record { register = p.register; held = p.held; made = p.made; copies = p.copies }
-part_left me g s (Issues to) none p = record { register = p.register; held = p.held; made = p.made; copies = p.copies }
-part_left me g s (Takes from) none p = record { register = p.register; held = p.held; made = p.made; copies = p.copies }
-
-pub parts_left : (me : ℕ) (g : State) (changes : List Change) → Each (Leaves me g) changes → (s : NodeState) → IsPart me s g → IsPart me (after_changes s changes) g
-parts_left me g changes each s p = kept_by_each (λ t. IsPart me t g) (Leaves me g) (λ t c h q. part_left me g t c h q) changes each s p
+pub parts_left : (me : ℕ) (s : NodeState) (g : State) (changes : List Change) → Each (Leaves me s g) changes → IsPart me s g → HasKept me s g (after_changes s changes)
+parts_left me s g changes each p = kept_by_each (HasKept me s g) (Leaves me s g) (λ t c h q. change_kept me s g t c h q) changes each s
+    (record { part = p; wants = λ y. refl })
 
 -- ## effects at the node
 
@@ -142,8 +138,7 @@ register_put me s g register v p r = by_test (register == r) ∙ sym (put_at_row
 
 values_same : (v : Val) → value_in (field_of v) ≡ v
 values_same val.Null = refl
-values_same (val.Int k) = refl
-values_same (val.Ref name) = refl
+values_same _ = refl
 
 pub values_again : (fields : List Val) → map value_in (map field_of fields) ≡ fields
 values_again [] = refl
@@ -166,11 +161,10 @@ stored_fields g name index v (Some l) old fields h =
 
 -- a new name isn't known yet, and what a store is about is known
 abbrev pub IsReadyFor : ℕ → NodeState → Effect → Type 0
-IsReadyFor me s Nothing = Unit {0}
 IsReadyFor me s (MakesOne register bunch size) = s.known (next_name me s) ≡ None
-IsReadyFor me s (SetsOne register v) = Unit {0}
 IsReadyFor me s (Stores name index v) = is_some (s.known name) ≡ true
 IsReadyFor me s (Holds name hold) = ⊥
+IsReadyFor me s _ = Unit {0}
 
 -- what an effect of a command that is about no token changes at the node is what it changes in the graph
 pub effect_part : (me : ℕ) (s : NodeState) (g : State) (e : Effect) → IsReadyFor me s e → IsPart me s g → IsPart me (after_changes s (graph_changes me s e)) (changed g me e)
@@ -189,9 +183,11 @@ effect_part me s g (Stores name index v) ready p = by_known (s.known name) refl 
         }) p
 effect_part me s g (MakesOne register bunch size) ready p = record {
   register = λ r. register_put me s g register (val.Ref name) p r ∙ (λ i. put_at g.register me register (val.Ref (named i)) me r);
-  held = λ x. held x (two name x);
+  held = put_each (λ x k. held_of k ≡ g.held me x) s.known name new (sym (ap held_of ready) ∙ p.held name) (λ x h. p.held x);
   made = ap (λ (n : ℕ). n + 1) p.made ∙ sym (put_same g.made me (g.made me + 1));
-  copies = λ x fields h. (λ i. put g.object (sym named i) (Some (replicate size val.Null)) x) ∙ copies x (two name x) fields h;
+  copies = λ x fields h. (λ i. put g.object (sym named i) nothing x)
+      ∙ put_each (λ y k. (l : List Val) → fields_known k ≡ Some l → put g.object name nothing y ≡ Some l) s.known name new
+      (λ l d. put_same g.object name nothing ∙ ap Some (sym (nulls size)) ∙ d) (λ y d l e. put_apart g.object name y nothing d ∙ p.copies y l e) x fields h;
 }
   where
     name : ℕ
@@ -200,38 +196,26 @@ effect_part me s g (MakesOne register bunch size) ready p = record {
     named : name ≡ graph_step.next_name g me
     named = ap (λ (n : ℕ). name_word me (n + 1)) p.made
 
-    held : (x : ℕ) → Two name x → held_of (put s.known name (Some (new_object bunch size)) x) ≡ g.held me x
-    held x (Same e) = subst (λ (y : ℕ). held_of (put s.known name (Some (new_object bunch size)) y) ≡ g.held me y) e
-        (ap held_of (put_same s.known name (Some (new_object bunch size))) ∙ sym (ap held_of ready) ∙ p.held name)
-    held x (Apart h d) = ap held_of (put_apart s.known name x (Some (new_object bunch size)) h) ∙ p.held x
+    new : Option Known
+    new = Some (new_object bunch size)
 
-    copies : (x : ℕ) → Two name x → (fields : List Val) → fields_known (put s.known name (Some (new_object bunch size)) x) ≡ Some fields →
-        put g.object name (Some (replicate size val.Null)) x ≡ Some fields
-    copies x (Same e) fields h = subst (λ (y : ℕ). (fields : List Val) → fields_known (put s.known name (Some (new_object bunch size)) y) ≡ Some fields →
-        put g.object name (Some (replicate size val.Null)) y ≡ Some fields) e
-        (λ l d. put_same g.object name (Some (replicate size val.Null)) ∙ ap Some (sym (nulls size))
-        ∙ sym (ap fields_known (put_same s.known name (Some (new_object bunch size)))) ∙ d) fields h
-    copies x (Apart h d) fields e = put_apart g.object name x (Some (replicate size val.Null)) h
-        ∙ p.copies x fields (ap fields_known (sym (put_apart s.known name x (Some (new_object bunch size)) h)) ∙ e)
+    nothing : Option (List Val)
+    nothing = Some (replicate size val.Null)
 effect_part me s g (Holds name hold) ready p = absurd ready
 
 -- ## effects elsewhere
 
 -- an effect is about another object than x, or none
 abbrev pub IsBeside : State → ℕ → ℕ → Effect → Type 0
-IsBeside g me x Nothing = Unit {0}
 IsBeside g me x (MakesOne register bunch size) = graph_step.next_name g me ≢ x
-IsBeside g me x (SetsOne register v) = Unit {0}
 IsBeside g me x (Stores name index v) = name ≢ x
-IsBeside g me x (Holds name hold) = Unit {0}
+IsBeside g me x _ = Unit {0}
 
 -- it leaves the fields of x
 pub object_kept : (g : State) (me x : ℕ) (e : Effect) → IsBeside g me x e → (changed g me e).object x ≡ g.object x
-object_kept g me x Nothing beside = refl
 object_kept g me x (MakesOne register bunch size) beside = put_apart g.object (graph_step.next_name g me) x (Some (replicate size val.Null)) (eqb_apart (graph_step.next_name g me) x beside)
-object_kept g me x (SetsOne register v) beside = refl
 object_kept g me x (Stores name index v) beside = put_apart g.object name x (Some (slice_set (fields_of g name) index v)) (eqb_apart name x beside)
-object_kept g me x (Holds name hold) beside = refl
+object_kept g me x _ beside = refl
 
 -- another node's part stays
 pub part_else : (me n : ℕ) (s : NodeState) (g : State) (e : Effect) → (me == n) ≡ false →
@@ -244,22 +228,14 @@ part_else me n s g e apart beside p = record {
 }
   where
     registers : (e : Effect) (r : ℕ) → (changed g me e).register n r ≡ g.register n r
-    registers Nothing r = refl
     registers (MakesOne register bunch size) r = put_at_else g.register me register n r _ apart
     registers (SetsOne register v) r = put_at_else g.register me register n r v apart
-    registers (Stores name index v) r = refl
-    registers (Holds name hold) r = refl
+    registers _ r = refl
 
     holds : (e : Effect) (x : ℕ) → (changed g me e).held n x ≡ g.held n x
-    holds Nothing x = refl
-    holds (MakesOne register bunch size) x = refl
-    holds (SetsOne register v) x = refl
-    holds (Stores name index v) x = refl
     holds (Holds name hold) x = put_at_else g.held me name n x hold apart
+    holds _ x = refl
 
     count : (e : Effect) → (changed g me e).made n ≡ g.made n
-    count Nothing = refl
     count (MakesOne register bunch size) = put_apart g.made me n (g.made me + 1) apart
-    count (SetsOne register v) = refl
-    count (Stores name index v) = refl
-    count (Holds name hold) = refl
+    count _ = refl

@@ -1,6 +1,6 @@
 -- Wants are waited for, and where nothing can go on what is waited for is held elsewhere.
-use Rattle.std.proofs.Common.{◌≡◌, ◌≢◌, ◌⊎◌, inl, inr, ℕ, ◌+◌, ◌<◌, ◌≤◌, arith, refl, ap, sym, subst, ◌∙◌, Bool, true, false, cond, List, [], ◌∷◌, map}
-use Rattle.std.specs.Prelude.{◌==◌, ◌&&◌, ◌||◌, Option, Some, None, IsSome, is_some, count_by}
+use Rattle.std.proofs.Common.{◌≡◌, ◌⊎◌, inl, inr, ℕ, ◌<◌, arith, refl, ap, sym, subst, ◌∙◌, Bool, true, false, cond, List, [], ◌∷◌, map}
+use Rattle.std.specs.Prelude.{◌==◌, ◌&&◌, ◌||◌, Option, Some, None, is_some, count_by}
 use Rattle.std.specs.Option.{option_map, option_map_or}
 use Rattle.std.specs.List.{list_any}
 use Rattle.bmx_types.specs.declared.numbers.Mode.{Mode}
@@ -14,29 +14,28 @@ use Rattle.bmx_token.specs.declared.parts.Part.{Part}
 use Rattle.bmx_token.specs.declared.parts.Role.{Role}
 use Rattle.bmx_token.specs.declared.parts.Role.TheVariants as role
 use Rattle.bmx_token.specs.declared.answers.Served.{Served}
-use Rattle.bmx_token.specs.Tokens.{is_write, revoke, serve_alone, serve_write, serve_head, serve_by, serve}
-use Rattle.bmx_token.specs.Transitions.{Share, Note, same_mode, is_request_of, is_grant_of, is_served, can_serve}
+use Rattle.bmx_token.specs.Tokens.{is_write, revoke, serve_write, serve_head, serve_by, serve}
+use Rattle.bmx_token.specs.Transitions.{Note, same_mode, is_request_of, is_grant_of, is_served, can_serve}
 use Rattle.bmx_token.specs.declared.answers.Served.TheVariants as served_is
 use Rattle.bmx_token_model.specs.Laws.{is_owner, owned_at, queue_at, answers_owed, owes, is_due, waits_for, count_notes, is_recall, is_return, AnswersAreOwed}
 use Rattle.bmx_token_model.proofs.Stated.{each_owes_one_answer}
 use Rattle.bmx_token_model.proofs.Requests.{IsCalm, IsRequested, requested_run}
-use Rattle.bmx_token_model.specs.Machine.{Message}
 use Rattle.bmx_protocol.specs.declared.events.Event.{Event}
-use Rattle.bmx_protocol.specs.Nodes.{Setting, NodeState, Known, seen_graph, share_of}
+use Rattle.bmx_protocol.specs.Nodes.{Setting, NodeState, Known, seen_graph}
 use Rattle.bmx_protocol.specs.Steps.{Node}
-use Rattle.bmx_protocol.specs.Histories.{in_flight, waits_with}
+use Rattle.bmx_protocol.specs.Histories.{waits_with}
 use Rattle.bmx_protocol.specs.Worlds.{World, world_of}
 use Rattle.bmx_protocol.specs.Runs.Turns.{ready_at, is_ready}
-use Rattle.bmx_store_laws.specs.Laws.{Spot, Asked, Queued, Granted, letters_about, times_at, IsWaiting, StandsOnce}
+use Rattle.bmx_store_laws.specs.Laws.{Spot, Asked, Queued, Granted, letters_about, times_at, StandsOnce}
 use Rattle.bmx_store_laws.specs.Inside.Seen.{seen, seen_known, seen_message}
-use Rattle.bmx_protocol.proofs.Basics.{eqb_is, eqb_same}
+use Rattle.bmx_protocol.proofs.Basics.{eqb_is, eqb_same, some_same}
 use Rattle.bmx_store_laws.proofs.Histories.{each_name}
 use Rattle.bmx_store_laws.proofs.Owners.{one_if}
 use Rattle.bmx_store_laws.proofs.Lifted.{wants_stand_once}
 use Rattle.bmx_coherence.specs.Waits.{taking, WaitsFor, Wants, WantsAreWaitedFor}
 use Rattle.bmx_coherence.specs.Stuck.{IsStuck, IsHeldElsewhere, StuckNamesHolders}
 use Rattle.bmx_coherence.proofs.Parts.{held_of, want_of}
-use Rattle.bmx_coherence.proofs.Waits.{taken_at, taken_by, wanted_at, waited, IsWaitingWith}
+use Rattle.bmx_coherence.proofs.Waits.{taken_at, taken_by, wanted_at, waited}
 use Rattle.bmx_coherence.proofs.Moments.{sound, real}
 use Rattle.bmx_coherence.proofs.Events.{Stands}
 
@@ -45,9 +44,6 @@ record IsTaking (n : ℕ) (s : NodeState) (c : Command) (m : Mode) (x : ℕ) : T
   operand : Operand
   takes : taking c ≡ Some (m, operand)
   means : target_of (seen_graph n s) n operand ≡ Some x
-
-pair_is : {A : Type 0} (p q : Mode × A) → Some p ≡ Some q → p ≡ q
-pair_is p q h = cc
 
 module _ (st : Setting) (past : List Event) (nodes : ℕ → Node) (stands : Stands st past nodes) where
   abbrev w : World
@@ -61,7 +57,7 @@ module _ (st : Setting) (past : List Event) (nodes : ℕ → Node) (stands : Sta
           IsTaking n (nodes n).state c m x
       by_target t at None means same = absurd cc
       by_target t at (Some y) means same =
-          let both : (t.0, y) ≡ (m, x) = pair_is (t.0, y) (m, x) same in
+          let both : (t.0, y) ≡ (m, x) = some_same same in
           record {
             operand = t.1;
             takes = at ∙ ap (λ (p : Mode × ℕ). Some (p.0, t.1)) both;
@@ -125,7 +121,7 @@ module _ (st : Setting) (past : List Event) (nodes : ℕ → Node) (stands : Sta
       one : (n : ℕ) (m k : Mode) (x y : ℕ) → WaitsFor w past n m x → want_of ((nodes n).state.known x) ≡ Some m → want_of ((nodes n).state.known y) ≡ Some k → (x ≡ y) × (m ≡ k)
       one n m k x y i a b =
           let both : Some (m, x) ≡ Some (k, y) = sym (wanted_taken n x m i.command i.waits a) ∙ wanted_taken n y k i.command i.waits b in
-          let same : (m, x) ≡ (k, y) = pair_is (m, x) (k, y) both in
+          let same : (m, x) ≡ (k, y) = some_same both in
           (ap (λ (p : Mode × ℕ). p.1) same, ap (λ (p : Mode × ℕ). p.0) same)
 
   -- ## where nothing can go on
@@ -142,17 +138,9 @@ module _ (st : Setting) (past : List Event) (nodes : ℕ → Node) (stands : Sta
         ready_is = ap (ready_at (nodes n).state) i.means ∙ ap (λ (j : Option Known). option_map_or (λ (l : Known). l.part.ready) j false) is
 
         command_is : (c : Command) (t : Mode × Operand) → taking c ≡ Some t → (c ≡ command.Read t.1) ⊎ (c ≡ command.Write t.1)
-        command_is (command.New register bunch size) t e = absurd cc
-        command_is (command.Copy register value) t e = absurd cc
-        command_is (command.Drop register) t e = absurd cc
-        command_is (command.Read on) t e = inl (ap (λ (p : Mode × Operand). command.Read p.1) (pair_is (mode.Read, on) t e))
-        command_is (command.Write on) t e = inr (ap (λ (p : Mode × Operand). command.Write p.1) (pair_is (mode.Write, on) t e))
-        command_is (command.Done on) t e = absurd cc
-        command_is (command.Set on index value) t e = absurd cc
-        command_is (command.Add on index by) t e = absurd cc
-        command_is (command.Get register on index) t e = absurd cc
-        command_is (command.Show on index) t e = absurd cc
-        command_is (command.Same left right) t e = absurd cc
+        command_is (command.Read on) t e = inl (ap (λ (p : Mode × Operand). command.Read p.1) (some_same e))
+        command_is (command.Write on) t e = inr (ap (λ (p : Mode × Operand). command.Write p.1) (some_same e))
+        command_is _ t e = absurd cc
 
         by_command : (i.command ≡ command.Read i.operand) ⊎ (i.command ≡ command.Write i.operand) → is_ready n (nodes n).state i.command ≡ k.part.ready
         by_command (inl e) = ap (is_ready n (nodes n).state) e ∙ ready_is
@@ -194,9 +182,8 @@ module _ (st : Setting) (past : List Event) (nodes : ℕ → Node) (stands : Sta
     held_or_ready p false e h = Ready h
 
     write_or_ready : (p : Part) (h : Option Mode) → p.held ≡ h → (is_write h || p.ready) ≡ true → Kept p
-    write_or_ready p None e h = Ready h
-    write_or_ready p (Some mode.Read) e h = Ready h
     write_or_ready p (Some mode.Write) e h = Held (ap (λ (m : Option Mode). is_some m) e)
+    write_or_ready p _ e h = Ready h
 
     tested : (b : Bool) (x y : Part × Served) → is_served (cond b x y).1 ≡ false → is_served y.1 ≡ true → b ≡ true
     tested true x y none some = refl

@@ -1,5 +1,5 @@
 -- What a node holds and wants of a token after it took it, gave it back, served it or took a letter about it.
-use Rattle.std.proofs.Common.{◌≡◌, ◌≢◌, ◌⊎◌, inl, inr, ℕ, refl, ap, Bool, true, false, cond, List, [], ◌∷◌}
+use Rattle.std.proofs.Common.{◌≡◌, ◌≢◌, ℕ, refl, ap, Bool, true, false, cond, List, [], ◌∷◌}
 use Rattle.std.specs.Prelude.{◌==◌, ◌||◌, Option, Some, None, is_some}
 use Rattle.std.specs.List.{list_any}
 use Rattle.bmx_types.specs.declared.numbers.Mode.{Mode}
@@ -13,11 +13,9 @@ use Rattle.bmx_token.specs.declared.answers.Acquire.{Acquire}
 use Rattle.bmx_token.specs.declared.answers.Served.{Served}
 use Rattle.bmx_token.specs.declared.answers.Served.TheVariants as served_is
 use Rattle.bmx_token.specs.declared.answers.Requested.{Requested}
-use Rattle.bmx_token.specs.declared.answers.Requested.TheVariants as requested_is
 use Rattle.bmx_token.specs.declared.answers.Revoked.{Revoked}
-use Rattle.bmx_token.specs.declared.answers.Revoked.TheVariants as revoked_is
-use Rattle.bmx_token.specs.Tokens.{take_wanted, want_read, want_write, acquire_by, acquire, release_by, release, is_write, revoke, serve_alone, serve_write, serve_head, serve_by, serve, request_by, request, granted_by, granted, inval_by, inval, ack_by, ack}
-use Rattle.bmx_token.specs.Transitions.{Share, Note, Asks, Grants, Recalls, Returns, Send, Transition, silently, saying, Operation, Acquires, Releases, Serves, acquired, released, served, transition_of, requested, grant_taken, recalled, returned, note_transition}
+use Rattle.bmx_token.specs.Tokens.{take_wanted, want_read, want_write, acquire_by, release_by, is_write, revoke, serve_write, serve_head, serve_by, serve, request_by, granted_by, inval_by, ack_by}
+use Rattle.bmx_token.specs.Transitions.{Share, Note, Asks, Grants, Recalls, Returns, Send, Transition, silently, saying, Acquires, Releases, Serves, acquired, released, served, transition_of, requested, grant_taken, recalled, returned, note_transition}
 use Rattle.bmx_protocol.specs.declared.inputs.NodeAnswer.{NodeAnswer}
 use Rattle.bmx_protocol.specs.declared.inputs.NodeAnswer.TheVariants as answer
 use Rattle.bmx_protocol.specs.Rules.{acquire_answer, release_answer, operation_answer}
@@ -106,10 +104,7 @@ either F false x y h k = k
 
 served_keeps : (b : Share) (p : Part) (r : Served) → Same b.part p → Keeps b (served b p r)
 served_keeps b p served_is.Idle s = tt
-served_keeps b p served_is.Ready s = (_, refl, s.held, s.want)
-served_keeps b p (served_is.Read asker) s = (_, refl, s.held, s.want)
-served_keeps b p (served_is.Revokes nodes) s = (_, refl, s.held, s.want)
-served_keeps b p (served_is.Moves to rest) s = (_, refl, s.held, s.want)
+served_keeps b p _ s = (_, refl, s.held, s.want)
 
 revoke_same : (p : Part) (waiting : List ℕ) → Same p (revoke p waiting).0
 revoke_same p [] = record { held = refl; want = refl }

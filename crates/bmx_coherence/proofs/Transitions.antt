@@ -1,5 +1,5 @@
 -- What a serve and a letter that is taken change, by what a transition leaves of a token.
-use Rattle.std.proofs.Common.{◌≡◌, ℕ, refl, ap, sym, subst, ◌∙◌, Bool, true, false, cond, List, [], ◌∷◌, ◌++◌, map}
+use Rattle.std.proofs.Common.{◌≡◌, ℕ, refl, ap, sym, subst, ◌∙◌, true, List, [], ◌∷◌, ◌++◌, map}
 use Rattle.std.specs.Prelude.{Option, Some, None, is_some, unwrap_or}
 use Rattle.std.specs.Option.{option_map, option_map_or}
 use Rattle.bmx_types.specs.declared.values.Val.{Val}
@@ -9,17 +9,16 @@ use Rattle.bmx_types.specs.declared.addresses.Info.{Info}
 use Rattle.bmx_types.specs.declared.addresses.Place.{Place}
 use Rattle.bmx_graph.specs.State.{State}
 use Rattle.bmx_msg.specs.declared.letters.Field.{Field}
-use Rattle.bmx_msg.specs.declared.letters.Field.TheVariants as msg_field
 use Rattle.bmx_msg.specs.declared.letters.Msg.{Msg}
 use Rattle.bmx_msg.specs.declared.letters.Msg.TheVariants as msg
 use Rattle.bmx_token.specs.declared.parts.Role.TheVariants.{Owner}
-use Rattle.bmx_token.specs.Transitions.{Share, Note, Asks, Grants, Recalls, Returns, Send, Transition, Operation, Serves, transition_of, note_transition}
+use Rattle.bmx_token.specs.Transitions.{Share, Note, Asks, Grants, Send, Transition, Serves, transition_of, note_transition}
 use Rattle.bmx_protocol.specs.declared.inputs.NodeAnswer.{NodeAnswer}
 use Rattle.bmx_protocol.specs.declared.views.ViewField.{ViewField}
 use Rattle.bmx_protocol.specs.declared.views.ViewField.TheVariants as field
 use Rattle.bmx_protocol.specs.Nodes.{NodeState, Known, fields_known, value_in, share_of}
 use Rattle.bmx_protocol.specs.Changes.{Change, Knows, Hears, Gets, Takes}
-use Rattle.bmx_protocol.specs.Rules.{Draft, Reaction, only, info_of, told_field, heard_field, told_fields, message, drafts_of, name_in, note_in, grant_in, infos, with_share, known_change, operation_answer, after_operation, operation_rule, copy_after, got_change, took}
+use Rattle.bmx_protocol.specs.Rules.{Draft, info_of, told_field, heard_field, told_fields, message, drafts_of, name_in, note_in, grant_in, infos, with_share, known_change, operation_answer, after_operation, operation_rule, copy_after, got_change, took}
 use Rattle.bmx_protocol.proofs.Changing.{Each, each_append}
 use Rattle.bmx_coherence.proofs.Tokens.{Keeps, serving_keeps, serving_owns, note_keeps}
 
@@ -51,11 +50,8 @@ took_each Has me s lies from seq m k hears gets takes leaves = by_known k leaves
     heard (info ∷ more) = (hears info, heard more)
 
     got : (n : Note) → Each Has (got_change from seq (name_in m) n)
-    got (Asks a asker) = tt
-    got (Grants mode.Read) = tt
     got (Grants mode.Write) = (gets (name_in m), tt)
-    got Recalls = tt
-    got Returns = tt
+    got _ = tt
 
     with_known : (changes : List Change) → Each Has changes → Each Has (map (Hears from) (infos m) ++ (changes ++ (got_change from seq (name_in m) (note_in m) ++ Takes from ∷ [])))
     with_known changes each = each_append Has (map (Hears from) (infos m)) _ (heard (infos m))
@@ -124,12 +120,10 @@ notes_bring g s lies name k fields is has there (n ∷ sends) = (by_note n.note,
     nothing info l e = absurd cc
 
     by_note : (n : Note) → BringsFields g (message (info_of s lies name) told n)
-    by_note (Asks mode.Read asker) = nothing
-    by_note (Asks mode.Write asker) = nothing
     by_note (Grants mode.Read) = granted
     by_note (Grants mode.Write) = granted
-    by_note Recalls = nothing
-    by_note Returns = nothing
+    by_note (Asks mode.Read asker) = nothing
+    by_note _ = nothing
 
 -- what a serve grants: only an owner serves, and it has a copy
 pub served_brings : (g : State) (me : ℕ) (s : NodeState) (lies : ℕ → Place) (unknown : NodeAnswer) (name : ℕ) (k : Option Known) → s.known name ≡ k →

@@ -1,12 +1,11 @@
 -- A node's wants are of the command that it waits with, whatever the node does.
-use Rattle.std.proofs.Common.{◌≡◌, ◌≢◌, ◌⊎◌, inl, inr, ℕ, ℤ, refl, ap, sym, subst, ◌∙◌, Bool, true, false, cond, List, [], ◌∷◌, ◌++◌, map}
+use Rattle.std.proofs.Common.{◌≡◌, ◌⊎◌, inl, inr, ℕ, ℤ, refl, ap, sym, subst, ◌∙◌, Bool, true, false, cond, List, [], ◌∷◌}
 use Rattle.std.specs.Prelude.{◌==◌, Option, Some, None, is_some, slice_get}
 use Rattle.std.specs.Option.{option_map}
 use Rattle.bmx_types.specs.declared.values.Val.{Val}
 use Rattle.bmx_types.specs.declared.values.Val.TheVariants as val
 use Rattle.bmx_types.specs.declared.numbers.Mode.{Mode}
 use Rattle.bmx_types.specs.declared.numbers.Mode.TheVariants as mode
-use Rattle.bmx_types.specs.declared.addresses.Info.{Info}
 use Rattle.bmx_types.specs.declared.addresses.Place.{Place}
 use Rattle.bmx_types.specs.declared.commands.Operand.{Operand}
 use Rattle.bmx_types.specs.declared.commands.Operand.TheVariants as operand
@@ -14,25 +13,24 @@ use Rattle.bmx_types.specs.declared.commands.Command.{Command}
 use Rattle.bmx_types.specs.declared.commands.Command.TheVariants as command
 use Rattle.bmx_types.specs.declared.commands.Refusal.TheVariants as refusal
 use Rattle.bmx_graph.specs.State.{State, fields_of}
-use Rattle.bmx_types.specs.Updates.{put}
 use Rattle.bmx_graph.specs.Step.{value_of, reference, target_of, same_value, is_writer, add_at, sum_of, answer_of, effect}
 use Rattle.bmx_graph.specs.declared.effects.Effect.{Effect}
-use Rattle.bmx_graph.specs.declared.effects.Effect.TheVariants.{Nothing, Makes as MakesOne, Sets as SetsOne, Stores, Holds}
+use Rattle.bmx_graph.specs.declared.effects.Effect.TheVariants.{Makes as MakesOne, Sets as SetsOne, Stores}
 use Rattle.bmx_graph.specs.Step as step
 use Rattle.bmx_graph.specs.declared.answers.Answer.{Answer}
 use Rattle.bmx_graph.specs.declared.answers.Answer.TheVariants as graph
-use Rattle.bmx_token.specs.Transitions.{Share, Send, Transition, Operation, Acquires, Releases, Serves, silently, saying, transition_of, note_transition}
+use Rattle.bmx_token.specs.Transitions.{Transition, Acquires, Releases, silently, saying, transition_of}
 use Rattle.bmx_protocol.specs.declared.inputs.NodeAnswer.{NodeAnswer}
 use Rattle.bmx_protocol.specs.declared.inputs.NodeAnswer.TheVariants as answer
 use Rattle.bmx_protocol.specs.Nodes.{NodeState, Known, seen_graph, share_of}
-use Rattle.bmx_protocol.specs.Changes.{Change, Sets, Makes, Knows, Hears, Gives, Gets, Issues, Takes, heard_of, after_change, after_changes}
-use Rattle.bmx_protocol.specs.Rules.{Reaction, only, refused, with_share, operation_answer, after_operation, operation_rule, stored, graph_changes, answered, graph_rule, token_rule, knows, command_rule, about}
+use Rattle.bmx_protocol.specs.Changes.{Change, Knows, Hears, after_change, after_changes}
+use Rattle.bmx_protocol.specs.Rules.{Reaction, with_share, operation_answer, after_operation, operation_rule, stored, graph_changes, answered, graph_rule, token_rule, knows, command_rule, about}
 use Rattle.bmx_protocol.specs.Histories.{is_wait}
 use Rattle.bmx_protocol.proofs.Changing.{Each, kept_by_each}
-use Rattle.bmx_protocol.proofs.Basics.{eqb_of, eqb_same, Two, Same, Apart, two, put_same, put_apart}
+use Rattle.bmx_protocol.proofs.Basics.{eqb_same, some_same, none_some}
 use Rattle.bmx_coherence.specs.Waits.{taking}
 use Rattle.bmx_coherence.proofs.Tokens.{Acquired, Holds as TakesIt, Waits, Bars, Crosses, acquiring, Released, Frees, Lacks, releasing}
-use Rattle.bmx_coherence.proofs.Parts.{held_of, want_of}
+use Rattle.bmx_coherence.proofs.Parts.{held_of, want_of, put_each, IsPart, HasKept}
 
 -- the token of what an operand means at a node
 abbrev pub taken_at : ℕ → NodeState → Option (Mode × Operand) → Option (Mode × ℕ)
@@ -59,77 +57,33 @@ pub record IsWaitingWith (me : ℕ) (s : NodeState) (w : Option Command) : Type 
   pub unheld : (y : ℕ) (m : Mode) → want_of (s.known y) ≡ Some m → held_of (s.known y) ≡ None
   pub takes : (c : Command) → w ≡ Some c → is_some (taken_by me s c) ≡ true
 
--- ## serves and letters
-
--- as much is held and wanted, and registers are the same
-pub record IsAlike (s t : NodeState) : Type 0 where
-  pub register : (r : ℕ) → t.register r ≡ s.register r
-  pub wants : (y : ℕ) → want_of (t.known y) ≡ want_of (s.known y)
-  pub holds : (y : ℕ) → held_of (t.known y) ≡ held_of (s.known y)
-
-abbrev pub KeepsWants : NodeState → Change → Type 0
-KeepsWants s (Sets register v) = ⊥
-KeepsWants s Makes = Unit {0}
-KeepsWants s (Knows name k) = (k.part.want ≡ want_of (s.known name)) × (k.part.held ≡ held_of (s.known name))
-KeepsWants s (Hears from info) = Unit {0}
-KeepsWants s (Gives name to seq) = Unit {0}
-KeepsWants s (Gets name from seq) = Unit {0}
-KeepsWants s (Issues to) = Unit {0}
-KeepsWants s (Takes from) = Unit {0}
-
-alike_knows : (s t : NodeState) (name : ℕ) (k : Known) → k.part.want ≡ want_of (s.known name) → k.part.held ≡ held_of (s.known name) → IsAlike s t → IsAlike s (after_change t (Knows name k))
-alike_knows s t name k want held a = record { register = a.register; wants = λ y. wants y (two name y); holds = λ y. holds y (two name y) }
-  where
-    wants : (y : ℕ) → Two name y → want_of (put t.known name (Some k) y) ≡ want_of (s.known y)
-    wants y (Same e) = subst (λ (z : ℕ). want_of (put t.known name (Some k) z) ≡ want_of (s.known z)) e (ap want_of (put_same t.known name (Some k)) ∙ want)
-    wants y (Apart h d) = ap want_of (put_apart t.known name y (Some k) h) ∙ a.wants y
-
-    holds : (y : ℕ) → Two name y → held_of (put t.known name (Some k) y) ≡ held_of (s.known y)
-    holds y (Same e) = subst (λ (z : ℕ). held_of (put t.known name (Some k) z) ≡ held_of (s.known z)) e (ap held_of (put_same t.known name (Some k)) ∙ held)
-    holds y (Apart h d) = ap held_of (put_apart t.known name y (Some k) h) ∙ a.holds y
-
-alike_left : (s t : NodeState) (c : Change) → KeepsWants s c → IsAlike s t → IsAlike s (after_change t c)
-alike_left s t (Sets register v) none a = absurd none
-alike_left s t Makes none a = record { register = a.register; wants = a.wants; holds = a.holds }
-alike_left s t (Knows name k) it a = alike_knows s t name k it.0 it.1 a
-alike_left s t (Hears from info) none a = by_known (t.known info.name) refl
-  where
-    by_known : (k : Option Known) → t.known info.name ≡ k → IsAlike s (record t { known = cond (is_some k) t.known (put t.known info.name (Some (heard_of from info))) })
-    by_known (Some k) is = record { register = a.register; wants = a.wants; holds = a.holds }
-    by_known None is = alike_knows s t info.name (heard_of from info) (sym (ap want_of is) ∙ a.wants info.name) (sym (ap held_of is) ∙ a.holds info.name) a
-alike_left s t (Gives name to seq) none a = record { register = a.register; wants = a.wants; holds = a.holds }
-alike_left s t (Gets name from seq) none a = record { register = a.register; wants = a.wants; holds = a.holds }
-alike_left s t (Issues to) none a = record { register = a.register; wants = a.wants; holds = a.holds }
-alike_left s t (Takes from) none a = record { register = a.register; wants = a.wants; holds = a.holds }
-
-pub alike_after : (s : NodeState) (changes : List Change) → Each (KeepsWants s) changes → IsAlike s (after_changes s changes)
-alike_after s changes each = kept_by_each (IsAlike s) (KeepsWants s) (λ t c h a. alike_left s t c h a) changes each s
-    (record { register = λ r. refl; wants = λ y. refl; holds = λ y. refl })
-
 -- what a command takes depends on registers alone
 taken_same : (me : ℕ) (s t : NodeState) → ((r : ℕ) → t.register r ≡ s.register r) → (c : Command) → taken_by me t c ≡ taken_by me s c
 taken_same me s t same c = by_taking (taking c)
   where
     value_same : (on : Operand) → value_of (seen_graph me t) me on ≡ value_of (seen_graph me s) me on
     value_same (operand.Register r) = λ i. cond (me == me) (same r i) val.Null
-    value_same (operand.Anchor b) = refl
-    value_same (operand.Int k) = refl
-    value_same operand.Null = refl
+    value_same _ = refl
 
     by_taking : (o : Option (Mode × Operand)) → taken_at me t o ≡ taken_at me s o
     by_taking None = refl
     by_taking (Some t) = ap (λ (v : Val). option_map (λ (x : ℕ). (t.0, x)) (reference v)) (value_same t.1)
 
-pub alike_waits : (me : ℕ) (s t : NodeState) (w : Option Command) → IsAlike s t → IsWaitingWith me s w → IsWaitingWith me t w
-alike_waits me s t w a i = record {
-  wants = λ y. a.wants y ∙ i.wants y ∙ ap (λ (v : Option (Mode × ℕ)). wanted_at v y) (sym (waited_same w));
-  unheld = λ y m want. a.holds y ∙ i.unheld y m (sym (a.wants y) ∙ want);
-  takes = λ c is. ap (λ (v : Option (Mode × ℕ)). is_some v) (taken_same me s t a.register c) ∙ i.takes c is;
+-- a node with the same part of the graph and the same wants waits with the same command
+pub alike_waits : (me : ℕ) (s : NodeState) (g : State) (t : NodeState) (w : Option Command) → IsPart me s g → HasKept me s g t →
+    IsWaitingWith me s w → IsWaitingWith me t w
+alike_waits me s g t w p q i = record {
+  wants = λ y. q.wants y ∙ i.wants y ∙ ap (λ (v : Option (Mode × ℕ)). wanted_at v y) (sym (waited_same w));
+  unheld = λ y m want. q.part.held y ∙ sym (p.held y) ∙ i.unheld y m (sym (q.wants y) ∙ want);
+  takes = λ c is. ap (λ (v : Option (Mode × ℕ)). is_some v) (taken_same me s t same c) ∙ i.takes c is;
 }
   where
+    same : (r : ℕ) → t.register r ≡ s.register r
+    same r = q.part.register r ∙ sym (p.register r)
+
     waited_same : (w : Option Command) → waited me t w ≡ waited me s w
     waited_same None = refl
-    waited_same (Some c) = taken_same me s t a.register c
+    waited_same (Some c) = taken_same me s t same c
 
 -- ## commands
 
@@ -140,36 +94,21 @@ WantsNothing t = (y : ℕ) → want_of (t.known y) ≡ None
 pub nothing_waits : (me : ℕ) (t : NodeState) → WantsNothing t → IsWaitingWith me t None
 nothing_waits me t none = record {
   wants = none;
-  unheld = λ y m want. (let both : None ≡ Some m = sym (none y) ∙ want in absurd cc);
+  unheld = λ y m want. none_some (sym (none y) ∙ want);
   takes = λ c is. absurd cc;
 }
 
 abbrev IsUnwanted : Change → Type 0
-IsUnwanted (Sets register v) = Unit {0}
-IsUnwanted Makes = Unit {0}
 IsUnwanted (Knows name k) = k.part.want ≡ None
 IsUnwanted (Hears from info) = ⊥
-IsUnwanted (Gives name to seq) = ⊥
-IsUnwanted (Gets name from seq) = ⊥
-IsUnwanted (Issues to) = ⊥
-IsUnwanted (Takes from) = ⊥
+IsUnwanted _ = Unit {0}
 
 still_nothing : (t : NodeState) (c : Change) → IsUnwanted c → WantsNothing t → WantsNothing (after_change t c)
-still_nothing t (Sets register v) it none = none
-still_nothing t Makes it none = none
-still_nothing t (Knows name k) it none = λ y. by_two y (two name y)
-  where
-    by_two : (y : ℕ) → Two name y → want_of (put t.known name (Some k) y) ≡ None
-    by_two y (Same e) = subst (λ (z : ℕ). want_of (put t.known name (Some k) z) ≡ None) e (ap want_of (put_same t.known name (Some k)) ∙ it)
-    by_two y (Apart h d) = ap want_of (put_apart t.known name y (Some k) h) ∙ none y
+still_nothing t (Knows name k) it none = put_each (λ y j. want_of j ≡ None) t.known name (Some k) it (λ y _. none y)
 still_nothing t (Hears from info) it none = absurd it
-still_nothing t (Gives name to seq) it none = absurd it
-still_nothing t (Gets name from seq) it none = absurd it
-still_nothing t (Issues to) it none = absurd it
-still_nothing t (Takes from) it none = absurd it
+still_nothing t _ it none = none
 
 effect_unwanted : (me : ℕ) (s : NodeState) (e : Effect) → WantsNothing s → Each IsUnwanted (graph_changes me s e)
-effect_unwanted me s Nothing none = tt
 effect_unwanted me s (MakesOne register bunch size) none = (refl, (tt, (tt, tt)))
 effect_unwanted me s (SetsOne register v) none = (tt, tt)
 effect_unwanted me s (Stores name index v) none = by_known (s.known name) refl
@@ -177,7 +116,7 @@ effect_unwanted me s (Stores name index v) none = by_known (s.known name) refl
     by_known : (k : Option Known) → s.known name ≡ k → Each IsUnwanted (stored name k index v)
     by_known None is = tt
     by_known (Some k) is = (sym (ap want_of is) ∙ none name, tt)
-effect_unwanted me s (Holds name hold) none = tt
+effect_unwanted me s _ none = tt
 
 module _ (me : ℕ) (s : NodeState) (w : Option Command) (c : Command) (i : IsWaitingWith me s w) (again : (w ≡ None) ⊎ (w ≡ Some c)) where
   -- what it wants after a reaction is what it then waits for
@@ -202,12 +141,9 @@ module _ (me : ℕ) (s : NodeState) (w : Option Command) (c : Command) (i : IsWa
       after = kept_by_each WantsNothing IsUnwanted still_nothing changes (effect_unwanted me s (effect (seen_graph me s) me c) (untaken none)) s (untaken none)
 
       by_answer : (a : Answer) → answer_of (seen_graph me s) me c ≡ a → Waited (answered changes a)
-      by_answer graph.Nil is = nothing_waits me (after_changes s changes) after
-      by_answer (graph.Value v) is = nothing_waits me (after_changes s changes) after
-      by_answer graph.Yes is = nothing_waits me (after_changes s changes) after
-      by_answer graph.No is = nothing_waits me (after_changes s changes) after
       by_answer graph.Wait is = absurd (never is)
       by_answer (graph.Refused why) is = nothing_waits me s (untaken none)
+      by_answer _ is = nothing_waits me (after_changes s changes) after
 
   -- one of two reactions, by a test
   either_waits : (b : Bool) (o p : Reaction) → Waited o → Waited p → Waited (cond b o p)
@@ -217,13 +153,6 @@ module _ (me : ℕ) (s : NodeState) (w : Option Command) (c : Command) (i : IsWa
   by_transition : (lies : ℕ → Place) (x : ℕ) (k : Known) (o p : Option Transition) (a b : NodeAnswer) → o ≡ p → a ≡ b → Waited (after_operation s lies x k b p) → Waited (after_operation s lies x k a o)
   by_transition lies x k o p a b same answers h =
       subst (λ (q : Option Transition). Waited (after_operation s lies x k a q)) (sym same) (subst (λ (r : NodeAnswer). Waited (after_operation s lies x k r p)) (sym answers) h)
-
-  -- what is known of a name after a transition
-  after_transition : (x : ℕ) (j : Known) (F : Option Known → Option Mode) (v : Option Mode) → F (Some j) ≡ v → (y : ℕ) → Two x y → (other : Option Mode) → F (s.known y) ≡ other →
-      F (put s.known x (Some j) y) ≡ cond (x == y) v other
-  after_transition x j F v here y (Same e) other else = subst (λ (z : ℕ). F (put s.known x (Some j) z) ≡ cond (x == z) v other) e
-      (ap F (put_same s.known x (Some j)) ∙ here ∙ (λ l. cond (sym (eqb_same x) l) v other))
-  after_transition x j F v here y (Apart h d) other else = ap F (put_apart s.known x y (Some j) h) ∙ else ∙ (λ l. cond (sym h l) v other)
 
   release_waits : (lies : ℕ → Place) (on : Option ℕ) → taken_by me s c ≡ None → Waited (token_rule me s lies Releases on)
   release_waits lies None none = nothing_waits me s (untaken none)
@@ -262,42 +191,23 @@ module _ (me : ℕ) (s : NodeState) (w : Option Command) (c : Command) (i : IsWa
       Acquired m (share_of k) o a → Waited (after_operation s lies x k a o)
   acquire_waits lies m x k o a taken is comes = by_case comes (before m x taken)
     where
-      other : Before m x → (b : Share) (v : Option Mode) → b.part.want ≡ v → (y : ℕ) → want_of (put s.known x (Some (with_share k k.copy b)) y) ≡ cond (x == y) v None
-      other q b v want y = by_two (two x y)
-        where
-          by_two : Two x y → want_of (put s.known x (Some (with_share k k.copy b)) y) ≡ cond (x == y) v None
-          by_two (Same e) = after_transition x (with_share k k.copy b) want_of v want y (Same e) (want_of (s.known y)) refl
-              ∙ (λ l. cond (eqb_of e l) v (want_of (s.known y))) ∙ (λ l. cond (sym (eqb_of e) l) v None)
-          by_two (Apart h d) = after_transition x (with_share k k.copy b) want_of v want y (Apart h d) None (elsewhere m x q y h)
-
-      none_anywhere : (b : Bool) → cond {A = Option Mode} b None None ≡ None
-      none_anywhere true = refl
-      none_anywhere false = refl
-
       by_case : Acquired m (share_of k) o a → Before m x → Waited (after_operation s lies x k a o)
       by_case (TakesIt b none does held want nil) q = by_transition lies x k o (Some (silently b)) a answer.Nil does nil
-          (nothing_waits me (after_changes s (Knows x (with_share k k.copy b) ∷ [])) (λ y. other q b None want y ∙ none_anywhere (x == y)))
+          (nothing_waits me (after_changes s (Knows x (with_share k k.copy b) ∷ []))
+          (put_each (λ y j. want_of j ≡ None) s.known x (Some (with_share k k.copy b)) want (elsewhere m x q)))
       by_case (Waits b sends none does held want grants waits) q = by_transition lies x k o (Some (saying b sends)) a answer.Wait does waits (record {
-        wants = λ y. other q b (Some m) want y ∙ ap (λ (t : Option (Mode × ℕ)). wanted_at t y) (sym taken_now);
-        unheld = unheld;
-        takes = λ d same. ap (λ (e : Command). is_some (taken_by me after e)) (sym (some_same c d same)) ∙ ap (λ (t : Option (Mode × ℕ)). is_some t) taken_now;
+        wants = λ y. put_each (λ z j. want_of j ≡ wanted_at (Some (m, x)) z) s.known x (Some (with_share k k.copy b)) (want ∙ sym (wanted_here m x))
+            (λ z h. elsewhere m x q z h ∙ (λ l. cond (sym h l) (Some m) None)) y ∙ ap (λ (t : Option (Mode × ℕ)). wanted_at t y) (sym taken_now);
+        unheld = λ y n. put_each (λ z j. want_of j ≡ Some n → held_of j ≡ None) s.known x (Some (with_share k k.copy b)) (λ _. held)
+            (λ z h wants. none_some (sym (elsewhere m x q z h) ∙ wants)) y;
+        takes = λ d same. ap (λ (e : Command). is_some (taken_by me after e)) (sym (some_same same)) ∙ ap (λ (t : Option (Mode × ℕ)). is_some t) taken_now;
       })
         where
           after : NodeState
           after = after_changes s (Knows x (with_share k k.copy b) ∷ [])
 
-          some_same : (e d : Command) → Some e ≡ Some d → e ≡ d
-          some_same e d h = cc
-
           taken_now : taken_by me after c ≡ Some (m, x)
           taken_now = taken_same me s after (λ r. refl) c ∙ taken
-
-          unheld : (y : ℕ) (n : Mode) → want_of (put s.known x (Some (with_share k k.copy b)) y) ≡ Some n → held_of (put s.known x (Some (with_share k k.copy b)) y) ≡ None
-          unheld y n wants = by_two (two x y)
-            where
-              by_two : Two x y → held_of (put s.known x (Some (with_share k k.copy b)) y) ≡ None
-              by_two (Same e) = subst (λ (z : ℕ). held_of (put s.known x (Some (with_share k k.copy b)) z) ≡ None) e (ap held_of (put_same s.known x (Some (with_share k k.copy b))) ∙ held)
-              by_two (Apart h d) = (let both : None ≡ Some n = sym (other q b (Some m) want y ∙ (λ l. cond (h l) (Some m) None)) ∙ wants in absurd cc)
       by_case (Bars held does bars) (Fresh none) = by_transition lies x k o None a (answer.Refused refusal.Held) does bars (nothing_waits me s none)
       by_case (Bars held does bars) (Again wants) =
           (let unheld : k.part.held ≡ None = sym (ap held_of is) ∙ i.unheld x m (wants x ∙ wanted_here m x) in
@@ -312,7 +222,7 @@ module _ (me : ℕ) (s : NodeState) (w : Option Command) (c : Command) (i : IsWa
     where
       by_known : (k : Option Known) → s.known x ≡ k → Before m x → Waited (operation_rule me s lies (Acquires m) (answer.Refused refusal.Empty) x k)
       by_known None is (Fresh none) = nothing_waits me s none
-      by_known None is (Again wants) = (let both : None ≡ Some m = sym (ap want_of is) ∙ wants x ∙ wanted_here m x in absurd cc)
+      by_known None is (Again wants) = none_some (sym (ap want_of is) ∙ wants x ∙ wanted_here m x)
       by_known (Some k) is q = acquire_waits lies m x k (transition_of me (Acquires m) (share_of k)) (operation_answer me (Acquires m) (share_of k)) taken is (acquiring me m (share_of k))
 
 -- ## each command
@@ -363,8 +273,6 @@ nil_never e = cc
 pub command_waits : (me : ℕ) (s : NodeState) (w : Option Command) (full : Bool) (lies : ℕ → Place) (c : Command) (i : IsWaitingWith me s w) (again : (w ≡ None) ⊎ (w ≡ Some c)) →
     Waited me s w c i again (command_rule me s full lies c (about c))
 command_waits me s w full lies (command.New register bunch size) i again = either_waits me s w _ i again full _ _ (nothing_waits me s (untaken me s w _ i again refl)) (graph_waits me s w _ i again refl nil_never)
-command_waits me s w full lies (command.Copy register value) i again = graph_waits me s w _ i again refl nil_never
-command_waits me s w full lies (command.Drop register) i again = graph_waits me s w _ i again refl nil_never
 command_waits me s w full lies (command.Read on) i again = take_waits me s w _ i again lies mode.Read (target_of (seen_graph me s) me on) refl
 command_waits me s w full lies (command.Write on) i again = take_waits me s w _ i again lies mode.Write (target_of (seen_graph me s) me on) refl
 command_waits me s w full lies (command.Done on) i again = release_waits me s w _ i again lies (target_of (seen_graph me s) me on) refl
@@ -377,3 +285,4 @@ command_waits me s w full lies (command.Get register on index) i again = either_
 command_waits me s w full lies (command.Show on index) i again = either_waits me s w _ i again (knows s (target_of (seen_graph me s) me on)) _ _
     (graph_waits me s w _ i again refl (get_never (seen_graph me s) me (target_of (seen_graph me s) me on) index)) (nothing_waits me s (untaken me s w _ i again refl))
 command_waits me s w full lies (command.Same left right) i again = graph_waits me s w _ i again refl (same_never (same_value (value_of (seen_graph me s) me left) (value_of (seen_graph me s) me right)))
+command_waits me s w full lies _ i again = graph_waits me s w _ i again refl nil_never

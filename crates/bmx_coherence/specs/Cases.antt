@@ -74,3 +74,10 @@ old_fields = record { to = 1; letter = record { seq = 1; stamp = 6; msg = msg.Re
 
 abbrev pub granted_of_old : List Event
 granted_of_old = changed_at 6 (with_letters (old_fields ∷ [])) granted.past
+
+-- node 1 is to wait for the anchor, and its request isn't sent
+abbrev pub waiting : Play
+waiting = played store (Do 1 (command.Write anchor) ∷ [])
+
+abbrev pub never_asked : List Event
+never_asked = changed_at 0 (with_letters []) waiting.past
