@@ -53,7 +53,7 @@ impl Space {
 
     /// Makes segments of a bunch for objects that take so many words together, header and fields: one for
     /// each 989 words begun. What was reserved before is given up. It is full where so many more segments
-    /// may not be made.
+    /// may not be made. Linear in the segments that it makes.
     pub fn reserve(
         &mut self,
         segments: &mut Segments,
@@ -84,7 +84,7 @@ impl Space {
     }
 
     /// Hands out the next words of the segments reserved, for an object of so many fields: those of the segment
-    /// in use, or of the next one where they don't fit.
+    /// in use, or of the next one where they don't fit. Takes constant time and no memory.
     pub fn next(&mut self, segments: &mut Segments, size: u8) -> Address
         requires few { size ≤ 32 }
         requires ready { IsReady self.old segments.old }
@@ -117,7 +117,7 @@ impl Space {
     }
 
     /// Ends the collection's moves: the last segment used becomes the open one of its bunch, where that has
-    /// none open. Nothing is reserved any more.
+    /// none open. Nothing is reserved any more. Takes constant time and no memory.
     pub fn finish(&mut self, segments: &mut Segments)
         requires { IsReady self.old segments.old }
         ensures opened { segments.new ≡ opened_last self.old segments.old }
@@ -132,8 +132,8 @@ impl Space {
     }
 
     /// Drops each mapped segment that isn't open and has no live header, and tells how many these were. No
-    /// word of the node may lead into one. It looks at each number that a segment can have, 65,535 at each of
-    /// 8 homes.
+    /// word of the node may lead into one. Takes no memory. It looks at each number that a segment can have,
+    /// 65,535 at each of 8 homes.
     pub fn sweep(&mut self, segments: &mut Segments) -> u32
         ensures swept { Sweeps segments.old segments.new result }
         ensures space { self.new ≡ self.old }
