@@ -1,5 +1,5 @@
 -- What a run that came to its end is.
-use Rattle.std.proofs.Common.{◌≡◌, ℕ, ◌+◌, ◌<◌, arith, refl, ap, sym, ◌∙◌, subst, List, [], length, get_or, Option, Some}
+use Rattle.std.proofs.Common.{◌≡◌, ℕ, ◌+◌, ◌<◌, ◌≤◌, arith, refl, ap, sym, ◌∙◌, subst, List, [], length, get_or, Option, Some}
 use Rattle.std.specs.Prelude.{slice_get, string_bytes, Contains}
 use Rattle.std.specs.Option.{option_map_or}
 use Rattle.std.proofs.lemmas.Option.{slice_get_read}
@@ -19,7 +19,7 @@ use Rattle.bmx_world.specs.declared.runs.RunEnd.{RunEnd}
 use Rattle.bmx_world.specs.Scripts.{body_of, setting_of_script}
 use Rattle.bmx_world.specs.Texts.{text_of}
 use Rattle.bmx_world.specs.Promises.{IsOneStore}
-use Rattle.bmx_world.specs.Runs.{IsRunOf, IsEnd}
+use Rattle.bmx_world.specs.Runs.{IsRunOf}
 use Rattle.bmx_world.proofs.Promised.{every_history_keeps_one_store}
 use Rattle.bmx_run.specs.declared.runner.Runner.{Runner}
 use Rattle.bmx_run.specs.Inside.Steps.{nodes_in}
@@ -53,9 +53,10 @@ run_of lines seed budget e r run is script history nodes text mean = record {
     same : run.history ≡ is.history
     same = history ∙ is.whole.history
 
--- and its end is said
-pub run_ends : (lines : List Line) (seed budget : ℕ) (e : RunEnd) (r : Runner) (history : List Event) → IsRun lines seed budget e r → history ≡ r.history.items → IsEnd lines budget history e
-run_ends lines seed budget e r history is same = subst (λ (l : List Event). IsEnd lines budget l e) (sym (same ∙ is.whole.history)) is.ends
+-- it has no more events than it may have
+pub run_few : (lines : List Line) (seed first budget : ℕ) (e : RunEnd) (r : Runner) (history : List Event) → IsRun lines seed first e r → history ≡ r.history.items → r.budget ≡ budget → length history ≤ budget
+run_few lines seed first budget e r history is same kept =
+    subst (λ (l : List Event). length l ≤ budget) (sym (same ∙ is.whole.history)) (subst (λ (k : ℕ). length is.history ≤ k) kept is.whole.few)
 
 -- each node was looked at, up to one
 pub mean_more : (nodes : List Stamped) (i : ℕ) (x : Stamped) → i < length nodes → x ≡ get_or nodes i x → MeansWhole x.holdings.memory →

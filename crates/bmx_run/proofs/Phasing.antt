@@ -34,25 +34,20 @@ use Rattle.bmx_run.specs.Inside.Picking.{actions_at, served_in, ChoosesAt, Count
 use Rattle.bmx_run.specs.Inside.Phases.{Starts, MayGoOn, AreCompleted, AreCleared, with_part, ServeAll, IsDone, IsLeft, IsStuckThere, IsSpentThere}
 use Rattle.bmx_run.proofs.Listing.{word_steps}
 use Rattle.bmx_run.proofs.Quiet.{none_where_quiet}
+use Rattle.bmx_run.proofs.Turned.{whole_same, run_same}
 
 -- ## runners that are alike
 
-pub whole_same : (lines : List Line) (events : List Event) (r s : Runner) → IsWhole lines events r →
+-- with the same history, nodes and text
+pub whole_with : (lines : List Line) (events : List Event) (r s : Runner) → IsWhole lines events r →
     s.history.items ≡ r.history.items → s.nodes.items ≡ r.nodes.items → s.budget ≡ r.budget → string_bytes s.text ≡ string_bytes r.text → IsWhole lines events s
-whole_same lines events r s w history nodes budget text = record {
-  history = history ∙ w.history;
-  few = subst (λ (k : ℕ). length events ≤ k) (sym budget) w.few;
-  small = subst (λ (k : ℕ). k < 2 ^ 55) (sym budget) w.small;
-  opens = w.opens;
-  nodes = subst (AreNodes (setting_of_script lines)) (sym nodes) w.nodes;
-  leads = subst (λ (l : List Stamped). Leads (setting_of_script lines) events (nodes_in (setting_of_script lines) l) (stamps_in l)) (sym nodes) w.leads;
-  text = text ∙ w.text;
-}
+whole_with lines events r s w history nodes budget text =
+    whole_same lines events r s w (run_same (setting_of_script lines) r s w.nodes history nodes) budget text
 
 -- a runner whose generator alone went on is where it was
 pub at_drawn : (p : Point) (r : Runner) (g : Lcg) → IsAt p r → IsAt p (record r { generator = g })
 at_drawn p r g at = record {
-  whole = whole_same p.lines (history_of p) r (record r { generator = g }) at.whole refl refl refl refl;
+  whole = whole_with p.lines (history_of p) r (record r { generator = g }) at.whole refl refl refl refl;
   ready = record { given = at.ready.given; seats = at.ready.seats; lanes = at.ready.lanes };
   phase = at.phase;
 }
@@ -238,9 +233,6 @@ pub record IsOn (p : Point) (r : Runner) : Type 0 where
   pub is_at : IsAt (with_part p part) r
   pub draws : Draws p.seed (length (p.past ++ part)) r
 
-pub on_first : (p : Point) (quiet : Bool) (r : Runner) → Starts p quiet r → IsOn p r
-on_first p quiet r s = record { part = p.part; is_at = s.is_at; draws = s.draws }
-
 length_more : (past part : List Event) (e : Event) → length (past ++ part) + 1 ≡ length (past ++ (part ++ e ∷ []))
 length_more past part e =
     let a : length (past ++ part) ≡ length past + length part = length-append past part in
@@ -370,7 +362,7 @@ done_there p old new on does cleared rest =
 
     here : IsBetween p.lines p.seed history [] p.rest after
     here = record {
-      whole = whole_same p.lines history old after at.whole refl refl refl refl;
+      whole = whole_with p.lines history old after at.whole refl refl refl refl;
       ready = record {
         given = λ g c. absurd (omega (arith, c.1));
         seats = record { each = cleared.each ∙ at.ready.seats.each; sits = sits };

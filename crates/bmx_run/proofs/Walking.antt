@@ -39,7 +39,7 @@ use Rattle.bmx_run.specs.Inside.Picking.{served_in}
 use Rattle.bmx_run.specs.Inside.Phases.{Starts, with_part, AfterPhase, IsDone, IsLeft, IsStuckThere, IsSpentThere, IsGivenTo, Gives, IsRun, Walk, IsThere, ComesTo, GoesOn, Obeys}
 use Rattle.bmx_run.proofs.Listing.{got_same, got_other, length_set}
 use Rattle.bmx_run.proofs.Opening.{pushed}
-use Rattle.bmx_run.proofs.Phasing.{whole_same}
+use Rattle.bmx_run.proofs.Phasing.{whole_with}
 use Rattle.bmx_run.proofs.Scripted.{is_given}
 
 -- ## a phase begins
@@ -220,7 +220,7 @@ given_on w g old new b fits to rest = record {
 
     here : IsThere (record w { orders = w.orders ++ g ∷ [] }) after
     here = record {
-      whole = whole_same w.lines w.past old after b.whole refl refl refl refl;
+      whole = whole_with w.lines w.past old after b.whole refl refl refl refl;
       ready = record {
         given = λ x c. ⊎_elim (λ before. b.ready.given x before) (λ e. subst (IsGiven (setting_of_script w.lines)) e fits) (contains_push w.orders g x c);
         seats = record { each = ap (λ (l : List Seat). length l) to.seats ∙ length_set old.seats.items g.node to.behind ∙ b.ready.seats.each; sits = λ n s got. sits n s got (two g.node n) };
@@ -235,7 +235,7 @@ given_on w g old new b fits to rest = record {
 pub given_left : (w : Walk) (old new : Runner) → IsThere w old → new ≡ record old { seats = new.seats } → IsRun w.lines w.seed new.budget end.NoMemory new
 given_left w old new b rest = record {
   history = w.past;
-  whole = subst (IsWhole w.lines w.past) (sym rest) (whole_same w.lines w.past old (record old { seats = new.seats }) b.whole refl refl refl refl);
+  whole = subst (IsWhole w.lines w.past) (sym rest) (whole_with w.lines w.past old (record old { seats = new.seats }) b.whole refl refl refl refl);
   serial = subst (λ (l : List Event). TakeTurns (setting_of_script w.lines) w.seed [] (stages (body_of w.lines)) l) (append-nil w.past)
       (comes_serial (setting_of_script w.lines) w.seed (stages (body_of w.lines)) w.past stage first.more [] comes (takes_none (setting_of_script w.lines) w.seed w.past stage));
   follows = subst (λ (l : List Event). DoSome (setting_of_script w.lines) [] (stages (body_of w.lines)) l) (append-nil w.past)

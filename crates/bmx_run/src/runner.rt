@@ -1,5 +1,5 @@
 //! A run from its opening to its end: it owns nodes, letters, history and text, and nothing else changes them.
-ghost use Rattle.std.specs.Prelude.{◌≡◌, ℕ, ◌<◌, ◌^◌, List, [], length, Contains, IfOk};
+ghost use Rattle.std.specs.Prelude.{◌≡◌, ℕ, ◌<◌, ◌≤◌, ◌^◌, List, [], length, Contains, IfOk};
 ghost use Rattle.bmx_memory.specs.Meaning.{MeansWhole};
 ghost use Rattle.bmx_node.specs.Stamped.{Stamped};
 ghost use Rattle.bmx_protocol.specs.Runs.Programs.{stages};
@@ -67,6 +67,7 @@ pub fn run_script(
     requires { budget < 2 ^ 55 }
     ensures run { IfOk result (λ r. IsRunOf script seed r.0) }
     ensures end { IfOk result (λ r. IsEnd script budget r.0.history r.1) }
+    ensures few { IfOk result (λ r. length r.0.history ≤ budget) }
 {
     let opening = opening(alloc, &script)?;
     let mut runner = Runner::open(alloc, &opening, seed, budget)?;
@@ -125,7 +126,8 @@ impl Runner {
     fn run(&mut self, lines: &[Line]) -> RunEnd
         requires script { AreScript lines.now }
         requires start { (seed : ℕ) × IsBetween lines.now seed [] [] (stages (body_of lines.now)) self.old }
-        ensures { (seed : ℕ) → IsBetween lines.now seed [] [] (stages (body_of lines.now)) self.old → IsRun lines.now seed self.old.budget result self.new }
+        ensures ends { (seed : ℕ) → IsBetween lines.now seed [] [] (stages (body_of lines.now)) self.old → IsRun lines.now seed self.old.budget result self.new }
+        ensures budget { self.new.budget ≡ self.old.budget }
     {
         for line in lines {
             match self.obey(line) {

@@ -15,8 +15,8 @@ obey-requires c =
     let to : ComesTo (walk_at lines seed i r h) c.line-item.result r = comes_to lines seed i c.line-item.result r c.requires.script c.loop-line-test.true c.line-item.is h in
     (walk_at lines seed i r h, to)
 
-pub returns-in_default : goal.returns-in_default
-returns-in_default c = λ seed b.
+pub returns-in_default-clause-ends : goal.returns-in_default-clause-ends
+returns-in_default-clause-ends c = λ seed b.
     let lines = c.args.lines.now in
     let r = c.loop-line.self in
     let i = c.loop-line.line-index in
@@ -49,8 +49,8 @@ phase-requires c =
     let start : Starts (last_of lines seed i r h) false r = starts_last lines seed i r h (omega (arith, c.loop-line-test.false)) in
     (last_of lines seed i r h, start)
 
-pub returns : goal.returns
-returns c = λ seed b.
+pub returns-clause-ends : goal.returns-clause-ends
+returns-clause-ends c = λ seed b.
     let lines = c.args.lines.now in
     let r = c.loop-line.self in
     let i = c.loop-line.line-index in
@@ -58,3 +58,9 @@ returns c = λ seed b.
     let start : Starts (last_of lines seed i r h) false r = starts_last lines seed i r h (omega (arith, c.loop-line-test.false)) in
     subst (λ (k : ℕ). IsRun lines seed k c.phase.result c.phase.new.self) (c.phase.ensures.budget ∙ c.loop-line.invariant.1)
     (ends_last (last_of lines seed i r h) c.phase.result c.phase.new.self refl (c.phase.ensures.comes (last_of lines seed i r h) start))
+
+pub returns-in_default-clause-budget : goal.returns-in_default-clause-budget
+returns-in_default-clause-budget c = c.obey.ensures.budget ∙ c.loop-line.invariant.1
+
+pub returns-clause-budget : goal.returns-clause-budget
+returns-clause-budget c = c.phase.ensures.budget ∙ c.loop-line.invariant.1
