@@ -44,10 +44,12 @@ claims:
 
 # Times a script of 2,000 lines and one of 20,000, and prints the ratio. With YARDSTICK=F, a folder with a plain program
 # of the same language and its measure.py, counts the instructions of both besides, by kind of script. Times cleanings
-# of ten records beside 100 to 100,000 others too, and counts instructions for each key on lists and each name marked.
+# of ten records beside 100 to 100,000 others too, and nodes of 20 and of 20,000 objects, and counts instructions for each
+# key on lists and each name marked.
 bench: build
 	python3 bench/lines.py bin/bmx
 	python3 bench/cleaning.py
+	python3 bench/nodes.py
 	python3 bench/parts.py
 ifdef YARDSTICK
 	python3 $(YARDSTICK)/measure.py bin/bmx $(YARDSTICK)/target/release/yardstick --line-writes --sizes 20000 --no-time
