@@ -350,7 +350,7 @@ by_its_maker st me stamp n m (Collector i d) step =
 abbrev pub AllSafe : (ℕ → LinkedNode) → List Table → Type 0
 AllSafe nodes tables = (k : ℕ) → IsSafe k (nodes k).state.clock (nodes k).links tables
 
-tables_one_more : (past : List LinkedEvent) (e : LinkedEvent) → tables_made (past ++ e ∷ []) ≡ tables_made past ++ cons_option (table_made e.deed) []
+pub tables_one_more : (past : List LinkedEvent) (e : LinkedEvent) → tables_made (past ++ e ∷ []) ≡ tables_made past ++ cons_option (table_made e.deed) []
 tables_one_more past e = filter_map-append (λ (f : LinkedEvent). table_made f.deed) past (e ∷ [])
 
 pub event_safe : (st : Setting) (nodes : ℕ → LinkedNode) (past : List LinkedEvent) (e : LinkedEvent) (n : LinkedNode) → FitsDeed st past e.node e.stamp e.deed →

@@ -92,10 +92,10 @@ closed_same stamp s o =
 -- ## a node
 
 -- a node of so many events: what it refers to stands, and it made no more names than it has births and steps
-record IsWhole (st : Setting) (me count : ℕ) (n : LinkedNode) : Type 0 where
-  stand : Stand st me n.state.made n.state.known n.state.register n.links.stubs
-  few : n.state.made ≤ length st.births + n.state.clock
-  clock : n.state.clock ≡ count
+pub record IsWhole (st : Setting) (me count : ℕ) (n : LinkedNode) : Type 0 where
+  pub stand : Stand st me n.state.made n.state.known n.state.register n.links.stubs
+  pub few : n.state.made ≤ length st.births + n.state.clock
+  pub clock : n.state.clock ≡ count
 
 -- the same stands of a node that has the same entries, registers and stubs
 same_stand : (st : Setting) (me : ℕ) (s u : NodeState) (stubs : List Stub) → AreSame s u → Stand st me s.made s.known s.register stubs → Stand st me u.made u.known u.register stubs
@@ -362,7 +362,7 @@ module _ (st : Setting) (opening : IsOpening st.nodes st.limit st.births) (me : 
       let c : (c : Birth) × (birth_of st z ≡ Some c) × (slice_get st.births (z - 1) ≡ Some c) = named_birth z o.named o.there in
       (c.0, c.1, o.same c.0 c.2)
 
-  first_whole : IsWhole st me 0 (first_linked st me)
+  pub first_whole : IsWhole st me 0 (first_linked st me)
   first_whole = record {
     stand = record {
       counted = λ x k e mine. count x k mine (born_so st me x k e);
@@ -424,7 +424,7 @@ module _ (st : Setting) (opening : IsOpening st.nodes st.limit st.births) (me : 
 
 -- ## all nodes
 
-abbrev AllWhole : Setting → (ℕ → LinkedNode) → List LinkedEvent → Type 0
+abbrev pub AllWhole : Setting → (ℕ → LinkedNode) → List LinkedEvent → Type 0
 AllWhole st nodes past = (k : ℕ) → k < st.nodes → IsWhole st k (count_by (λ (f : LinkedEvent). f.node == k) past) (nodes k)
 
 count_more : (k a : ℕ) (past : List LinkedEvent) (e : LinkedEvent) →
@@ -432,7 +432,7 @@ count_more : (k a : ℕ) (past : List LinkedEvent) (e : LinkedEvent) →
 count_more k a [] e = refl
 count_more k a (f ∷ past) e = count_more k (a + cond (f.node == k) 1 0) past e
 
-event_whole : (st : Setting) (nodes : ℕ → LinkedNode) (past : List LinkedEvent) (e : LinkedEvent) (n : LinkedNode) → IsOpening st.nodes st.limit st.births → FitsLinked st past e →
+pub event_whole : (st : Setting) (nodes : ℕ → LinkedNode) (past : List LinkedEvent) (e : LinkedEvent) (n : LinkedNode) → IsOpening st.nodes st.limit st.births → FitsLinked st past e →
     IsDeed st e.node (nodes e.node) e.stamp e.deed n → AllSafe nodes (tables_made past) → AllWhole st nodes past → AllWhole st (put nodes e.node n) (past ++ e ∷ [])
 event_whole st nodes past e n opening fits step safe all k less =
     subst (λ (c : ℕ). IsWhole st k c (put nodes e.node n k)) (sym (count_more k 0 past e)) (by (two e.node k))

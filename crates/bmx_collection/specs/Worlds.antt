@@ -1,6 +1,6 @@
 -- What the laws over all histories with collectors say besides those that hold without: pairs stand for references
--- between bunches, and no table that was made so far can end what is needed. That no table ends a record that is needed,
--- and that a ready token is wanted, is to be proved; the rest is.
+-- between bunches, and no table that was made so far can end what is needed. (That a ready token is wanted, and that no
+-- table ends a record that is needed, is proved in bmx_collection_laws, by the laws of one object's token.)
 use Rattle.std.specs.Prelude.{◌≡◌, ℕ, ◌<◌, ◌≢◌, true, false, List, Contains, Some, IsSome}
 use Rattle.bmx_table.specs.declared.tables.Table.{Table}
 use Rattle.bmx_msg.specs.declared.letters.Letter.{Letter}
