@@ -1,4 +1,1 @@
-mod Telling
-mod OneNode
-mod Steps
 mod Writing

@@ -1,3 +1,2 @@
 -- What serves proofs and private functions alone: no contract that a user calls by reaches it.
-pub mod Progress
 pub mod Writing

@@ -1,18 +1,21 @@
 -- What the program answers, and why.
-use Rattle.std.specs.Prelude.{◌≡◌, ℕ, ◌+◌, ◌^◌, true, false, List, [], Option, Some, None, Result, Ok, Err, take, drop, IfSome}
+use Rattle.std.specs.Prelude.{◌≡◌, ℕ, ◌+◌, ◌≤◌, ◌^◌, ◌⊎◌, true, false, List, [], Option, Some, None, Result, Ok, Err, length, take, drop, IfSome}
 use Rattle.std.specs.Io.KnownBytes.{Appends}
 use Rattle.bmx_outside.specs.Faults.{Rose}
 use Rattle.bmx_outside.specs.Streams.{AppendsPart}
-use Rattle.bmx_local.specs.Locals.{MeansGraph}
 use Rattle.bmx_script.specs.declared.lines.Bad.{Bad}
 use Rattle.bmx_script.specs.declared.lines.Line.{Line}
 use Rattle.bmx_script.specs.Grammar.{IsReading}
-use Rattle.bmx_cli.specs.declared.runs.Run.{Run}
-use Rattle.bmx_cli.specs.declared.statuses.Status.{Status}
-use Rattle.bmx_cli.specs.declared.statuses.Status.TheVariants as status
-use Rattle.bmx_cli.specs.Texts.{text_of, has_refusal}
-use Rattle.bmx_cli.specs.Runs.{Order, Follows, graph_after}
+use Rattle.bmx_world.specs.declared.runs.Run.{Run}
+use Rattle.bmx_world.specs.declared.runs.RunEnd.{RunEnd}
+use Rattle.bmx_world.specs.declared.runs.RunEnd.TheVariants as end
+use Rattle.bmx_world.specs.declared.statuses.Status.{Status}
+use Rattle.bmx_world.specs.declared.statuses.Status.TheVariants as status
+use Rattle.bmx_world.specs.Texts.{has_refusal}
+use Rattle.bmx_world.specs.Runs.{IsRunOf, IsEnd}
 use Rattle.bmx_cli.specs.Words.{misfit_in}
+
+-- ## the call
 
 -- a source or a sink before a call and behind it: the bytes that it had left, or that were written to it,
 -- where it tells them, and how many faults it had had
@@ -44,6 +47,10 @@ WrotePrefix sink text = (n : ℕ) × Wrote sink (take n text)
 abbrev pub WrotePart : Device → List ℕ → Type 0
 WrotePart sink text = AppendsPart sink.before sink.behind text
 
+-- all of them were, or a part, where the sink failed
+abbrev pub WroteAsFar : Device → List ℕ → Type 0
+WroteAsFar sink text = Wrote sink text ⊎ (HadFault sink × WrotePart sink text)
+
 -- how many bytes of a script are read at most: one more than a script may have
 abbrev pub read_limit : ℕ
 read_limit = 2 ^ 20 + 1
@@ -56,14 +63,21 @@ HasRead source bytes = IfSome source.before (λ all. (bytes ≡ all) × (source.
 abbrev pub Gave : Call → Result (List Line) Bad → Type 0
 Gave c script = (misfit_in c.words ≡ None) × ((bytes : List ℕ) × HasRead c.source bytes × IsReading bytes script)
 
--- a run was made of the script that the source gave, as far as it went: its history has the script's
--- commands, each once and in order, but for those that are still to come, answered as the graph does or
--- refused as full; its nodes mean the graph after that history, and its text is what that history prints
-pub record IsRun (c : Call) (to_come : List Order) (run : Run) : Type 0 where
+-- ## the run
+
+-- the seed of a run, and how many events it may have
+abbrev pub seed : ℕ
+seed = 0
+
+abbrev pub budget : ℕ
+budget = 1000000
+
+-- a run was made of the script that the source gave, by the turns of the seed, within the budget, and came to this end
+pub record IsRun (c : Call) (run : Run) (e : RunEnd) : Type 0 where
   pub script : Gave c (Ok run.script)
-  pub history : Follows run.script to_come run.history
-  pub nodes : MeansGraph run.nodes (graph_after run.script run.history)
-  pub text : run.text ≡ text_of run.history
+  pub run_of : IsRunOf run.script seed run
+  pub few : length run.history ≤ budget
+  pub ends : IsEnd run.script budget run.history e
 
 -- why a call answers so. Each answer stands with a run or without one; a pair that isn't listed never comes
 abbrev pub Explains : Call → Status → Option Run → Type 0
@@ -71,8 +85,10 @@ Explains c (status.Usage word) None = (misfit_in c.words ≡ Some word) × Wrote
 Explains c status.ReadFault None = (misfit_in c.words ≡ None) × HadFault c.source × Wrote c.sink []
 Explains c (status.BadScript bad) None = Gave c (Err bad) × Wrote c.sink []
 Explains c status.NoMemory None = (misfit_in c.words ≡ None) × Wrote c.sink []
-Explains c status.NoMemory (Some run) = ((to_come : List Order) × IsRun c to_come run) × WrotePrefix c.sink run.text
-Explains c status.Done (Some run) = IsRun c [] run × (has_refusal run.history ≡ false) × Wrote c.sink run.text
-Explains c status.SomeRefused (Some run) = IsRun c [] run × (has_refusal run.history ≡ true) × Wrote c.sink run.text
-Explains c status.WriteFault (Some run) = IsRun c [] run × HadFault c.sink × WrotePart c.sink run.text
+Explains c status.NoMemory (Some run) = ((e : RunEnd) × IsRun c run e) × WrotePrefix c.sink run.text
+Explains c status.Done (Some run) = IsRun c run end.Ended × (has_refusal run.history ≡ false) × Wrote c.sink run.text
+Explains c status.SomeRefused (Some run) = IsRun c run end.Ended × (has_refusal run.history ≡ true) × Wrote c.sink run.text
+Explains c status.WriteFault (Some run) = IsRun c run end.Ended × HadFault c.sink × WrotePart c.sink run.text
+Explains c status.Stuck (Some run) = IsRun c run end.Stuck × WroteAsFar c.sink run.text
+Explains c status.Spent (Some run) = IsRun c run end.Spent × WroteAsFar c.sink run.text
 Explains c s run = ⊥

@@ -1,15 +1,11 @@
 //! The store of objects as a program: reads a script, runs it and prints what it shows.
 #![tactic(auto)]
 
-mod runs;
-mod statuses;
-#[cfg(test)]
-mod tests;
 mod top;
 mod words;
 
 use bmx_outside::{StdSink, StdSource};
-use statuses::Status;
+use bmx_world::Status;
 use top::bmx;
 use words::given_words;
 

@@ -1,3 +1,4 @@
+//! The words of the command line, and whether they fit.
 ghost use Rattle.std.specs.Prelude.{◌≡◌, map, string_bytes, IfOk, [], IsUtf8};
 ghost use Rattle.bmx_cli.specs.Words.{misfit_in};
 

@@ -1,11 +1,14 @@
-use Rattle.std.proofs.Common.{◌≤◌, take}
+use Rattle.std.proofs.Common.{◌≡◌, ◌≤◌, ℕ, List, ◌++◌, length}
 use Rattle.std.specs.Io.KnownBytes.{Appends}
-use Rattle.bmx_cli.specs.Inside.Writing.{printed_by}
 use Rattle.bmx_cli.proofs.top.write_lines.Given as goal
 
-abbrev pub invariant-loop-step : goal.invariant-loop-step
-invariant-loop-step g l =
+-- what was written is what stands before the rest
+abbrev pub invariant-loop-rest : goal.invariant-loop-rest
+invariant-loop-rest g l =
     record {
-      written : Appends (g.K.Sink.out l.fn.sink) (g.K.Sink.out l.sink) (printed_by (take l.step-index l.steps));
+      written : (front : List ℕ) × (front ++ l.rest ≡ l.fn.text) × Appends (g.K.Sink.out l.fn.sink) (g.K.Sink.out l.sink) front;
       counted : g.K.Sink.faults l.fn.sink ≤ g.K.Sink.faults l.sink;
     }
+
+abbrev pub decreases-loop-rest : goal.decreases-loop-rest
+decreases-loop-rest g l = length l.rest

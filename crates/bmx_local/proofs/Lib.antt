@@ -1,5 +1,0 @@
-pub mod Shown
-pub mod Kept
-pub mod Opened
-pub mod Rooms
-pub mod Reached

@@ -1,3 +1,0 @@
-pub mod Locals
-pub mod Rooms
-pub mod Solos
