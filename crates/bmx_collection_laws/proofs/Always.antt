@@ -14,11 +14,9 @@ use Rattle.bmx_token_model.specs.Machine.{Object, Numbers, Run, IsNowhere, IsFir
 use Rattle.bmx_token_model.specs.Tables.{Stays}
 use Rattle.bmx_token_model.proofs.Cleaning.{table_run}
 use Rattle.std.specs.Option.{option_map, option_map_or}
-use Rattle.std.specs.Prelude.{◌&&◌, ◌⊎◌, nat_lt}
-use Rattle.bmx_protocol.specs.declared.inputs.Input.{Input}
-use Rattle.bmx_protocol.specs.declared.inputs.Done.{Done}
+use Rattle.std.specs.Prelude.{◌&&◌, nat_lt}
 use Rattle.bmx_protocol.specs.declared.events.Event.{Event}
-use Rattle.bmx_protocol.specs.Nodes.{Setting, Known, is_anchor, birth_of, owned_birth, heard_birth, share_of}
+use Rattle.bmx_protocol.specs.Nodes.{Setting, Known, is_anchor, birth_of, owned_birth, heard_birth}
 use Rattle.bmx_protocol.specs.Steps.{Node, first_node}
 use Rattle.bmx_protocol.specs.Worlds.{world_of}
 use Rattle.bmx_protocol.proofs.Basics.{some_same, none_some}
@@ -28,7 +26,6 @@ use Rattle.bmx_collection.proofs.Listing.{append_nil}
 use Rattle.bmx_collection.proofs.Replayed.{joined}
 use Rattle.bmx_collection.proofs.Pairing.{AllSafe, tables_one_more, event_safe, first_safe}
 use Rattle.bmx_collection.proofs.Standing.{IsWhole, AllWhole, first_whole, event_whole}
-use Rattle.bmx_store_laws.specs.Laws.{IsCounted}
 use Rattle.bmx_store_laws.specs.Inside.Seen.{seen, seen_known, seen_record, first_world}
 use Rattle.bmx_store_laws.proofs.Openings.{IsNamed, is_first, named_first, channels_first}
 use Rattle.bmx_collection_laws.proofs.Bunches.{IsRecordOf, SaysBunch}

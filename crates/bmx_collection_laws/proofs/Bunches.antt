@@ -27,16 +27,15 @@ use Rattle.bmx_protocol.specs.declared.inputs.Input.{Input}
 use Rattle.bmx_protocol.specs.declared.inputs.Input.TheVariants as input
 use Rattle.bmx_protocol.specs.declared.inputs.NodeAnswer.{NodeAnswer}
 use Rattle.bmx_protocol.specs.declared.inputs.NodeAnswer.TheVariants as answer
-use Rattle.bmx_protocol.specs.declared.inputs.Sending.{Sending}
 use Rattle.bmx_protocol.specs.declared.views.ViewField.{ViewField}
 use Rattle.bmx_protocol.specs.declared.views.ViewField.TheVariants as field
-use Rattle.bmx_protocol.specs.Nodes.{Setting, NodeState, Known, share_of, with_field, seen_graph}
-use Rattle.bmx_protocol.specs.Changes.{Change, Sets, Makes, Knows, Hears, Gives, Gets, Issues, Takes, heard_of, record_of, after_change, after_changes, with_step}
+use Rattle.bmx_protocol.specs.Nodes.{Setting, NodeState, Known, share_of, seen_graph}
+use Rattle.bmx_protocol.specs.Changes.{Change, Sets, Makes, Knows, Hears, Gives, Gets, Issues, Takes, heard_of, record_of, after_change, after_changes}
 use Rattle.bmx_protocol.specs.Rules.{Draft, Reaction, only, info_of, told_field, told_fields, message, drafts_of, known_change, operation_answer, after_operation, operation_rule, About, Token, Fields, Making, Nothing, about, next_name, new_object, stored, graph_changes, answered, graph_rule, token_rule, knows, command_rule, name_in, note_in, info_in, infos, copy_after, got_change, took, take_rule}
 use Rattle.bmx_protocol.specs.Strays.{is_bad_letter}
-use Rattle.bmx_protocol.specs.Steps.{Told, rule, letter_in, numbered, letters_of, sent_changes, changes_of, closed}
+use Rattle.bmx_protocol.specs.Steps.{Told, rule, numbered, letters_of, sent_changes, changes_of, closed}
 use Rattle.bmx_protocol.specs.Histories.{letters_to}
-use Rattle.bmx_protocol.proofs.Basics.{eqb_is, eqb_of, Two, Same, Apart, two, Every, every_append, some_same, none_some}
+use Rattle.bmx_protocol.proofs.Basics.{eqb_of, Two, Same, Apart, two, Every, some_same, none_some}
 use Rattle.bmx_protocol.proofs.Changing.{Each, each_append, kept_by_each}
 use Rattle.bmx_collection.specs.Reach.{is_reference_to}
 use Rattle.bmx_collection.proofs.References.{holds}

@@ -1,15 +1,14 @@
 -- What has come about after events, seen for one name: its bunch, and a run of the model with the tables of that bunch.
-use Rattle.std.proofs.Common.{◌≡◌, ℕ, ◌+◌, ◌^◌, ◌<◌, ◌≤◌, ◌&&◌, ◌||◌, arith, refl, ap, sym, subst, ◌∙◌, ◌-◌, Bool, true, false, cond, List, [], ◌∷◌, ◌++◌, map, length, drop}
-use Rattle.std.specs.Prelude.{◌==◌, ◌≢◌, Option, Some, None, IsSome, is_some, unwrap_or, filter_map}
+use Rattle.std.proofs.Common.{◌≡◌, ℕ, ◌+◌, ◌^◌, ◌<◌, ◌≤◌, ◌&&◌, ◌||◌, arith, refl, ap, sym, subst, ◌∙◌, ◌-◌, Bool, true, false, cond, List, [], ◌∷◌, map, length}
+use Rattle.std.specs.Prelude.{◌==◌, Option, Some, None, IsSome, unwrap_or, filter_map}
 use Rattle.std.specs.Option.{option_map_or}
 use Rattle.std.specs.List.{list_any}
 use Rattle.std.proofs.lemmas.List.{length-drop, length-map}
-use Rattle.bmx_types.specs.Words.{name_word, maker, count_of}
+use Rattle.bmx_types.specs.Words.{maker, count_of}
 use Rattle.std.proofs.lemmas.Nat.{div-mul-add, mod-mul-add}
 use Rattle.bmx_table.specs.declared.tables.Table.{Table}
-use Rattle.bmx_msg.specs.declared.letters.Letter.{Letter}
 use Rattle.bmx_owner.specs.Records.{is_listed}
-use Rattle.bmx_token_model.specs.Machine.{Message, Object, Run, IsNowhere}
+use Rattle.bmx_token_model.specs.Machine.{Object, Run, IsNowhere}
 use Rattle.bmx_token_model.specs.Tables as model
 use Rattle.bmx_token_model.specs.Tables.{Tabled, TableRun, untabled}
 use Rattle.bmx_token_model.proofs.Traffic as traffic

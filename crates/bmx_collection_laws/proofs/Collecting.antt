@@ -1,7 +1,7 @@
 -- One more event of a collector: what has come about stays so. A collection forgets what the model may forget, and a
 -- table clears what it may clear.
-use Rattle.std.proofs.Common.{◌≡◌, ◌≢◌, ℕ, ◌+◌, ◌<◌, ◌≤◌, ◌==◌, ◌&&◌, ◌||◌, ◌⊎◌, inl, inr, not, nat_lt, nat_le, arith, refl, ap, sym, subst, ◌∙◌, Bool, true, false, cond, List, [], ◌∷◌, ◌++◌, length, Contains}
-use Rattle.std.specs.Prelude.{Option, Some, None, IsSome, is_some, filter_map}
+use Rattle.std.proofs.Common.{◌≡◌, ◌≢◌, ℕ, ◌<◌, ◌≤◌, ◌==◌, ◌&&◌, ◌||◌, ◌⊎◌, inl, inr, not, nat_lt, nat_le, arith, refl, ap, sym, subst, ◌∙◌, Bool, true, false, cond, List, [], ◌∷◌, ◌++◌, length, Contains}
+use Rattle.std.specs.Prelude.{Option, Some, None, is_some}
 use Rattle.std.specs.Option.{option_map_or}
 use Rattle.std.specs.List.{cons_option}
 use Rattle.std.proofs.lemmas.Bool.Decides.{nat_tests}
@@ -23,12 +23,11 @@ use Rattle.bmx_token_model.specs.Machine.{Numbers, Object, IsNowhere, IsIdle, wi
 use Rattle.bmx_token_model.specs.Tables as model
 use Rattle.bmx_token_model.specs.Tables.{Tabled, TableRun, Goes, Forgets, Tabulates, Clears, MayForget, MayClear, looks_as, looks_to, untabled}
 use Rattle.bmx_protocol.specs.declared.events.Event.{Event}
-use Rattle.bmx_protocol.specs.Nodes.{Setting, NodeState, Known, AreAll, share_of}
+use Rattle.bmx_protocol.specs.Nodes.{Setting, NodeState, Known, share_of}
 use Rattle.bmx_protocol.specs.Changes.{with_step}
 use Rattle.bmx_protocol.specs.Steps.{Node}
-use Rattle.bmx_protocol.specs.Histories.{in_flight}
 use Rattle.bmx_protocol.specs.Worlds.{world_of}
-use Rattle.bmx_protocol.proofs.Basics.{eqb_is, eqb_of, eqb_same, Two, Same, Apart, two, at_each, some_same, none_some}
+use Rattle.bmx_protocol.proofs.Basics.{eqb_is, eqb_of, eqb_same, Two, Same, Apart, two, at_each, none_some}
 use Rattle.bmx_collection.specs.Reach.{is_child, is_busy}
 use Rattle.bmx_collection.specs.ToSpaces.{is_too_large}
 use Rattle.bmx_collection.specs.Tables.{table_of, is_stray_table}
@@ -39,10 +38,9 @@ use Rattle.bmx_collection.proofs.Rising.{listed, listed_there}
 use Rattle.bmx_collection.proofs.Tokens.{collector_touches_no_token}
 use Rattle.bmx_store_laws.specs.Laws.{IsCounted}
 use Rattle.bmx_store_laws.specs.Inside.Seen.{seen, seen_known, seen_record, first_world}
-use Rattle.bmx_store_laws.proofs.Channels.{Channels}
 use Rattle.bmx_collection_laws.proofs.Moves.{Leads, beside}
 use Rattle.bmx_collection_laws.proofs.Bunches.{IsRecordOf, SaysBunch}
-use Rattle.bmx_collection_laws.proofs.Came.{view, view_from, views, tabled, SaysAll, HasRun, Kept, Nowhere, Somewhere, Came}
+use Rattle.bmx_collection_laws.proofs.Came.{view, view_from, views, SaysAll, HasRun, Kept, Nowhere, Somewhere, Came}
 
 -- ## tests
 

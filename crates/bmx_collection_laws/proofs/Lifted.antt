@@ -1,5 +1,5 @@
 -- The laws of one object with tables, over legal histories with collectors.
-use Rattle.std.proofs.Common.{◌≡◌, ℕ, ◌≤◌, arith, refl, ap, sym, subst, ◌∙◌, Bool, true, false, List, [], ◌∷◌, ◌++◌, map, Contains, ◌⊎◌, inl, inr}
+use Rattle.std.proofs.Common.{◌≡◌, ℕ, arith, refl, ap, sym, subst, ◌∙◌, Bool, true, false, List, [], ◌∷◌, ◌++◌, map, Contains, ◌⊎◌, inl, inr}
 use Rattle.std.specs.Prelude.{Option, Some, None, IsSome, is_some}
 use Rattle.std.proofs.lemmas.List.{map-append}
 use Rattle.bmx_types.specs.declared.numbers.Mode.{Mode}
@@ -9,17 +9,16 @@ use Rattle.bmx_msg.specs.Letters.{given}
 use Rattle.bmx_owner.specs.declared.entering.Record.{Record}
 use Rattle.bmx_owner.specs.Records.{is_listed}
 use Rattle.bmx_clean.specs.Cleaning.{ends_record}
-use Rattle.bmx_token_model.specs.Machine.{Message, Object, IsUnneededRecord, gives, brings}
-use Rattle.bmx_token_model.specs.Tables.{MayClear}
+use Rattle.bmx_token_model.specs.Machine.{Message, IsUnneededRecord, gives, brings}
 use Rattle.bmx_token_model.proofs.Requests.{IsRequested, IsCalm, requested_run}
 use Rattle.bmx_token_model.proofs.Cleaning.{cleaned_unneeded}
 use Rattle.bmx_protocol.specs.declared.events.Event.{Event}
 use Rattle.bmx_protocol.specs.Nodes.{Setting, share_of}
 use Rattle.bmx_protocol.specs.Steps.{Node}
 use Rattle.bmx_protocol.specs.Worlds.{World, world_of, IsHandedOver}
-use Rattle.bmx_collection.specs.Steps.{LinkedNode, unlinked}
-use Rattle.bmx_collection.specs.Histories.{LinkedEvent, plain_events, tables_made}
-use Rattle.bmx_collection.specs.Worlds.{linked_world_of, IsRecordNeeded, ByItsParent, ByALetter}
+use Rattle.bmx_collection.specs.Steps.{unlinked}
+use Rattle.bmx_collection.specs.Histories.{plain_events, tables_made}
+use Rattle.bmx_collection.specs.Worlds.{IsRecordNeeded, ByItsParent, ByALetter}
 use Rattle.bmx_collection.proofs.Listing.{clash, behind, first_of, one_of}
 use Rattle.bmx_collection.proofs.Rising.{listed}
 use Rattle.bmx_collection.proofs.Pairing.{scions_are_safe}
@@ -28,10 +27,9 @@ use Rattle.bmx_store_laws.proofs.Sends.{notes_give}
 use Rattle.bmx_store_laws.proofs.Openings.{is_first}
 use Rattle.bmx_store_laws.proofs.Owners.{is_hand, counted, HandsAmong, among}
 use Rattle.bmx_collection_laws.specs.Laws.{ReadyIsAlwaysWanted, RecordsAreSafe, TablesDoNoHarm}
-use Rattle.bmx_collection_laws.proofs.Bunches.{IsRecordOf}
 use Rattle.bmx_collection_laws.proofs.Came.{view, tabled, HasRun, Kept, Nowhere, Somewhere}
 use Rattle.bmx_collection_laws.proofs.Collecting.{Ends, ends_so, viewed}
-use Rattle.bmx_collection_laws.proofs.Always.{CameLinked, came_always, each_name_always}
+use Rattle.bmx_collection_laws.proofs.Always.{came_always, each_name_always}
 
 -- ## tokens
 

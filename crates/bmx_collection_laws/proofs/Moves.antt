@@ -5,12 +5,10 @@ use Rattle.std.specs.Option.{option_map_or}
 use Rattle.std.proofs.lemmas.List.{map-append}
 use Rattle.bmx_types.specs.Updates.{put, put_at}
 use Rattle.bmx_msg.specs.declared.letters.Letter.{Letter}
-use Rattle.bmx_token.specs.Transitions.{made_share}
 use Rattle.bmx_token_model.specs.Machine.{Message, Numbers, Object, with_holding, issue, issue_all, draft, got_in, popped, is_handover, IsNowhere, Makes, Does, Receives, Writes}
 use Rattle.bmx_token_model.specs.Tables.{Table, Tabled, TableRun, Goes, Moves}
 use Rattle.bmx_protocol.specs.declared.events.Event.{Event}
 use Rattle.bmx_protocol.specs.Nodes.{NodeState}
-use Rattle.bmx_protocol.specs.Changes.{after_changes}
 use Rattle.bmx_protocol.specs.Rules.{Draft, Reaction, next_name}
 use Rattle.bmx_protocol.specs.Steps.{Node}
 use Rattle.bmx_protocol.specs.Histories.{in_flight}

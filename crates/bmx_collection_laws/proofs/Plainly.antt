@@ -1,44 +1,43 @@
 -- One more event without a collector: what has come about stays so.
-use Rattle.std.proofs.Common.{◌≡◌, ℕ, ◌+◌, ◌^◌, ◌<◌, ◌≤◌, ◌||◌, arith, refl, ap, sym, subst, ◌∙◌, Bool, true, false, cond, List, [], ◌∷◌, ◌++◌, length, drop, suc, inl, inr, ⊎_elim}
+use Rattle.std.proofs.Common.{◌≡◌, ℕ, ◌+◌, ◌<◌, ◌≤◌, ◌||◌, arith, refl, ap, sym, subst, ◌∙◌, Bool, true, false, cond, List, [], ◌∷◌, ◌++◌, length, drop, suc}
 use Rattle.std.specs.Prelude.{◌==◌, ◌≢◌, not, nat_le, Option, Some, None, IsSome, slice_get}
 use Rattle.std.specs.List.{cons_option, flat_map}
 use Rattle.bmx_types.specs.Words.{maker, count_of}
 use Rattle.bmx_types.specs.Updates.{put}
 use Rattle.bmx_table.specs.declared.tables.Table.{Table}
 use Rattle.bmx_msg.specs.declared.letters.Letter.{Letter}
-use Rattle.bmx_token.specs.Transitions.{Serves, made_share}
-use Rattle.bmx_token_model.specs.Machine.{Object, IsNowhere, with_holding}
+use Rattle.bmx_token.specs.Transitions.{Serves}
+use Rattle.bmx_token_model.specs.Machine.{IsNowhere}
 use Rattle.bmx_token_model.specs.Tables as model
 use Rattle.bmx_token_model.specs.Tables.{Tabled}
 use Rattle.bmx_protocol.specs.declared.inputs.Input.{Input}
 use Rattle.bmx_protocol.specs.declared.inputs.Input.TheVariants as input
 use Rattle.bmx_protocol.specs.declared.inputs.NodeAnswer.{NodeAnswer}
 use Rattle.bmx_protocol.specs.declared.inputs.NodeAnswer.TheVariants as answer
-use Rattle.bmx_protocol.specs.declared.inputs.Sending.{Sending}
 use Rattle.bmx_protocol.specs.declared.inputs.Done.{Done}
 use Rattle.bmx_protocol.specs.declared.events.Event.{Event}
-use Rattle.bmx_protocol.specs.Nodes.{Setting, NodeState, Known}
+use Rattle.bmx_protocol.specs.Nodes.{Setting, NodeState}
 use Rattle.bmx_protocol.specs.Changes.{Change, Knows, after_changes, with_step}
 use Rattle.bmx_protocol.specs.Rules.{Reaction, only, about, next_name, take_rule}
 use Rattle.bmx_protocol.specs.Strays.{too_large, is_no_node, is_bad_msg, is_bad_letter}
-use Rattle.bmx_protocol.specs.Steps.{Node, letter_in, rule, letters_of, sent_changes, closed, numbered, is_taken, IsStep}
+use Rattle.bmx_protocol.specs.Steps.{Node, rule, letters_of, sent_changes, is_taken, IsStep}
 use Rattle.bmx_protocol.specs.Histories.{letters_to, issued, arrived, taken, in_flight, letter_from, IsNext}
 use Rattle.bmx_protocol.specs.Worlds.{world_of}
-use Rattle.bmx_protocol.proofs.Basics.{eqb_is, eqb_of, eqb_not, Two, Same, Apart, two, at_each, Every, every_append}
+use Rattle.bmx_protocol.proofs.Basics.{eqb_is, eqb_of, eqb_not, at_each, Every, every_append}
 use Rattle.bmx_protocol.proofs.Changing.{Each, after_append}
 use Rattle.bmx_protocol.proofs.Counts.{rule_issues}
 use Rattle.bmx_store_laws.specs.Laws.{IsCounted}
-use Rattle.bmx_store_laws.specs.Inside.Seen.{seen, seen_known}
+use Rattle.bmx_store_laws.specs.Inside.Seen.{seen_known}
 use Rattle.bmx_store_laws.proofs.Sends.{IsLeft, letters_left}
 use Rattle.bmx_store_laws.proofs.Shares.{shares_after, shares_changed, Spares, all_spared}
 use Rattle.bmx_store_laws.proofs.Ruled.{Did, Passes, IsQuiet, act_quiet, command_quiet, command_did, serve_did}
 use Rattle.bmx_store_laws.proofs.Taken.{Taken, Strayed, Taking, Took, take_taken}
-use Rattle.bmx_store_laws.proofs.Channels.{Channels, Now, Nothing, First, numbered_at, slice_drop, IssuesDrafts, channels_more, letters_by, way_left, way_nothing, way_taken}
+use Rattle.bmx_store_laws.proofs.Channels.{Channels, Now, Nothing, First, numbered_at, slice_drop, channels_more, letters_by, way_left, way_nothing, way_taken}
 use Rattle.bmx_store_laws.proofs.Calm.{nowhere_calm}
 use Rattle.bmx_store_laws.proofs.Events.{IsOutcomeOf, Happened, Made, Calmly, quiet_happened, taking_happened}
 use Rattle.bmx_collection_laws.proofs.Moves.{object_before, object_after, Leads, quiet_run, taking_run}
 use Rattle.bmx_collection_laws.proofs.Bunches.{SaysBunch, LetterOf, InputOf, MadeOf, RuleOf, rule_of, closed_says, letters_tell}
-use Rattle.bmx_collection_laws.proofs.Came.{views, tabled, SaysAll, HasRun, Kept, Nowhere, Somewhere, Came, issued_is, IsSure, sure_free, new_name, maker_next, count_next}
+use Rattle.bmx_collection_laws.proofs.Came.{views, SaysAll, HasRun, Kept, Nowhere, Somewhere, Came, issued_is, IsSure, sure_free, new_name, maker_next, count_next}
 
 -- ## what an event takes
 

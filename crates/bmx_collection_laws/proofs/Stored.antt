@@ -1,9 +1,8 @@
 -- The laws of stores, over legal histories with collectors.
-use Rattle.std.proofs.Common.{◌≡◌, ℕ, ◌<◌, refl, ap, sym, subst, ◌∙◌, cond, List, [], ◌∷◌, ◌++◌, inl, inr}
+use Rattle.std.proofs.Common.{◌≡◌, ℕ, ◌<◌, refl, ap, sym, subst, ◌∙◌, cond, List, [], ◌∷◌, ◌++◌}
 use Rattle.std.specs.Prelude.{None}
 use Rattle.bmx_types.specs.Openings.{IsOpening}
 use Rattle.bmx_types.specs.Updates.{put}
-use Rattle.bmx_token_model.specs.Machine.{Object}
 use Rattle.bmx_token_model.specs.Laws.{HasOneSeat, ReadersListed, WantsArePlaced, WriteExcludes as Excludes, ParentsLead as ModelLeads}
 use Rattle.bmx_token_model.proofs.Requests.{IsRequested, requested_run}
 use Rattle.bmx_token_model.proofs.Parents.{IsPointed, pointed_run}
@@ -13,7 +12,6 @@ use Rattle.bmx_token_model.proofs.Owners.{ownership_is_one}
 use Rattle.bmx_token_model.proofs.Readers.{readers_are_listed}
 use Rattle.bmx_token_model.proofs.Shared.{tokens_exclude}
 use Rattle.bmx_protocol.specs.Nodes.{Setting}
-use Rattle.bmx_protocol.specs.Steps.{Node}
 use Rattle.bmx_protocol.specs.Worlds.{World, world_of, IsSomewhere}
 use Rattle.bmx_protocol.proofs.Basics.{Two, Same, Apart, two}
 use Rattle.bmx_collection.specs.Steps.{LinkedNode, unlinked, first_linked}
