@@ -30,9 +30,10 @@ try:
 	@test -f "$(SCRIPT)" || { echo 'make try: SCRIPT="$(SCRIPT)" is no file; try SCRIPT=examples/first.bmx' >&2; exit 2; }
 	cd crates/bmx_cli && rt try -- run < $(abspath $(SCRIPT))
 
-# Runs each example and compares what it prints with the file beside it.
+# Runs each example NAME.bmx, and compares what it prints with NAME.out and its exit code with that in NAME.code, 0 where
+# there is none.
 examples: build
-	for script in examples/*.bmx; do ./bin/bmx run < $$script | diff $${script%.bmx}.out - || exit 1; done
+	python3 tools/runs.py --examples bin/bmx
 
 # Runs the program by a table: words, closed and full streams, want of memory.
 runs: build
@@ -42,17 +43,17 @@ runs: build
 claims:
 	python3 tools/claims.py
 
-# Times a script of 2,000 lines and one of 20,000, and prints the ratio. With YARDSTICK=F, a folder with a plain program
-# of the same language and its measure.py, counts the instructions of both besides, by kind of script. Times cleanings
-# of ten records beside 100 to 100,000 others too, and nodes of 20 and of 20,000 objects, and counts instructions for each
-# key on lists and each name marked.
+# Times scripts of 2,000 and 20,000 lines at 1, 2 and 8 nodes, and prints ratios and memory. With YARDSTICK=F, a folder
+# with a plain program of the same language and its measure.py, counts the instructions of both besides, by kind of
+# script. Times cleanings of ten records beside 100 to 100,000 others too, and nodes of 20 and of 20,000 objects, and
+# counts instructions for each key on lists and each name marked.
 bench: build
 	python3 bench/lines.py bin/bmx
 	python3 bench/cleaning.py
 	python3 bench/nodes.py
 	python3 bench/parts.py
 ifdef YARDSTICK
-	python3 $(YARDSTICK)/measure.py bin/bmx $(YARDSTICK)/target/release/yardstick --line-writes --sizes 20000 --no-time
+	python3 $(YARDSTICK)/measure.py bin/bmx $(YARDSTICK)/target/release/yardstick --stage 4 --line-writes --sizes 20000 --no-time
 endif
 
 # Proves every crate over what earlier checks kept.
