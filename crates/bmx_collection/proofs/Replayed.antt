@@ -28,7 +28,7 @@ prefix_is_legal_linked st past rest legal = record {
 }
 
 -- the step of an event leads to one node
-one_node : (st : Setting) (me stamp : ℕ) (n n' m' : LinkedNode) (d : Deed) → IsDeed st me n stamp d n' → IsDeed st me n stamp d m' → n' ≡ m'
+pub one_node : (st : Setting) (me stamp : ℕ) (n n' m' : LinkedNode) (d : Deed) → IsDeed st me n stamp d n' → IsDeed st me n stamp d m' → n' ≡ m'
 one_node st me stamp n n' m' (Plain i d) a b =
     let both : (d ≡ d) × (record { state = n'.state; places = n'.places } ≡ record { state = m'.state; places = m'.places }) =
     step_is_determined.nodes st me stamp i _ _ _ d d a.step b.step in

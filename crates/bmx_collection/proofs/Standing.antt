@@ -27,7 +27,7 @@ use Rattle.bmx_protocol.specs.Steps.{rule, letters_of, sent_changes, changes_of,
 use Rattle.bmx_protocol.proofs.Basics.{eqb_is, eqb_of, Two, Same, Apart, two, some_same}
 use Rattle.bmx_protocol.proofs.Changing.{Each, each_append, kept_by_each, after_append}
 use Rattle.bmx_collection.specs.Links.{Links, with_pair, pairs_of}
-use Rattle.bmx_collection.specs.Reach.{is_entry, is_reference_to, refers, IsRoot, InRegister, IsAnchor, HasScion, IsReachedHere, Root, InField}
+use Rattle.bmx_collection.specs.Reach.{is_entry, is_reference_to, refers, IsRoot, InRegister, IsAnchor, HasScion, MayBeKept}
 use Rattle.bmx_collection.specs.Forgetting.{known_left, forgotten, links_kept}
 use Rattle.bmx_collection.specs.ToSpaces.{is_too_large}
 use Rattle.bmx_collection.specs.Tables.{is_stray_table}
@@ -36,6 +36,7 @@ use Rattle.bmx_collection.specs.Histories.{Deed, Plain, Collector, LinkedEvent, 
 use Rattle.bmx_collection.specs.Laws.{PairsAlwaysStand}
 use Rattle.bmx_collection.proofs.Rising.{listed, listed_there}
 use Rattle.bmx_collection.proofs.Tokens.{left_was, stands_kept}
+use Rattle.bmx_collection.proofs.Reaching.{reach_may_be_kept}
 use Rattle.bmx_collection.proofs.Listing.{clash, append_nil, behind, in_filter}
 use Rattle.bmx_collection.proofs.Replayed.{joined}
 use Rattle.bmx_collection.proofs.References.{holds, HasStub, Stand, the_known}
@@ -106,7 +107,7 @@ same_stand st me s u stubs same w =
 
 -- ## a collection
 
-module _ (st : Setting) (me bunch : ℕ) (s : NodeState) (l : Links) (kept : List ℕ) (all : AreAll (IsReachedHere s l bunch) kept)
+module _ (st : Setting) (me bunch : ℕ) (s : NodeState) (l : Links) (kept : List ℕ) (may : MayBeKept s l bunch kept)
     (answered : (x : Stub) → Contains l.stubs x → IsSome (find_one scion_pair l.scions x.source x.target)) (w : Stand st me s.made s.known s.register l.stubs) where
   entry_of : (x : ℕ) (k : Known) → s.known x ≡ Some k → k.bunch ≡ bunch → is_entry s bunch x ≡ true
   entry_of x k e same = ap (λ (o : Option Known). option_map_or (λ (j : Known). j.bunch == bunch) o false) e ∙ eqb_of same
@@ -114,9 +115,9 @@ module _ (st : Setting) (me bunch : ℕ) (s : NodeState) (l : Links) (kept : Lis
   refers_of : (y z : ℕ) (j : Known) → s.known y ≡ Some j → holds j z ≡ true → refers s y z ≡ true
   refers_of y z j e h = ap (λ (o : Option Known). option_map_or (λ (i : Known). option_map_or (list_any (is_reference_to z)) i.copy false) o false) e ∙ h
 
-  -- what is reached where it is of the bunch stays
-  stays : (x : ℕ) (k : Known) → s.known x ≡ Some k → (k.bunch ≡ bunch → IsReachedHere s l bunch x) → (forgotten bunch kept s).known x ≡ Some k
-  stays x k e reached = ap (known_left bunch (is_listed kept x)) e ∙ by (two k.bunch bunch)
+  -- what is kept where it is of the bunch stays
+  stays : (x : ℕ) (k : Known) → s.known x ≡ Some k → (k.bunch ≡ bunch → Contains kept x) → (forgotten bunch kept s).known x ≡ Some k
+  stays x k e is_kept_here = ap (known_left bunch (is_listed kept x)) e ∙ by (two k.bunch bunch)
     where
       none_go : (a b : Bool) → (a ≡ false) ⊎ (b ≡ true) → cond (a && not b) None (Some k) ≡ Some k
       none_go false b e = refl
@@ -124,22 +125,22 @@ module _ (st : Setting) (me bunch : ℕ) (s : NodeState) (l : Links) (kept : Lis
       none_go true false e = ⊎_elim (λ f. cc) (λ f. cc) e
 
       by : Two k.bunch bunch → known_left bunch (is_listed kept x) (Some k) ≡ Some k
-      by (Same same) = none_go (k.bunch == bunch) (is_listed kept x) (inr (listed kept x ((all.all x).1 (reached same))))
+      by (Same same) = none_go (k.bunch == bunch) (is_listed kept x) (inr (listed kept x (is_kept_here same)))
       by (Apart other differ) = none_go (k.bunch == bunch) (is_listed kept x) (inl other)
 
-  stays_some : (x : ℕ) → IsSome (s.known x) → ((k : Known) → s.known x ≡ Some k → k.bunch ≡ bunch → IsReachedHere s l bunch x) → IsSome ((forgotten bunch kept s).known x)
-  stays_some x some reached =
+  stays_some : (x : ℕ) → IsSome (s.known x) → ((k : Known) → s.known x ≡ Some k → k.bunch ≡ bunch → Contains kept x) → IsSome ((forgotten bunch kept s).known x)
+  stays_some x some is_kept_here =
       let k : (k : Known) × (s.known x ≡ Some k) = the_known (s.known x) some in
-      ap (λ (o : Option Known). is_some o) (stays x k.0 k.1 (reached k.0 k.1))
+      ap (λ (o : Option Known). is_some o) (stays x k.0 k.1 (is_kept_here k.0 k.1))
 
   was : (x : ℕ) (k : Known) → (forgotten bunch kept s).known x ≡ Some k → s.known x ≡ Some k
   was x k e = left_was bunch (is_listed kept x) (s.known x) k e
 
-  -- an entry of the bunch that stands is reached
-  reached_where_left : (y : ℕ) (j : Known) → (forgotten bunch kept s).known y ≡ Some j → j.bunch ≡ bunch → IsReachedHere s l bunch y
-  reached_where_left y j e same =
+  -- an entry of the bunch that stands was kept
+  kept_where_left : (y : ℕ) (j : Known) → (forgotten bunch kept s).known y ≡ Some j → j.bunch ≡ bunch → Contains kept y
+  kept_where_left y j e same =
       let stands : is_entry (forgotten bunch kept s) bunch y ≡ true = ap (λ (o : Option Known). option_map_or (λ (i : Known). i.bunch == bunch) o false) e ∙ eqb_of same in
-      (all.all y).0 (listed_there kept y (stands_kept bunch (is_listed kept y) (s.known y) stands))
+      listed_there kept y (stands_kept bunch (is_listed kept y) (s.known y) stands)
 
   -- the target of a stub is a root
   targeted : (y z b : ℕ) → HasStub l.stubs y z b → IsRoot s l bunch z
@@ -154,16 +155,16 @@ module _ (st : Setting) (me bunch : ℕ) (s : NodeState) (l : Links) (kept : Lis
     counted = λ x j e mine. w.counted x j (was x j e) mine;
     anchors = λ b less.
         let a : (k : Known) × (s.known (anchor_of b) ≡ Some k) × (k.bunch ≡ b) = w.anchors b less in
-        (a.0, stays (anchor_of b) a.0 a.1 (λ same. Root (entry_of (anchor_of b) a.0 a.1 same) (IsAnchor (ap anchor_of (sym a.2 ∙ same)))), a.2);
-    registers = λ r x less e. stays_some x (w.registers r x less e) (λ k is same. Root (entry_of x k is same) (InRegister r less e));
+        (a.0, stays (anchor_of b) a.0 a.1 (λ same. may.rooted (anchor_of b) (entry_of (anchor_of b) a.0 a.1 same) (IsAnchor (ap anchor_of (sym a.2 ∙ same)))), a.2);
+    registers = λ r x less e. stays_some x (w.registers r x less e) (λ k is same. may.rooted x (entry_of x k is same) (InRegister r less e));
     targets = λ y z j e h. stays_some z (w.targets y z j (was y j e) h) (λ k is same. by_bunch y z j k e h is same (two j.bunch bunch));
     pairs = λ y z j k ey ez h apart. keeps y z j ey h (w.pairs y z j k (was y j ey) (was z k ez) h apart);
   }
     where
-      by_bunch : (y z : ℕ) (j k : Known) → (forgotten bunch kept s).known y ≡ Some j → holds j z ≡ true → s.known z ≡ Some k → k.bunch ≡ bunch → Two j.bunch bunch → IsReachedHere s l bunch z
-      by_bunch y z j k e h is same (Same here) = InField y (entry_of z k is same) (reached_where_left y j e here) (refers_of y z j (was y j e) h)
+      by_bunch : (y z : ℕ) (j k : Known) → (forgotten bunch kept s).known y ≡ Some j → holds j z ≡ true → s.known z ≡ Some k → k.bunch ≡ bunch → Two j.bunch bunch → Contains kept z
+      by_bunch y z j k e h is same (Same here) = may.closed y z (kept_where_left y j e here) (entry_of z k is same) (refers_of y z j (was y j e) h)
       by_bunch y z j k e h is same (Apart other differ) =
-          Root (entry_of z k is same) (targeted y z j.bunch (w.pairs y z j k (was y j e) is h (λ q. differ (q ∙ same))))
+          may.rooted z (entry_of z k is same) (targeted y z j.bunch (w.pairs y z j k (was y j e) is h (λ q. differ (q ∙ same))))
 
       keeps : (y z : ℕ) (j : Known) → (forgotten bunch kept s).known y ≡ Some j → holds j z ≡ true → HasStub l.stubs y z j.bunch → HasStub (links_kept bunch kept s l).stubs y z j.bunch
       keeps y z j e h x = record {
@@ -187,7 +188,7 @@ module _ (st : Setting) (me bunch : ℕ) (s : NodeState) (l : Links) (kept : Lis
           kept_one : Two j.bunch bunch → is_kept bunch (is_listed kept) (refers s) x.stub ≡ true
           kept_one (Same here) =
               one (x.stub.bunch == bunch) (is_listed kept x.stub.source) (refers s x.stub.source x.stub.target)
-              (inr (ap (is_listed kept) source ∙ listed kept y ((all.all y).1 (reached_where_left y j e here)), (λ i. refers s (source i) (target i)) ∙ refers_of y z j (was y j e) h))
+              (inr (ap (is_listed kept) source ∙ listed kept y (kept_where_left y j e here), (λ i. refers s (source i) (target i)) ∙ refers_of y z j (was y j e) h))
           kept_one (Apart other differ) =
               one (x.stub.bunch == bunch) (is_listed kept x.stub.source) (refers s x.stub.source x.stub.target) (inl (ap (λ (b : ℕ). b == bunch) x.of_bunch ∙ other))
 
@@ -235,7 +236,7 @@ rule_by : (st : Setting) (me stamp : ℕ) (n : LinkedNode) (told : CollectorTold
     LeftBy st me n (collector_rule st me n told stamp i).node
 rule_by st me stamp n told (Collect bunch) is answered w =
     either_by st me n (is_too_large st.limit n.state n.places told.owned) (unchanged n (Refused refusal.Full)) _ (record { stand = w; made = refl; clock = refl })
-    (record { stand = collected_stand st me bunch n.state n.links told.kept is.kept answered w; made = refl; clock = refl })
+    (record { stand = collected_stand st me bunch n.state n.links told.kept (reach_may_be_kept n.state n.links bunch told.kept is.kept) answered w; made = refl; clock = refl })
 rule_by st me stamp n told Sweep is answered w = record { stand = w; made = refl; clock = refl }
 rule_by st me stamp n told (MakeTable bunch to) is answered w = record { stand = w; made = refl; clock = refl }
 rule_by st me stamp n told (TakeTable t) is answered w =

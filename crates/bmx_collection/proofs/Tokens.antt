@@ -8,13 +8,14 @@ use Rattle.bmx_owner.specs.Records.{is_listed}
 use Rattle.bmx_protocol.specs.Nodes.{Setting, NodeState, Known, AreAll}
 use Rattle.bmx_protocol.specs.Changes.{with_step}
 use Rattle.bmx_collection.specs.Links.{Links}
-use Rattle.bmx_collection.specs.Reach.{is_entry, is_busy, IsRoot, IsBusy, IsRecorded, IsReachedHere, Root}
+use Rattle.bmx_collection.specs.Reach.{is_entry, is_busy, IsRoot, IsBusy, IsRecorded, IsReachedHere, MayBeKept}
 use Rattle.bmx_collection.specs.Forgetting.{known_left, forgotten}
 use Rattle.bmx_collection.specs.ToSpaces.{is_too_large}
 use Rattle.bmx_collection.specs.Tables.{is_stray_table, state_cleaned}
 use Rattle.bmx_collection.specs.Steps.{LinkedNode, CollectorInput, Collect, Sweep, MakeTable, TakeTable, CollectorAnswer, Forgot, Refused, Stray, CollectorTold, CollectorReaction, CollectorDone, unchanged, collected, collect_rule, collector_rule, counted, IsCollectorTold}
 use Rattle.bmx_collection.specs.Laws.{IsSilent, LeavesTokens, CollectorTouchesNoToken, KeepsItsReach, CollectionKeepsItsReach}
 use Rattle.bmx_collection.proofs.Rising.{listed, listed_there}
+use Rattle.bmx_collection.proofs.Reaching.{reach_may_be_kept}
 
 -- ## what stays of one entry
 
@@ -72,14 +73,14 @@ same_leaves s u same = record {
     not_both : (name : ℕ) (k : Known) → s.known name ≡ Some k → u.known name ≡ None → ⊥
     not_both name k e gone = (let both : Some k ≡ None = sym e ∙ ap (λ (f : ℕ → Option Known). f name) (sym same) ∙ gone in cc)
 
-module _ (s : NodeState) (l : Links) (bunch : ℕ) (kept : List ℕ) (all : AreAll (IsReachedHere s l bunch) kept) where
+module _ (s : NodeState) (l : Links) (bunch : ℕ) (kept : List ℕ) (may : MayBeKept s l bunch kept) where
   -- a root of the bunch doesn't go
   root_stays : (name : ℕ) (k : Known) → s.known name ≡ Some k → (forgotten bunch kept s).known name ≡ None → IsRoot s l bunch name → ⊥
   root_stays name k e gone root =
       let is : ((k.bunch == bunch) ≡ true) × (is_listed kept name ≡ false) =
       gone_is bunch (is_listed kept name) k (subst (λ (o : Option Known). known_left bunch (is_listed kept name) o ≡ None) e gone) in
       let entry : is_entry s bunch name ≡ true = ap (λ (o : Option Known). option_map_or (λ (j : Known). j.bunch == bunch) o false) e ∙ is.0 in
-      let both : true ≡ false = sym (listed kept name ((all.all name).1 (Root entry root))) ∙ is.1 in
+      let both : true ≡ false = sym (listed kept name (may.rooted name entry root)) ∙ is.1 in
       cc
 
   forgetting_leaves : LeavesTokens s (with_step (forgotten bunch kept s))
@@ -126,7 +127,7 @@ reaches me n (TakeTable table) t told = tt
 rule_calm : (st : Setting) (me : ℕ) (n : LinkedNode) (t : CollectorTold) (stamp : ℕ) (i : CollectorInput) → Reaches n i t → Calm n (collector_rule st me n t stamp i).node
 rule_calm st me n t stamp (Collect bunch) all =
     either_calm n (is_too_large st.limit n.state n.places t.owned) (Refused refusal.Full) _
-    (silent_same n.state (forgotten bunch t.kept n.state) refl refl refl refl refl, forgetting_leaves n.state n.links bunch t.kept all)
+    (silent_same n.state (forgotten bunch t.kept n.state) refl refl refl refl refl, forgetting_leaves n.state n.links bunch t.kept (reach_may_be_kept n.state n.links bunch t.kept all))
 rule_calm st me n t stamp Sweep all = (silent_same n.state n.state refl refl refl refl refl, same_leaves n.state (with_step n.state) refl)
 rule_calm st me n t stamp (MakeTable bunch to) all = (silent_same n.state n.state refl refl refl refl refl, same_leaves n.state (with_step n.state) refl)
 rule_calm st me n t stamp (TakeTable table) all =

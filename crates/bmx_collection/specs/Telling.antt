@@ -1,12 +1,11 @@
 -- That the definitions say something: the first collection of a fresh store is a step, the worked runs are legal, and
--- three of them with one answer changed are not what the rules say.
+-- three of them with one answer changed are not.
 use Rattle.std.specs.Prelude.{◌≡◌, ℕ, zero, suc, List, [], ◌∷◌, Some, None}
 use Rattle.bmx_types.specs.Words.{address_word}
 use Rattle.bmx_clean.specs.declared.cleaner.Applied.TheVariants.{Removed}
 use Rattle.bmx_protocol.specs.Cases.{one_bunch}
-use Rattle.bmx_collection.specs.Steps.{LinkedNode, first_linked, Collect, Forgot, Cleaned, IsCollectorStep}
-use Rattle.bmx_collection.specs.Playing.{Said, CollectorSays, LinkedLine, IsSaidOf}
-use Rattle.bmx_collection.specs.Histories.{IsLegalLinked}
+use Rattle.bmx_collection.specs.Steps.{LinkedNode, first_linked, Collect, Forgot, Cleaned, CollectorDone, IsCollectorStep}
+use Rattle.bmx_collection.specs.Histories.{Deed, Plain, Collector, LinkedEvent, IsLegalLinked}
 use Rattle.bmx_collection.specs.Cases.Stores.{two_bunches}
 use Rattle.bmx_collection.specs.Cases.OldAddresses as addresses
 use Rattle.bmx_collection.specs.Cases.BetweenBunches as bunches
@@ -15,11 +14,16 @@ use Rattle.bmx_collection.specs.Cases.ALateTable as late_table
 use Rattle.bmx_collection.specs.Cases.AFullCollection as full_collection
 use Rattle.bmx_collection.specs.Cases.OnlyARegisterElsewhere as register_elsewhere
 
--- the lines with something else said of one of them, counted from 0
-abbrev pub with_said : List LinkedLine → ℕ → Said → List LinkedLine
-with_said [] i s = []
-with_said (l ∷ lines) zero s = record l { said = s } ∷ lines
-with_said (l ∷ lines) (suc i) s = l ∷ with_said lines i s
+-- what a collector does, with another outcome
+abbrev pub with_outcome : CollectorDone → Deed → Deed
+with_outcome d (Plain i o) = Plain i o
+with_outcome d (Collector i o) = Collector i d
+
+-- events, with another outcome of one of them, counted from 0
+abbrev pub with_outcome_at : ℕ → CollectorDone → List LinkedEvent → List LinkedEvent
+with_outcome_at i d [] = []
+with_outcome_at zero d (e ∷ history) = record e { deed = with_outcome d e.deed } ∷ history
+with_outcome_at (suc i) d (e ∷ history) = e ∷ with_outcome_at i d history
 
 -- the first collection of a store of one bunch forgets nothing, and the anchor moves to a segment made for it
 pub record FirstCollectionIsAStep : Type 0 where
@@ -36,10 +40,10 @@ pub record WorkedRunsAreLegalLinked : Type 0 where
   pub pairs_at_two_nodes : IsLegalLinked (two_bunches 2) pairs.at_the_end.history
   pub a_full_collection : IsLegalLinked (record (one_bunch 1) { limit = 2 }) full_collection.at_the_end.history
 
--- none of these is said: that the late table ended a record; that the second collection was done though segments were
+-- none of these is legal: that the late table ended a record; that the second collection was done though segments were
 -- lacking; that an object was forgotten that a record keeps
 pub record RunsTell : Type 0 where
   pub first : FirstCollectionIsAStep
-  pub late : IsSaidOf (one_bunch 2) (with_said late_table.lines 46 (CollectorSays 37 (Cleaned (Removed 1)) None)) → ⊥
-  pub full : IsSaidOf (record (one_bunch 1) { limit = 2 }) (with_said full_collection.lines 6 (CollectorSays 7 (Forgot 0) None)) → ⊥
-  pub kept : IsSaidOf (one_bunch 2) (with_said register_elsewhere.lines 23 (CollectorSays 21 (Forgot 1) None)) → ⊥
+  pub late : IsLegalLinked (one_bunch 2) (with_outcome_at 46 (record { answer = Cleaned (Removed 1); table = None }) late_table.at_the_end.history) → ⊥
+  pub full : IsLegalLinked (record (one_bunch 1) { limit = 2 }) (with_outcome_at 6 (record { answer = Forgot 0; table = None }) full_collection.at_the_end.history) → ⊥
+  pub kept : IsLegalLinked (one_bunch 2) (with_outcome_at 23 (record { answer = Forgot 1; table = None }) register_elsewhere.at_the_end.history) → ⊥

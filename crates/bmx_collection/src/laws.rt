@@ -47,7 +47,7 @@ pub fn found_is_told()
 {}
 
 /// The law that the definitions say something: the first collection of a fresh store is a step, and three worked runs
-/// with one answer changed are not what the rules say. It does nothing.
+/// with one answer changed are not legal. It does nothing.
 pub fn runs_tell()
     ensures { RunsTell }
 {}

@@ -6,3 +6,4 @@ pub mod Collecting
 pub mod Always
 pub mod Lifted
 pub mod Stored
+pub mod Targets

@@ -1,5 +1,5 @@
 //! The laws, as functions that do nothing and whose contracts state them.
-ghost use Rattle.bmx_collection_laws.specs.Laws.{LawsOfStoresStand, ReadyIsAlwaysWanted, RecordsAreSafe, TablesDoNoHarm};
+ghost use Rattle.bmx_collection_laws.specs.Laws.{LawsApply, LawsOfStoresStand, ReadyIsAlwaysWanted, RecordsAreSafe, TablesDoNoHarm, TargetsStand};
 
 /// The law that after each legal history of a store a token that is ready is wanted. It does nothing.
 pub fn ready_is_wanted()
@@ -23,4 +23,16 @@ pub fn tables_do_no_harm()
 /// owner, and names that their makers counted. It does nothing.
 pub fn laws_of_stores_stand()
     ensures { LawsOfStoresStand }
+{}
+
+/// The law that after each legal history of a store what copies and letters in flight refer to is known, at the node
+/// that has the copy and at the letter's sender, which has a record of what the letter gives. It does nothing.
+pub fn targets_stand()
+    ensures { TargetsStand }
+{}
+
+/// The law that there is a store with a legal history with collectors, worked by hand, to which the other laws apply. It
+/// does nothing.
+pub fn laws_apply()
+    ensures { LawsApply }
 {}

@@ -4,4 +4,7 @@
 
 mod laws;
 
-pub use laws::{laws_of_stores_stand, ready_is_wanted, records_are_safe, tables_do_no_harm};
+pub use laws::{
+    laws_apply, laws_of_stores_stand, ready_is_wanted, records_are_safe, tables_do_no_harm,
+    targets_stand,
+};

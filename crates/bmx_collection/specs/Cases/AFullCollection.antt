@@ -26,7 +26,7 @@ lines =
     ∷ by (Of (Do 0 (command.Done (operand.Anchor 0)))) (NodeSays 10 answer.Nil [])
     ∷ []
 
-a_full_collection : IsSaidOf (record (one_bunch 1) { limit = 2 }) lines
+pub a_full_collection : IsSaidOf (record (one_bunch 1) { limit = 2 }) lines
 a_full_collection = refl
 
 -- the nodes at the end

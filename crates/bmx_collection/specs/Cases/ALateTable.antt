@@ -78,7 +78,7 @@ lines =
     ∷ by (Of (Do 1 (command.Done (operand.Register 0)))) (NodeSays 47 answer.Nil [])
     ∷ []
 
-a_late_table : IsSaidOf (one_bunch 2) lines
+pub a_late_table : IsSaidOf (one_bunch 2) lines
 a_late_table = refl
 
 -- when the table of node 1 comes at last it ends nothing: 0.2 isn't listed, but was given again by letter 3, of which the

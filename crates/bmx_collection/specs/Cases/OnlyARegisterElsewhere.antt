@@ -52,7 +52,7 @@ lines =
     ∷ by (Of (Do 1 (command.Done (operand.Register 0)))) (NodeSays 30 answer.Nil [])
     ∷ []
 
-only_a_register_elsewhere : IsSaidOf (one_bunch 2) lines
+pub only_a_register_elsewhere : IsSaidOf (one_bunch 2) lines
 only_a_register_elsewhere = refl
 
 -- the nodes at the end

@@ -1,0 +1,22 @@
+-- What is to hold of every legal history of a store with collectors besides, and isn't proved yet: what holds without
+-- collectors of the graph that programs see, and of places.
+use Rattle.std.specs.Prelude.{ℕ}
+use Rattle.bmx_protocol.specs.Worlds.{IsCurrent, IsReached}
+use Rattle.bmx_collection.specs.Histories.{plain_events}
+use Rattle.bmx_places.specs.Laws.{PlacesAgree}
+use Rattle.bmx_coherence.specs.Graphs.{graph_after}
+use Rattle.bmx_coherence.specs.Laws.{IsGraphRun}
+use Rattle.bmx_collection_laws.specs.Laws.{AlwaysStored}
+
+-- the commands of all nodes, each with its answer, are a run of the plain graph, whatever was collected
+abbrev pub EveryHistoryStaysAGraphRun : Type 0
+EveryHistoryStaysAGraphRun = AlwaysStored (λ st history w. IsGraphRun st (plain_events history))
+
+-- each object that is reached in the graph has its current copy at its owner
+abbrev pub ReachedStayCurrent : Type 0
+ReachedStayCurrent =
+    AlwaysStored (λ st history w. (x : ℕ) → IsReached st (graph_after st (plain_events history)) x → IsCurrent w.world (graph_after st (plain_events history)) x)
+
+-- a name with its number of moves has one address, and nobody has heard of more moves than its owner has
+abbrev pub PlacesStayOne : Type 0
+PlacesStayOne = AlwaysStored (λ st history w. PlacesAgree w.world)
