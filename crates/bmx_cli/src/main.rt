@@ -1,6 +1,8 @@
 //! The store of objects as a program: reads a script, runs it and prints what it shows.
 #![tactic(auto)]
 
+#[cfg(test)]
+mod tests;
 mod top;
 mod words;
 
