@@ -2,7 +2,7 @@
 use Rattle.std.proofs.Common.{◌≡◌, ℕ, ◌^◌, ◌<◌, ◌==◌, ◌&&◌, nat_lt, Bool, true, false, cond, List, [], ◌∷◌, map, Option, Some, None, is_some, slice_get, slice_set, unwrap_or, length, replicate, zero, suc, ◌≢◌, option_and_then, refl, sym, ap, ◌∙◌, inl, inr, arith}
 use Rattle.std.proofs.Math.Path.{fun_ext}
 use Rattle.std.specs.Option.{option_map, option_map_or}
-use Rattle.std.proofs.lemmas.Bool.{cases_eq, eq-eqb, ne_eqb}
+use Rattle.std.proofs.lemmas.Bool.{cases_eq, eq-eqb, ne_eqb, false≢true}
 use Rattle.bmx_types.specs.Updates.{put, Puts}
 use Rattle.bmx_types.specs.declared.values.Val.{Val}
 use Rattle.bmx_types.specs.declared.values.Val.TheVariants as val
@@ -10,7 +10,7 @@ use Rattle.bmx_segment.specs.Headers.{kind_number}
 use Rattle.bmx_segment.specs.Heaps.{made_of, handed_of, handed_in, own_at, current_of}
 use Rattle.bmx_segment.specs.declared.headers.Kind.TheVariants.{Null}
 use Rattle.bmx_replica.proofs.Changing.{get_or-same}
-use Rattle.std.specs.Prelude.{IfSome, ◌-◌}
+use Rattle.std.specs.Prelude.{IfSome, IfNone, ◌-◌}
 use Rattle.bmx_segment.specs.Stores.{segment_key, block_at, header_at}
 use Rattle.bmx_replica.specs.declared.words.Word.{Word}
 use Rattle.bmx_replica.specs.Replicas.{Holding, Entry, HasTarget, KeepsNames, entry_of, copy_of, field_of, info_in}
@@ -138,6 +138,14 @@ pub copy_shown : (m : Contents) (name : ℕ) → has_copy (shown m) name ≡ is_
 unfolding shown
 copy_shown m name = copy_of_object (entry_of m.replica name)
 
+no_entry : (o : Option Entry) → is_some o ≡ false → is_some (option_and_then (λ (e : Entry). e.copy) o) ≡ false
+no_entry None none = refl
+no_entry (Some e) none = absurd (false≢true (sym none))
+
+-- a name without an entry has no copy
+pub none_shown : (m : Contents) (name : ℕ) → is_some (entry_of m.replica name) ≡ false → has_copy (shown m) name ≡ false
+none_shown m name none = copy_shown m name ∙ no_entry (entry_of m.replica name) none
+
 pub register_shown : (m : Contents) (q : ℕ) (w : Word) → slice_get m.registers q ≡ Some w → (shown m).register q ≡ value_at m.replica w
 unfolding shown
 register_shown m q w is = ap (λ o. option_map_or (value_at m.replica) o val.Null) is
@@ -145,6 +153,10 @@ register_shown m q w is = ap (λ o. option_map_or (value_at m.replica) o val.Nul
 pub of_some : {A : Type 0} (o : Option A) (P : A → Type 0) → ((v : A) → o ≡ Some v → P v) → IfSome o P
 of_some None P h = tt
 of_some (Some v) P h = h v refl
+
+pub of_none : {A P : Type 0} (o : Option A) → (is_some o ≡ false → P) → IfNone o P
+of_none None h = h refl
+of_none (Some v) h = tt
 
 pub same_truth : (a b : Bool) → (a ≡ true → b ≡ true) → (b ≡ true → a ≡ true) → a ≡ b
 same_truth true b there back = sym (there refl)

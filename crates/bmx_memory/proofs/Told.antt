@@ -21,7 +21,7 @@ use Rattle.bmx_protocol.specs.Nodes.{Known, NodeState, field_of, value_in}
 use Rattle.bmx_protocol.specs.Rules.{told_field, told_fields}
 use Rattle.bmx_protocol.specs.Rules.{info_of as info_by_rule}
 use Rattle.bmx_memory.specs.Contents.{Contents}
-use Rattle.bmx_memory.specs.Shown.{Shown, Object, Sees, HasEntry, shown, object_of, known_as, lies_in, info_of, value_of}
+use Rattle.bmx_memory.specs.Shown.{Shown, Object, Sees, HasEntry, shown, object_of, known_as, lies_in, info_of, value_of, has_copy}
 use Rattle.bmx_memory.proofs.Reached.{entry_stands}
 
 -- ## an object
@@ -121,6 +121,18 @@ none_copied m name none = by (m.object name) none
     by : (o : Option Object) → option_map (λ (b : Object). let i : Info = record { name = name; bunch = b.bunch; size = b.size; place = lies_in m.places name } in i) o ≡ None → copied_in o ≡ []
     by None none = refl
     by (Some b) none = absurd (none-some _ (sym none))
+
+uncopied : (o : Option Object) → option_map_or (λ (b : Object). is_some b.copy) o false ≡ false → copied_in o ≡ []
+uncopied None none = refl
+uncopied (Some b) none = by b.copy none
+  where
+    by : (c : Option (List ViewField)) → is_some c ≡ false → unwrap_or c [] ≡ []
+    by None none = refl
+    by (Some l) none = absurd (false≢true (sym none))
+
+-- it has no copy
+pub not_copied : (m : Shown) (name : ℕ) → has_copy m name ≡ false → copied m name ≡ []
+not_copied m name none = uncopied (m.object name) none
 
 -- ## how many fields
 

@@ -1,5 +1,5 @@
 //! What letters tell of objects.
-ghost use Rattle.std.specs.Prelude.{◌≡◌, ℕ, ◌≤◌, map, Some, All, IfOk};
+ghost use Rattle.std.specs.Prelude.{◌≡◌, ℕ, ◌≤◌, true, false, map, Some, All, IfOk, IfSome, IfNone};
 ghost use Rattle.bmx_types.specs.declared.addresses.Info.{Info as InfoOf};
 ghost use Rattle.bmx_types.specs.declared.addresses.Place.{Place};
 ghost use Rattle.bmx_token.specs.declared.parts.Part.{Part};
@@ -7,11 +7,13 @@ ghost use Rattle.bmx_protocol.specs.Nodes.{NodeState, field_of};
 ghost use Rattle.bmx_protocol.specs.Rules.{infos, told_field, told_fields, heard_field};
 ghost use Rattle.bmx_protocol.specs.Strays.{some_clash};
 ghost use Rattle.bmx_memory.specs.Contents.{room_of};
-ghost use Rattle.bmx_memory.specs.Shown.{shown, known_with, Sees, HasEntry, with_copy};
+ghost use Rattle.bmx_replica.specs.Replicas.{StandsAt};
+ghost use Rattle.bmx_memory.specs.Shown.{shown, known_with, Sees, HasEntry, with_copy, has_copy, value_of};
 ghost use Rattle.bmx_memory.specs.Letters.{FitsFields};
 
 use crate::memory::Memory;
 use bmx_msg::{Field, Fields, Msg};
+use bmx_replica::Object;
 use bmx_types::{Items, Name, NoMemory, Val};
 use std::alloc::Global;
 
@@ -39,17 +41,42 @@ impl Memory {
     pub fn fields(&self, alloc: Global, name: Name) -> Result<Fields, NoMemory>
         ensures { (s : NodeState) (lies : ℕ → Place) → Sees (shown self.now) s lies → IfOk result (λ fields. fields ≡ told_fields s lies name) }
     {
-        let mut fields = Items::new(alloc);
         let Some(info) = self.replica.info(name) else {
-            return Ok(fields);
+            return Ok(Items::new(alloc));
         };
+        let Some(object) = self.copied_object(name) else {
+            return Ok(Items::new(alloc));
+        };
+        let mut fields = Vec::with_capacity(alloc, usize::from(info.size))?;
         for i in 0..info.size {
-            let Some(value) = self.field(name, i) else {
-                return Ok(fields);
+            let Some(value) = self.field_of(&object, i) else {
+                return Ok(Items::from_vec(fields));
             };
             fields.push(self.told(value))?;
         }
-        Ok(fields)
+        Ok(Items::from_vec(fields))
+    }
+
+    /// The object of a name where it stands, None where the name has no copy.
+    fn copied_object(&self, name: Name) -> Option<Object>
+        ensures some { IfSome result (λ o. StandsAt self.now.replica o × (o.header.name ≡ name) × (has_copy (shown self.now) name ≡ true)) }
+        ensures none { IfNone result (has_copy (shown self.now) name ≡ false) }
+    {
+        if !self.has_copy(name) {
+            return None;
+        }
+        self.replica.object(name)
+    }
+
+    /// The value in a field of an object with a copy, None where it has no such field.
+    fn field_of(&self, object: &Object, i: u8) -> Option<Val>
+        requires stands { StandsAt self.now.replica object.now }
+        requires copy { has_copy (shown self.now) object.now.header.name ≡ true }
+        ensures value { result ≡ value_of (shown self.now) object.now.header.name i }
+        ensures known { IfSome result (λ v. HasEntry (shown self.now) v) }
+    {
+        let word = self.replica.field_word(object, i)?;
+        Some(self.replica.value(word))
     }
 
     /// A value as a letter tells it.

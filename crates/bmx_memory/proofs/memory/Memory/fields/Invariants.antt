@@ -8,4 +8,4 @@ use Rattle.bmx_memory.proofs.memory.Memory.fields.Given as goal
 
 -- the fields so far are told
 abbrev pub invariant-loop-i : goal.invariant-loop-i
-invariant-loop-i l = (s : NodeState) (lies : ℕ → Place) → Sees (shown l.self) s lies → l.fields ≡ map (told_field s lies) (take l.i (copied (shown l.self) l.name))
+invariant-loop-i l = (s : NodeState) (lies : ℕ → Place) → Sees (shown l.fn.self) s lies → l.fields.items ≡ map (told_field s lies) (take l.i (copied (shown l.fn.self) l.fn.name))
