@@ -9,3 +9,6 @@ mod runner;
 mod seats;
 
 pub use runner::run_script;
+
+#[cfg(test)]
+mod tests;
