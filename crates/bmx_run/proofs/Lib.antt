@@ -7,6 +7,7 @@ mod Sitting
 mod Flying
 mod Acting
 mod Turned
+mod Keeping
 mod Stepped
 mod Posted
 mod Printed

@@ -30,7 +30,7 @@ use Rattle.bmx_run.specs.declared.runner.Runner.{Runner}
 use Rattle.bmx_run.specs.Inside.Seats.{orders_of, command_at, SitsAt, AreSeats}
 use Rattle.bmx_run.specs.Inside.Steps.{AreNodes, nodes_in, stamps_in}
 use Rattle.bmx_run.specs.Inside.Running.{Point, store_of, history_of, with_event, IsWhole, IsReady, IsInPhase, IsAt, IsStopped, IsOpen, Draws, Turned, Halted, IsBetween}
-use Rattle.bmx_run.specs.Inside.Picking.{actions_at, served_in, ChoosesAt, Counts, MayTurn, IsNextIfTried}
+use Rattle.bmx_run.specs.Inside.Picking.{actions_at, served_in, ChoosesAt, Counts, AreTries, MayTurn, IsNextIfTried}
 use Rattle.bmx_run.specs.Inside.Phases.{Starts, MayGoOn, AreCompleted, AreCleared, with_part, ServeAll, IsDone, IsLeft, IsStuckThere, IsSpentThere}
 use Rattle.bmx_run.proofs.Listing.{word_steps}
 use Rattle.bmx_run.proofs.Quiet.{none_where_quiet}
@@ -241,12 +241,18 @@ length_more past part e =
     omega (arith, a, b, d)
 
 -- it goes on by an event
-pub on_more : (p : Point) (part : List Event) (r : Runner) → Turned (with_part p part) r → Draws p.seed (length (p.past ++ part) + 1) r → IsOn p r
+on_more : (p : Point) (part : List Event) (r : Runner) → Turned (with_part p part) r → Draws p.seed (length (p.past ++ part) + 1) r → IsOn p r
 on_more p part r turned draws = record {
   part = part ++ turned.event ∷ [];
   is_at = turned.is_at;
   draws = draws ∙ ap (λ (k : ℕ). advance 64 multiplier_64 k (generator p.seed)) (length_more p.past part turned.event);
 }
+
+-- with what its nodes may try
+pub on_still : (p : Point) (part : List Event) (r : Runner) (tries : List Bool) → (t : Turned (with_part p part) r) → Draws p.seed (length (p.past ++ part) + 1) r →
+    AreTries (with_event (with_part p part) t.event) r tries → (on : IsOn p r) × AreTries (with_part p on.part) r tries
+unfolding on_more
+on_still p part r tries turned draws are = (on_more p part r turned draws, are)
 
 -- and has one event more
 pub longer : (p : Point) (part : List Event) (old new : Runner) → IsAt (with_part p part) old → Turned (with_part p part) new → length new.history.items ≡ length old.history.items + 1

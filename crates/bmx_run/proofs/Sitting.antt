@@ -23,7 +23,7 @@ pub record Leaves (n : ℕ) (part history : List Event) (e : Event) : Type 0 whe
   pub completed : completed n (part ++ e ∷ []) ≡ completed n part
   pub waits : waits_with n None (history ++ e ∷ []) ≡ waits_with n None history
 
-leaves_apart : (n : ℕ) (part history : List Event) (e : Event) → (e.node == n) ≡ false → Leaves n part history e
+pub leaves_apart : (n : ℕ) (part history : List Event) (e : Event) → (e.node == n) ≡ false → Leaves n part history e
 leaves_apart n part history e apart = record {
   completed = completed_not n part e (ap (λ (b : Bool). cond b (completion e.input e.done.answer) None) apart);
   waits = waits_one n None history e ∙ ap (λ (b : Bool). cond b (waits_after (waits_with n None history) e.input e.done.answer) (waits_with n None history)) apart;

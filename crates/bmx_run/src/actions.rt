@@ -3,9 +3,10 @@ ghost use Rattle.std.specs.Prelude.{◌≡◌, ℕ, ◌<◌, ◌≤◌, ◌^◌,
 ghost use Rattle.bmx_types.specs.Openings.{bunches_of};
 ghost use Rattle.bmx_protocol.specs.Runs.Turns.{letter_actions, is_ready as is_ready_at, wanted_by};
 ghost use Rattle.bmx_node.specs.Seen.{FitsCommand, state_of};
-ghost use Rattle.bmx_run.specs.Inside.Running.{Point, store_of, history_of, IsAt};
+ghost use Rattle.bmx_protocol.specs.declared.events.Event.{Event};
+ghost use Rattle.bmx_run.specs.Inside.Running.{Point, store_of, history_of, with_event, IsAt};
 ghost use Rattle.bmx_run.specs.Inside.Steps.{nodes_in};
-ghost use Rattle.bmx_run.specs.Inside.Picking.{Counts, ServesAll, ChoosesAt, actions_at, actions_by, others_by, tries_by, tried, IsNextOrder};
+ghost use Rattle.bmx_run.specs.Inside.Picking.{Counts, MayTry, AreTries, GoOn, ServesAll, ChoosesAt, actions_at, actions_by, others_by, tries_by, tried, IsNextOrder};
 
 use crate::runner::{Runner, node_no};
 use crate::seats::Order;
@@ -32,33 +33,58 @@ pub(crate) struct Enabled {
 }
 
 impl Runner {
-    /// How many actions are enabled. A look at each node.
-    pub(crate) fn enabled(&self) -> Enabled
+    /// Which nodes may try their next command. A look at each node.
+    pub(crate) fn tries(&self) -> [bool; 8]
         requires { (p : Point) × IsAt p self.now }
-        ensures { (p : Point) → IsAt p self.now → Counts p self.now result }
+        ensures long { length result ≡ 8 }
+        ensures tries { (p : Point) → IsAt p self.now → AreTries p self.now result }
+    {
+        let mut tries = [false; 8];
+        for number in 0..self.nodes.len() {
+            tries[number] = self.may_try(node_no(number as u8)).is_some();
+        }
+        tries
+    }
+
+    /// The same behind an event: only what the event's node may try has changed.
+    pub(crate) fn look_again(&self, tries: &mut [bool; 8])
+        requires at { (p : Point) × (e : Event) × IsAt (with_event p e) self.now }
+        requires long { length tries.old ≡ 8 }
+        ensures long { length tries.new ≡ 8 }
+        ensures tries { GoOn tries.old tries.new self.now }
+    {
+        let node = self.history[self.history.len() - 1].node;
+        tries[usize::from(node.get())] = self.may_try(node).is_some();
+    }
+
+    /// How many actions are enabled, where it is known which nodes may try their next command. A look at each node.
+    pub(crate) fn enabled(&self, tries: &[bool; 8]) -> Enabled
+        requires at { (p : Point) × IsAt p self.now × AreTries p self.now tries.now }
+        requires long { length tries.now ≡ 8 }
+        ensures { (p : Point) → IsAt p self.now → AreTries p self.now tries.now → Counts p self.now result }
     {
         let mut enabled = Enabled {
             counts: [0; 8],
             total: 0,
         };
         for number in 0..self.nodes.len() {
-            let count = self.count(node_no(number as u8));
+            let count = self.count(node_no(number as u8), tries[number]);
             enabled.counts[number] = count;
             enabled.total += count;
         }
         enabled
     }
 
-    /// How many actions are enabled at a node.
-    fn count(&self, node: NodeNo) -> u128
+    /// How many actions are enabled at a node, which may try its next command or not.
+    fn count(&self, node: NodeNo, may_try: bool) -> u128
         requires at { (p : Point) × IsAt p self.now }
         requires node { node < length self.now.nodes.items }
-        ensures count { (p : Point) → IsAt p self.now → result ≡ length (actions_by p self.now node) }
+        ensures count { (p : Point) → IsAt p self.now → MayTry p self.now node may_try → result ≡ length (actions_by p self.now node) }
         ensures served { (p : Point) → IsAt p self.now → ServesAll p self.now node }
         ensures few { result < 2 ^ 66 }
     {
         let number = usize::from(node.get());
-        let tries = u128::from(self.may_try(node).is_some());
+        let tries = u128::from(may_try);
         let serves = self.nodes[number].serves_count() as u128;
         let letters = self.lanes.senders(node) as u128;
         tries + serves + letters

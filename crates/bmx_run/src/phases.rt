@@ -19,8 +19,9 @@ impl Runner {
         ensures comes { (p : Point) → Starts p quiet self.old → AfterPhase p result self.new }
         ensures budget { self.new.budget ≡ self.old.budget }
     {
+        let mut tries = self.tries();
         loop {
-            let enabled = self.enabled();
+            let enabled = self.enabled(&tries);
             if self.is_done(quiet, &enabled) {
                 self.clear();
                 return RunEnd::Ended;
@@ -32,7 +33,7 @@ impl Runner {
                 return RunEnd::Spent;
             }
             match self.turn(&enabled) {
-                Ok(()) => {}
+                Ok(()) => self.look_again(&mut tries),
                 Err(NoMemory) => return RunEnd::NoMemory,
             }
         }

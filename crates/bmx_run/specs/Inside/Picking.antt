@@ -1,5 +1,5 @@
 -- What a runner may do next, as the turn lists it.
-use Rattle.std.specs.Prelude.{◌≡◌, ℕ, ◌<◌, List, [], ◌∷◌, ◌++◌, map, length, slice_get, Option, Some, None}
+use Rattle.std.specs.Prelude.{◌≡◌, ℕ, ◌<◌, Bool, is_some, List, [], ◌∷◌, ◌++◌, map, length, slice_get, Option, Some, None}
 use Rattle.std.specs.Option.{option_map_or}
 use Rattle.bmx_msg.specs.declared.letters.Letter.{Letter}
 use Rattle.bmx_protocol.specs.declared.events.Event.{Event}
@@ -13,7 +13,7 @@ use Rattle.bmx_run.specs.declared.actions.Action.TheVariants as choice
 use Rattle.bmx_run.specs.declared.actions.Enabled.{Enabled}
 use Rattle.bmx_run.specs.declared.runner.Runner.{Runner}
 use Rattle.bmx_run.specs.Inside.Steps.{nodes_in}
-use Rattle.bmx_run.specs.Inside.Running.{Point, store_of, history_of, IsAt, IsOpen}
+use Rattle.bmx_run.specs.Inside.Running.{Point, store_of, history_of, with_event, IsAt, IsOpen}
 
 -- the names that a node can serve
 abbrev pub served_in : List Stamped → ℕ → List ℕ
@@ -44,6 +44,18 @@ tries_by p r n =
 abbrev pub tried : ℕ → Option Order → List Action
 tried n None = []
 tried n (Some g) = TriesCommand n g.command ∷ []
+
+-- which nodes may try their next command
+abbrev pub MayTry : Point → Runner → ℕ → Bool → Type 0
+MayTry p r n b = (o : Option Order) × (b ≡ is_some o) × (tries_by p r n ≡ tried n o)
+
+abbrev pub AreTries : Point → Runner → List Bool → Type 0
+AreTries p r tries = (n : ℕ) → n < (store_of p).nodes → (b : Bool) × (slice_get tries n ≡ Some b) × MayTry p r n b
+
+-- the same behind an event
+abbrev pub GoOn : List Bool → List Bool → Runner → Type 0
+GoOn before behind new =
+    (p : Point) (e : Event) (old : Runner) → IsAt p old → AreTries p old before → IsAt (with_event p e) new → AreTries (with_event p e) new behind
 
 -- how many actions there are
 pub record Counts (p : Point) (r : Runner) (e : Enabled) : Type 0 where

@@ -9,10 +9,11 @@ returns-clause-count c =
     let n = c.args.node in
     let d = c.index.result.now in
     let there = read_at r.nodes.items c.from-number.result n d (omega (arith, c.from-number.ensures, c.get.ensures.value)) c.requires.node c.index.ensures in
-    let tries : c.from-tries.result ≡ one_if (is_some c.may_try.result) = c.from-tries.ensures ∙ byte_is c.is_some.result ∙ ap one_if c.is_some.ensures in
-    λ p at.
-    let all = counted p r n d c.may_try.result at there (c.may_try.ensures.tried p at) in
-    omega (arith, all, tries, c.serves_count-serves.ensures.count, c.senders-letters.ensures)
+    let tries : c.from-tries.result ≡ one_if c.args.may_try = c.from-tries.ensures ∙ byte_is c.args.may_try in
+    λ p at may.
+    let all = counted p r n d may.0 at there may.2 in
+    let told : c.from-tries.result ≡ one_if (is_some may.0) = tries ∙ ap one_if may.1 in
+    omega (arith, all, told, c.serves_count-serves.ensures.count, c.senders-letters.ensures)
 
 pub returns-clause-served : goal.returns-clause-served
 returns-clause-served c =

@@ -3,6 +3,7 @@ use Rattle.bmx_run.specs.Inside.Running.{store_of}
 use Rattle.bmx_run.specs.Inside.Picking.{actions_by, ServesAll}
 use Rattle.bmx_run.proofs.Listing.{length_set}
 use Rattle.bmx_run.proofs.Choosing.{all_nodes, few_nodes, actions_below, below_more, counts_more, serves_more}
+use Rattle.bmx_run.proofs.Keeping.{may_at}
 use Rattle.bmx_run.proofs.runner.Runner.enabled.Goals as goal
 
 pub loop-number-preserved : goal.loop-number-preserved
@@ -15,23 +16,25 @@ loop-number-preserved c =
     let e : c.node_no.result ≡ n = omega (arith, c.node_no.ensures) in (
       length_set counts n count ∙ long,
       omega (arith, c.loop-number.invariant.1, c.count-count.ensures.few),
-      λ p at.
-          let is : count ≡ length (actions_by p r n) = c.count-count.ensures.count p at ∙ ap (λ (k : ℕ). length (actions_by p r k)) e in
-          omega (arith, c.loop-number.invariant.2 p at, is, below_more p r n),
-      λ p at.
-          let is : count ≡ length (actions_by p r n) = c.count-count.ensures.count p at ∙ ap (λ (k : ℕ). length (actions_by p r k)) e in
+      λ p at are.
+          let below : n < (store_of p).nodes = omega (arith, all_nodes p r at, c.loop-number-test.true, c.len-number-end.ensures) in
+          let is : count ≡ length (actions_by p r n) = c.count-count.ensures.count p at (may_at p r c.args.tries.now n c.node_no.result are below e) ∙ ap (λ (k : ℕ). length (actions_by p r k)) e in
+          omega (arith, c.loop-number.invariant.2 p at are, is, below_more p r n),
+      λ p at are.
+          let below : n < (store_of p).nodes = omega (arith, all_nodes p r at, c.loop-number-test.true, c.len-number-end.ensures) in
+          let is : count ≡ length (actions_by p r n) = c.count-count.ensures.count p at (may_at p r c.args.tries.now n c.node_no.result are below e) ∙ ap (λ (k : ℕ). length (actions_by p r k)) e in
           let short : n < length counts = omega (arith, long, few_nodes p r at, c.loop-number-test.true, c.len-number-end.ensures) in
-          counts_more p r counts n count short is (c.loop-number.invariant.3 p at),
+          counts_more p r counts n count short is (c.loop-number.invariant.3 p at are),
       λ p at. serves_more p r n (subst (ServesAll p r) e (c.count-count.ensures.served p at)) (c.loop-number.invariant.4 p at),
     )
 
 pub returns : goal.returns
 returns c =
     let r = c.args.self.now in
-    let n = c.loop-number.number in λ p at.
+    let n = c.loop-number.number in λ p at are.
     let last : n ≡ (store_of p).nodes = omega (arith, all_nodes p r at, c.len-number-end.ensures, c.loop-number-test.false, c.loop-number.auto.number-end) in
     record {
-      total = c.loop-number.invariant.2 p at ∙ ap (λ (k : ℕ). length (actions_below p r k)) last;
-      each = λ m below. c.loop-number.invariant.3 p at m (omega (arith, below, last));
+      total = c.loop-number.invariant.2 p at are ∙ ap (λ (k : ℕ). length (actions_below p r k)) last;
+      each = λ m below. c.loop-number.invariant.3 p at are m (omega (arith, below, last));
       served = λ m below. c.loop-number.invariant.4 p at m (omega (arith, below, last));
     }

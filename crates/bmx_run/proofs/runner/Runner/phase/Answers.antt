@@ -1,36 +1,39 @@
-use Rattle.std.proofs.Common.{◌≡◌, ◌-◌, ◌<◌, ◌∙◌, sym, ap, arith, length, List, ◌++◌}
+use Rattle.std.proofs.Common.{refl, ◌≡◌, ◌-◌, ◌<◌, ◌∙◌, sym, ap, arith, length, List, ◌++◌}
 use Rattle.bmx_protocol.specs.declared.events.Event.{Event}
 use Rattle.bmx_run.specs.Inside.Running.{Point, IsOpen, Draws, Turned}
 use Rattle.bmx_run.specs.Inside.Picking.{Counts}
 use Rattle.bmx_run.specs.Inside.Phases.{MayGoOn, with_part}
-use Rattle.bmx_run.proofs.Phasing.{IsOn, positive, not_done, done_there, stuck_there, spent_there, may_go_on, on_more, longer, left}
+use Rattle.bmx_run.proofs.Phasing.{IsOn, positive, not_done, done_there, stuck_there, spent_there, may_go_on, on_still, longer, left}
 use Rattle.bmx_run.proofs.runner.Runner.phase.Goals as goal
 
 pub returns-then-is_done-clause-comes : goal.returns-then-is_done-clause-comes
 returns-then-is_done-clause-comes c = λ p s.
-    let r = c.loop-enabled.self in
+    let r = c.loop-tries.self in
     let e = c.enabled-enabled.result in
-    let on : IsOn p r = c.loop-enabled.invariant.0 p s in
-    let counts : Counts (with_part p on.part) r e = c.enabled-enabled.ensures (with_part p on.part) on.is_at in
+    let known = c.loop-tries.invariant.0 p s in
+    let on : IsOn p r = known.0 in
+    let counts : Counts (with_part p on.part) r e = c.enabled-enabled.ensures (with_part p on.part) on.is_at known.1 in
     let told = c.is_done.ensures (with_part p on.part) on.is_at s.ends counts in
     done_there p r c.clear.new.self on (told.0 c.if-is_done.true) c.clear.ensures.seats c.clear.ensures.rest
 
 pub returns-then-enabled-eq0-clause-comes : goal.returns-then-enabled-eq0-clause-comes
 returns-then-enabled-eq0-clause-comes c = λ p s.
-    let r = c.loop-enabled.self in
+    let r = c.loop-tries.self in
     let e = c.enabled-enabled.result in
-    let on : IsOn p r = c.loop-enabled.invariant.0 p s in
-    let counts : Counts (with_part p on.part) r e = c.enabled-enabled.ensures (with_part p on.part) on.is_at in
+    let known = c.loop-tries.invariant.0 p s in
+    let on : IsOn p r = known.0 in
+    let counts : Counts (with_part p on.part) r e = c.enabled-enabled.ensures (with_part p on.part) on.is_at known.1 in
     let told = c.is_done.ensures (with_part p on.part) on.is_at s.ends counts in
     let goes : IsOpen (with_part p on.part) = not_done c.is_done.result told c.if-is_done.false in
     stuck_there p r e on counts goes c.if-enabled-eq0.true
 
 pub returns-then-len-self-clause-comes : goal.returns-then-len-self-clause-comes
 returns-then-len-self-clause-comes c = λ p s.
-    let r = c.loop-enabled.self in
+    let r = c.loop-tries.self in
     let e = c.enabled-enabled.result in
-    let on : IsOn p r = c.loop-enabled.invariant.0 p s in
-    let counts : Counts (with_part p on.part) r e = c.enabled-enabled.ensures (with_part p on.part) on.is_at in
+    let known = c.loop-tries.invariant.0 p s in
+    let on : IsOn p r = known.0 in
+    let counts : Counts (with_part p on.part) r e = c.enabled-enabled.ensures (with_part p on.part) on.is_at known.1 in
     let told = c.is_done.ensures (with_part p on.part) on.is_at s.ends counts in
     let goes : IsOpen (with_part p on.part) = not_done c.is_done.result told c.if-is_done.false in
     let some : 0 < e.total = positive e.total c.if-enabled-eq0.false in
@@ -40,24 +43,45 @@ pub turn-requires : goal.turn-requires
 turn-requires c =
     let p = c.requires.0 in
     let s = c.requires.1 in
-    let r = c.loop-enabled.self in
+    let r = c.loop-tries.self in
     let e = c.enabled-enabled.result in
-    let on : IsOn p r = c.loop-enabled.invariant.0 p s in
-    let counts : Counts (with_part p on.part) r e = c.enabled-enabled.ensures (with_part p on.part) on.is_at in
+    let known = c.loop-tries.invariant.0 p s in
+    let on : IsOn p r = known.0 in
+    let counts : Counts (with_part p on.part) r e = c.enabled-enabled.ensures (with_part p on.part) on.is_at known.1 in
     let told = c.is_done.ensures (with_part p on.part) on.is_at s.ends counts in
     let goes : IsOpen (with_part p on.part) = not_done c.is_done.result told c.if-is_done.false in
     let some : 0 < e.total = positive e.total c.if-enabled-eq0.false in
     let may : MayGoOn (with_part p on.part) r e = may_go_on p r e on counts goes some (λ same. c.if-len-self.false (c.len.ensures ∙ r.history.ok.0 ∙ same)) in
     (with_part p on.part, may)
 
-pub loop-enabled-smaller : goal.loop-enabled-smaller
-loop-enabled-smaller c =
+pub loop-tries-init : goal.loop-tries-init
+loop-tries-init c = (λ p s. (record { part = p.part; is_at = s.is_at; draws = s.draws }, c.tries-tries.ensures.tries p s.is_at), refl, c.tries-tries.ensures.long)
+
+pub look_again-requires-clause-at : goal.look_again-requires-clause-at
+look_again-requires-clause-at c =
     let p = c.requires.0 in
     let s = c.requires.1 in
-    let r = c.loop-enabled.self in
+    let r = c.loop-tries.self in
     let e = c.enabled-enabled.result in
-    let on : IsOn p r = c.loop-enabled.invariant.0 p s in
-    let counts : Counts (with_part p on.part) r e = c.enabled-enabled.ensures (with_part p on.part) on.is_at in
+    let known = c.loop-tries.invariant.0 p s in
+    let on : IsOn p r = known.0 in
+    let counts : Counts (with_part p on.part) r e = c.enabled-enabled.ensures (with_part p on.part) on.is_at known.1 in
+    let told = c.is_done.ensures (with_part p on.part) on.is_at s.ends counts in
+    let goes : IsOpen (with_part p on.part) = not_done c.is_done.result told c.if-is_done.false in
+    let some : 0 < e.total = positive e.total c.if-enabled-eq0.false in
+    let may : MayGoOn (with_part p on.part) r e = may_go_on p r e on counts goes some (λ same. c.if-len-self.false (c.len.ensures ∙ r.history.ok.0 ∙ same)) in
+    let turned : Turned (with_part p on.part) c.turn.new.self = (c.in-Ok.ensures.ok (with_part p on.part) may).0 in
+    (with_part p on.part, turned.event, turned.is_at)
+
+pub loop-tries-smaller : goal.loop-tries-smaller
+loop-tries-smaller c =
+    let p = c.requires.0 in
+    let s = c.requires.1 in
+    let r = c.loop-tries.self in
+    let e = c.enabled-enabled.result in
+    let known = c.loop-tries.invariant.0 p s in
+    let on : IsOn p r = known.0 in
+    let counts : Counts (with_part p on.part) r e = c.enabled-enabled.ensures (with_part p on.part) on.is_at known.1 in
     let told = c.is_done.ensures (with_part p on.part) on.is_at s.ends counts in
     let goes : IsOpen (with_part p on.part) = not_done c.is_done.result told c.if-is_done.false in
     let some : 0 < e.total = positive e.total c.if-enabled-eq0.false in
@@ -67,28 +91,32 @@ loop-enabled-smaller c =
     let less : c.turn.new.self.budget - length c.turn.new.self.history.items < r.budget - length r.history.items = omega (arith, more, had, may.room, c.turn.ensures.budget) in
     less
 
-pub loop-enabled-preserved : goal.loop-enabled-preserved
-loop-enabled-preserved c = (
+pub loop-tries-preserved : goal.loop-tries-preserved
+loop-tries-preserved c = (
   λ p s.
-      let r = c.loop-enabled.self in
+      let r = c.loop-tries.self in
       let e = c.enabled-enabled.result in
-      let on : IsOn p r = c.loop-enabled.invariant.0 p s in
-      let counts : Counts (with_part p on.part) r e = c.enabled-enabled.ensures (with_part p on.part) on.is_at in
+      let known = c.loop-tries.invariant.0 p s in
+      let on : IsOn p r = known.0 in
+      let counts : Counts (with_part p on.part) r e = c.enabled-enabled.ensures (with_part p on.part) on.is_at known.1 in
       let told = c.is_done.ensures (with_part p on.part) on.is_at s.ends counts in
       let goes : IsOpen (with_part p on.part) = not_done c.is_done.result told c.if-is_done.false in
       let some : 0 < e.total = positive e.total c.if-enabled-eq0.false in
       let may : MayGoOn (with_part p on.part) r e = may_go_on p r e on counts goes some (λ same. c.if-len-self.false (c.len.ensures ∙ r.history.ok.0 ∙ same)) in
       let done = c.in-Ok.ensures.ok (with_part p on.part) may in
-      on_more p on.part c.turn.new.self done.0 done.1,
-  c.turn.ensures.budget ∙ c.loop-enabled.invariant.1,
+      on_still p on.part c.turn.new.self c.look_again.new.tries done.0 done.1
+      (c.look_again.ensures.tries (with_part p on.part) done.0.event r on.is_at known.1 done.0.is_at),
+  c.turn.ensures.budget ∙ c.loop-tries.invariant.1,
+  c.look_again.ensures.long,
 )
 
 pub returns-in-Err-clause-comes : goal.returns-in-Err-clause-comes
 returns-in-Err-clause-comes c = λ p s.
-    let r = c.loop-enabled.self in
+    let r = c.loop-tries.self in
     let e = c.enabled-enabled.result in
-    let on : IsOn p r = c.loop-enabled.invariant.0 p s in
-    let counts : Counts (with_part p on.part) r e = c.enabled-enabled.ensures (with_part p on.part) on.is_at in
+    let known = c.loop-tries.invariant.0 p s in
+    let on : IsOn p r = known.0 in
+    let counts : Counts (with_part p on.part) r e = c.enabled-enabled.ensures (with_part p on.part) on.is_at known.1 in
     let told = c.is_done.ensures (with_part p on.part) on.is_at s.ends counts in
     let goes : IsOpen (with_part p on.part) = not_done c.is_done.result told c.if-is_done.false in
     let some : 0 < e.total = positive e.total c.if-enabled-eq0.false in
