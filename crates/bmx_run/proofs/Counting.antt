@@ -4,7 +4,7 @@ use Rattle.std.proofs.lemmas.List.{length-append}
 use Rattle.bmx_msg.specs.declared.letters.Letter.{Letter}
 use Rattle.bmx_protocol.specs.declared.events.Event.{Event}
 use Rattle.bmx_protocol.specs.Histories.{in_flight}
-use Rattle.bmx_protocol.specs.Runs.Turns.{Action, letter_action, letter_actions}
+use Rattle.bmx_protocol.specs.Runs.Turns.{letter_action, letter_actions}
 use Rattle.bmx_lanes.specs.Sending.{one_if_any, senders_below}
 
 -- two lists are empty together

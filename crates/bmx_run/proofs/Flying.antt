@@ -1,5 +1,5 @@
 -- What an event makes of the lanes that lead to the letters in flight.
-use Rattle.std.proofs.Common.{◌≡◌, ℕ, ◌+◌, refl, ap, sym, ◌∙◌, subst, Bool, false, cond, List, [], ◌∷◌, ◌++◌, length, Some, None}
+use Rattle.std.proofs.Common.{◌≡◌, ℕ, refl, ap, sym, ◌∙◌, subst, Bool, false, cond, List, [], ◌∷◌, ◌++◌, length, Some, None}
 use Rattle.std.specs.Prelude.{◌==◌, ◌≢◌, drop}
 use Rattle.std.proofs.lemmas.List.{append-nil}
 use Rattle.bmx_types.specs.Openings.{IsOpening}

@@ -2,13 +2,12 @@
 use Rattle.std.proofs.Common.{◌≡◌, ℕ, ◌+◌, refl, ap, sym, ◌∙◌, subst, Bool, false, cond, List, [], ◌∷◌, ◌++◌, length, Option, Some, None, arith}
 use Rattle.std.specs.Prelude.{◌==◌, ◌-◌, ◌<◌, slice_get, slice_set, get_or, is_some}
 use Rattle.bmx_types.specs.Updates.{put}
-use Rattle.bmx_types.specs.declared.commands.Command.{Command}
 use Rattle.bmx_protocol.specs.declared.events.Event.{Event}
 use Rattle.bmx_protocol.specs.Nodes.{Setting}
 use Rattle.bmx_protocol.specs.Steps.{Node}
 use Rattle.bmx_protocol.specs.Histories.{Replays, AreAfter, waits_with}
-use Rattle.bmx_protocol.specs.Runs.Programs.{Order, program_in, completed}
-use Rattle.bmx_protocol.specs.Runs.Turns.{Action, command_action}
+use Rattle.bmx_protocol.specs.Runs.Programs.{Order, program_in}
+use Rattle.bmx_protocol.specs.Runs.Turns.{command_action}
 use Rattle.std.proofs.lemmas.Option.{slice_get-get_or, slice_get_within}
 use Rattle.bmx_protocol.proofs.Basics.{Two, Same, Apart, two, some_same}
 use Rattle.bmx_protocol.proofs.Replayed.{replay_is_determined}

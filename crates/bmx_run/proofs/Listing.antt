@@ -1,11 +1,9 @@
 -- Lists that change at one place, as functions of the place; the generator's words one after another.
-use Rattle.std.proofs.Common.{◌≡◌, ℕ, zero, suc, ◌+◌, ◌<◌, arith, refl, ap, sym, ◌∙◌, Bool, true, false, cond, List, [], ◌∷◌, ◌++◌, length, Option, Some, None}
+use Rattle.std.proofs.Common.{◌≡◌, ℕ, zero, suc, ◌+◌, ◌<◌, arith, refl, ap, sym, ◌∙◌, Bool, cond, List, [], ◌∷◌, ◌++◌, length, Some}
 use Rattle.std.specs.Prelude.{◌==◌, ◌≢◌, slice_get, slice_set}
 use Rattle.std.specs.Option.{option_map_or}
 use Rattle.std.proofs.Math.Path.{fun_ext}
-use Rattle.std.proofs.lemmas.Option.{slice_get-get_or, slice_get_past}
-use Rattle.std.proofs.lemmas.List.{get_or-set_same, get_or-set_other, length-append}
-use Rattle.rand_pcg.specs.Lcg.{Lcg, state_after, next_state, advance, next}
+use Rattle.rand_pcg.specs.Lcg.{Lcg, state_after, next_state, advance}
 use Rattle.rand_pcg.specs.Pcg.{multiplier_64, pcg32}
 use Rattle.bmx_types.specs.Updates.{put}
 use Rattle.bmx_protocol.proofs.Basics.{Two, Same, Apart, two, eqb_same}

@@ -1,14 +1,12 @@
 -- How a run of many nodes opens.
-use Rattle.std.proofs.Common.{◌≡◌, ℕ, zero, suc, ◌+◌, ◌<◌, ◌≤◌, ◌^◌, ◌⊎◌, inl, inr, arith, refl, ap, sym, ◌∙◌, subst, Bool, false, cond, List, [], ◌∷◌, ◌++◌, length, Option, Some, None, ⊎_elim}
+use Rattle.std.proofs.Common.{◌≡◌, ℕ, zero, suc, ◌+◌, ◌<◌, ◌^◌, ◌⊎◌, inl, inr, arith, refl, ap, sym, ◌∙◌, subst, Bool, false, cond, List, [], ◌∷◌, ◌++◌, length, Option, Some, None, ⊎_elim}
 use Rattle.std.specs.Prelude.{slice_get, string_bytes}
 use Rattle.std.specs.Option.{option_map_or}
 use Rattle.std.proofs.Math.Path.{fun_ext}
-use Rattle.std.proofs.lemmas.Option.{slice_get_within}
 use Rattle.std.proofs.lemmas.List.{length-append}
 use Rattle.rand_pcg.specs.Lcg.{Lcg, advance, state_after}
 use Rattle.rand_pcg.specs.Pcg.{multiplier_64}
 use Rattle.bmx_types.specs.Openings.{IsOpening}
-use Rattle.bmx_types.specs.declared.openings.Opening.{Opening}
 use Rattle.bmx_script.specs.declared.lines.Line.{Line}
 use Rattle.bmx_protocol.specs.Nodes.{Setting}
 use Rattle.bmx_protocol.specs.Histories.{in_flight}
@@ -16,7 +14,6 @@ use Rattle.bmx_protocol.specs.Steps.{Node, first_node}
 use Rattle.bmx_protocol.specs.Runs.Programs.{stages}
 use Rattle.bmx_protocol.specs.Runs.Turns.{generator}
 use Rattle.bmx_node.specs.Stamped.{Stamped}
-use Rattle.bmx_node.specs.Openings.{setting_of}
 use Rattle.bmx_node.specs.Seen.{node_of, Suits}
 use Rattle.bmx_legal.specs.Growing.{Leads}
 use Rattle.bmx_legal.specs.Inside.Spots.{Finds}

@@ -1,21 +1,18 @@
 -- What a runner does in a phase: where it ends, and what it is then.
-use Rattle.std.proofs.Common.{◌≡◌, ℕ, zero, suc, ◌+◌, ◌-◌, ◌%◌, ◌<◌, ◌≤◌, ◌^◌, ◌⊎◌, inl, inr, arith, refl, ap, sym, ◌∙◌, subst, Bool, true, false, cond, List, [], ◌∷◌, ◌++◌, length, get_or, Option, Some, None, ⊎_elim}
+use Rattle.std.proofs.Common.{◌≡◌, ℕ, zero, suc, ◌+◌, ◌%◌, ◌<◌, ◌≤◌, ◌⊎◌, inl, inr, arith, refl, ap, sym, ◌∙◌, subst, Bool, true, false, cond, List, [], ◌∷◌, ◌++◌, length, Some, None, ⊎_elim}
 use Rattle.std.specs.Prelude.{slice_get, string_bytes, IsTrue, ◌↔◌, not}
 use Rattle.std.proofs.Math.Nat.{mod-lt}
 use Rattle.std.proofs.lemmas.Bool.{false≢true}
-use Rattle.std.proofs.lemmas.Option.{slice_get_past, slice_get_within, slice_get-get_or}
-use Rattle.std.proofs.lemmas.List.{append-nil, append_assoc, length-append}
+use Rattle.std.proofs.lemmas.Option.{slice_get_past, slice_get_within}
+use Rattle.std.proofs.lemmas.List.{append-nil, length-append}
 use Rattle.rand_pcg.specs.Lcg.{Lcg, advance}
 use Rattle.rand_pcg.specs.Pcg.{multiplier_64, pcg32}
-use Rattle.bmx_types.specs.declared.commands.Command.{Command}
 use Rattle.bmx_script.specs.declared.lines.Line.{Line}
 use Rattle.bmx_protocol.specs.declared.events.Event.{Event}
-use Rattle.bmx_protocol.specs.Nodes.{Setting, AreAll}
+use Rattle.bmx_protocol.specs.Nodes.{Setting}
 use Rattle.bmx_protocol.specs.Histories.{waits_with, in_flight}
 use Rattle.bmx_protocol.specs.Runs.Programs.{Order, Stage, program_in, completed, BeginsStage, DoesStage, EndsPhase}
-use Rattle.bmx_protocol.specs.Runs.Turns.{Action, word, picked, generator, actions}
-use Rattle.bmx_node.specs.Stamped.{Stamped}
-use Rattle.bmx_legal.specs.Growing.{Leads}
+use Rattle.bmx_protocol.specs.Runs.Turns.{Action, word, picked, generator}
 use Rattle.bmx_legal.specs.Inside.Spots.{Finds}
 use Rattle.bmx_lanes.specs.Sending.{lane_of}
 use Rattle.bmx_turns.specs.Stuck.{IsUnfinished}
@@ -27,11 +24,11 @@ use Rattle.bmx_run.specs.declared.seats.Seat.{Seat}
 use Rattle.bmx_run.specs.declared.actions.Action.{Action as Choice}
 use Rattle.bmx_run.specs.declared.actions.Enabled.{Enabled}
 use Rattle.bmx_run.specs.declared.runner.Runner.{Runner}
-use Rattle.bmx_run.specs.Inside.Seats.{orders_of, command_at, SitsAt, AreSeats}
-use Rattle.bmx_run.specs.Inside.Steps.{AreNodes, nodes_in, stamps_in}
-use Rattle.bmx_run.specs.Inside.Running.{Point, store_of, history_of, with_event, IsWhole, IsReady, IsInPhase, IsAt, IsStopped, IsOpen, Draws, Turned, Halted, IsBetween}
+use Rattle.bmx_run.specs.Inside.Seats.{command_at, SitsAt}
+use Rattle.bmx_run.specs.Inside.Steps.{nodes_in}
+use Rattle.bmx_run.specs.Inside.Running.{Point, store_of, history_of, with_event, IsWhole, IsAt, IsStopped, IsOpen, Draws, Turned, Halted, IsBetween}
 use Rattle.bmx_run.specs.Inside.Picking.{actions_at, served_in, ChoosesAt, Counts, AreTries, MayTurn, IsNextIfTried}
-use Rattle.bmx_run.specs.Inside.Phases.{Starts, MayGoOn, AreCompleted, AreCleared, with_part, ServeAll, IsDone, IsLeft, IsStuckThere, IsSpentThere}
+use Rattle.bmx_run.specs.Inside.Phases.{MayGoOn, AreCompleted, AreCleared, with_part, ServeAll, IsDone, IsLeft, IsStuckThere, IsSpentThere}
 use Rattle.bmx_run.proofs.Listing.{word_steps}
 use Rattle.bmx_run.proofs.Quiet.{none_where_quiet}
 use Rattle.bmx_run.proofs.Turned.{whole_same, run_same}

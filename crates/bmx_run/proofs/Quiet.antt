@@ -1,8 +1,8 @@
 -- A phase where all is quiet.
-use Rattle.std.proofs.Common.{◌≡◌, ℕ, zero, suc, ◌+◌, ◌<◌, arith, refl, ap, sym, ◌∙◌, subst, List, [], ◌∷◌, ◌++◌, length, map, None}
+use Rattle.std.proofs.Common.{◌≡◌, ℕ, zero, suc, ◌<◌, arith, refl, ap, sym, ◌∙◌, subst, List, [], ◌∷◌, ◌++◌, length, map, None}
 use Rattle.std.specs.Prelude.{slice_get, Contains}
 use Rattle.bmx_protocol.specs.declared.events.Event.{Event}
-use Rattle.bmx_protocol.specs.Nodes.{Setting, NodeState, AreAll}
+use Rattle.bmx_protocol.specs.Nodes.{Setting, AreAll}
 use Rattle.bmx_protocol.specs.Steps.{Node}
 use Rattle.bmx_protocol.specs.Histories.{AreAfter, in_flight, waits_with}
 use Rattle.bmx_protocol.specs.Runs.Programs.{Stage, program_in, completed, CanServe, IsQuiet}

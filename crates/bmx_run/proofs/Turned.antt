@@ -1,5 +1,5 @@
 -- What a turn makes of a run: it goes on by an event, or has stopped before it or behind it.
-use Rattle.std.proofs.Common.{◌≡◌, ℕ, ◌+◌, ◌-◌, ◌<◌, ◌≤◌, ◌^◌, inl, inr, arith, refl, ap, sym, ◌∙◌, subst, cond, List, [], ◌∷◌, ◌++◌, length, Some, None}
+use Rattle.std.proofs.Common.{◌≡◌, ℕ, ◌-◌, ◌<◌, ◌≤◌, ◌^◌, inl, inr, arith, refl, ap, sym, ◌∙◌, subst, cond, List, [], ◌∷◌, ◌++◌, length, Some, None}
 use Rattle.std.specs.Prelude.{◌==◌, slice_get, string_bytes}
 use Rattle.std.proofs.lemmas.List.{length-append}
 use Rattle.bmx_script.specs.declared.lines.Line.{Line}

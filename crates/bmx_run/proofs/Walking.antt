@@ -1,6 +1,6 @@
 -- A run's walk through the lines of its script, and what it comes to.
 use Rattle.std.proofs.Common.{◌≡◌, ℕ, zero, suc, ◌+◌, ◌<◌, ◌≤◌, ◌⊎◌, inl, inr, arith, refl, ap, sym, ◌∙◌, subst, Bool, true, false, cond, List, [], ◌∷◌, ◌++◌, length, get_or, drop, Option, Some, None, ⊎_elim}
-use Rattle.std.specs.Prelude.{◌==◌, slice_get, slice_set, Contains}
+use Rattle.std.specs.Prelude.{◌==◌, slice_get, Contains}
 use Rattle.std.specs.List.{cons_option}
 use Rattle.std.proofs.lemmas.Option.{slice_get_within, slice_get-get_or, slice_get_read}
 use Rattle.std.proofs.lemmas.List.{append-nil}
@@ -12,8 +12,6 @@ use Rattle.bmx_script.specs.declared.lines.LineKind.{LineKind}
 use Rattle.bmx_script.specs.declared.lines.LineKind.TheVariants as line
 use Rattle.bmx_script.specs.Grammar.{AreScript}
 use Rattle.bmx_protocol.specs.declared.events.Event.{Event}
-use Rattle.bmx_protocol.specs.Nodes.{Setting}
-use Rattle.bmx_protocol.specs.Histories.{waits_with}
 use Rattle.bmx_protocol.specs.Runs.Programs.{Body, Order, Stage, stages, DoSome}
 use Rattle.bmx_protocol.specs.Runs.Programs as body
 use Rattle.bmx_protocol.specs.Runs.Turns.{TakeTurns, Action, generator}
@@ -36,7 +34,7 @@ use Rattle.bmx_run.specs.Inside.Seats.{orders_of, command_at, SitsAt}
 use Rattle.bmx_run.specs.Inside.Steps.{nodes_in}
 use Rattle.bmx_run.specs.Inside.Running.{Point, IsWhole, IsGiven, IsBetween}
 use Rattle.bmx_run.specs.Inside.Picking.{served_in}
-use Rattle.bmx_run.specs.Inside.Phases.{Starts, with_part, AfterPhase, IsDone, IsLeft, IsStuckThere, IsSpentThere, IsGivenTo, Gives, IsRun, Walk, IsThere, ComesTo, GoesOn, Obeys}
+use Rattle.bmx_run.specs.Inside.Phases.{Starts, AfterPhase, IsDone, IsLeft, IsStuckThere, IsSpentThere, IsGivenTo, Gives, IsRun, Walk, IsThere, ComesTo, GoesOn, Obeys}
 use Rattle.bmx_run.proofs.Listing.{got_same, got_other, length_set}
 use Rattle.bmx_run.proofs.Opening.{pushed}
 use Rattle.bmx_run.proofs.Phasing.{whole_with}

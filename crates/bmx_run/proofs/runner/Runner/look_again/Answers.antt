@@ -1,4 +1,4 @@
-use Rattle.std.proofs.Common.{◌≡◌, ◌-◌, ◌<◌, ◌∙◌, sym, ap, subst, arith, length, List, Bool}
+use Rattle.std.proofs.Common.{◌≡◌, ◌-◌, ◌<◌, ◌∙◌, sym, ap, subst, arith, length}
 use Rattle.std.specs.Prelude.{is_some, slice_set}
 use Rattle.bmx_protocol.specs.declared.events.Event.{Event}
 use Rattle.bmx_run.specs.Inside.Running.{with_event}

@@ -1,6 +1,6 @@
 use Rattle.std.proofs.Common.{refl, ◌≡◌, ◌-◌, ◌<◌, ◌∙◌, sym, ap, arith, length, List, ◌++◌}
 use Rattle.bmx_protocol.specs.declared.events.Event.{Event}
-use Rattle.bmx_run.specs.Inside.Running.{Point, IsOpen, Draws, Turned}
+use Rattle.bmx_run.specs.Inside.Running.{IsOpen, Turned}
 use Rattle.bmx_run.specs.Inside.Picking.{Counts}
 use Rattle.bmx_run.specs.Inside.Phases.{MayGoOn, with_part}
 use Rattle.bmx_run.proofs.Phasing.{IsOn, positive, not_done, done_there, stuck_there, spent_there, may_go_on, on_still, longer, left}

@@ -1,4 +1,4 @@
-use Rattle.std.proofs.Common.{◌≡◌, ◌<◌, ◌≤◌, ◌∙◌, ℕ, arith, refl, sym, subst, length, false}
+use Rattle.std.proofs.Common.{◌∙◌, ℕ, arith, refl, subst, false}
 use Rattle.bmx_world.specs.declared.runs.RunEnd.{RunEnd}
 use Rattle.bmx_run.specs.Inside.Phases.{Starts, ComesTo, Obeys, IsRun}
 use Rattle.bmx_run.proofs.Walking.{HasCome, walk_at, comes_to, come_on, last_of, starts_last, ends_last, obeys_end}

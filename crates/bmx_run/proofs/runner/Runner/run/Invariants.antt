@@ -1,4 +1,4 @@
-use Rattle.std.proofs.Common.{◌≡◌, ℕ, [], ◌+◌}
+use Rattle.std.proofs.Common.{◌≡◌, ℕ, []}
 use Rattle.bmx_protocol.specs.Runs.Programs.{stages}
 use Rattle.bmx_world.specs.Scripts.{body_of}
 use Rattle.bmx_run.specs.Inside.Running.{IsBetween}

@@ -1,6 +1,5 @@
-use Rattle.std.proofs.Common.{◌≡◌, ◌<◌, ◌∙◌, sym, ap, subst, arith, length, Bool, Some}
+use Rattle.std.proofs.Common.{◌≡◌, ◌<◌, ◌∙◌, sym, subst, arith, length, Bool, Some}
 use Rattle.std.specs.Prelude.{slice_get, slice_set, is_some}
-use Rattle.bmx_run.specs.Inside.Running.{store_of}
 use Rattle.bmx_run.specs.Inside.Picking.{MayTry}
 use Rattle.bmx_run.proofs.Listing.{length_set}
 use Rattle.bmx_run.proofs.Choosing.{all_nodes, few_nodes}

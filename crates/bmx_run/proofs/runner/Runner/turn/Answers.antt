@@ -1,4 +1,4 @@
-use Rattle.std.proofs.Common.{◌≡◌, ◌+◌, ◌%◌, ◌∙◌, ap, refl, length}
+use Rattle.std.proofs.Common.{◌%◌, ◌∙◌, ap, length}
 use Rattle.bmx_lanes.proofs.Sending.{OnOk-map}
 use Rattle.bmx_run.specs.declared.actions.Action.TheVariants as choice
 use Rattle.bmx_run.specs.Inside.Running.{history_of}
