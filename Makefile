@@ -4,7 +4,7 @@
 help:
 	@echo 'make run            proves, builds and runs the first example; leaves bin/bmx'
 	@echo 'make test           the gate: proofs, must-fail edits, tests, programs, runs, claims'
-	@echo 'make try SCRIPT=F   runs a script before any proof, in seconds'
+	@echo 'make try SCRIPT=F   runs a script before any proof, in about a minute'
 	@echo 'make examples       runs each example and compares what it prints'
 	@echo 'make runs           runs the program by a table of words, streams and want of memory'
 	@echo 'make claims         counts what one has to believe of each claim'
@@ -25,7 +25,7 @@ build:
 test:
 	./.ci/run
 
-# Runs a script before any proof, in seconds: make try SCRIPT=examples/first.bmx
+# Runs a script before any proof, in about a minute: make try SCRIPT=examples/first.bmx
 try:
 	@test -f "$(SCRIPT)" || { echo 'make try: SCRIPT="$(SCRIPT)" is no file; try SCRIPT=examples/first.bmx' >&2; exit 2; }
 	cd crates/bmx_cli && rt try -- run < $(abspath $(SCRIPT))
