@@ -1,6 +1,5 @@
 -- What a store opens with.
 use Rattle.std.specs.Prelude.{◌≡◌, ℕ, ◌+◌, ◌-◌, ◌<◌, ◌≤◌, List, [], ◌∷◌, length, Contains, slice_get, Some, max}
-use Rattle.bmx_types.specs.declared.values.Val.{Val}
 use Rattle.bmx_types.specs.declared.values.Val.TheVariants.{Ref}
 use Rattle.bmx_types.specs.declared.openings.Birth.{Birth}
 

@@ -1,5 +1,5 @@
 -- The words of names and addresses: what a name or an address is seen as.
-use Rattle.std.specs.Prelude.{◌≡◌, ℕ, ◌+◌, ◌*◌, ◌/◌, ◌%◌, ◌^◌, ◌<◌, ◌≤◌, refl}
+use Rattle.std.specs.Prelude.{◌≡◌, ℕ, ◌+◌, ◌*◌, ◌/◌, ◌%◌, ◌^◌, ◌<◌, refl}
 
 -- the word of the name that a node made as its count-th: the node in the top 8 bits
 abbrev pub name_word : ℕ → ℕ → ℕ

@@ -17,22 +17,20 @@ const WORDS_PER_SEGMENT: u64 = 1 << 32;
 /// next 24, the index in the low 32. No address has the word 0.
 #[derive(Clone, Copy, Debug, PartialEq, Eq, PartialOrd, Ord, Hash)]
 pub struct Address {
-    home: NodeNo,
-    segment: u32,
-    index: u32,
+    word: u64,
 }
 
 impl Model for Address {
-    ghost use Rattle.std.specs.Prelude.{ℕ, ◌+◌, ◌*◌, ◌/◌, ◌%◌, ◌^◌, ◌<◌};
-    ghost use Rattle.bmx_types.specs.Words.{address_word, home_of, segment_of, index_of};
+    ghost use Rattle.std.specs.Prelude.{ℕ, ◌/◌, ◌%◌, ◌^◌, ◌<◌};
+    ghost use Rattle.bmx_types.specs.Words.{home_of, segment_of, index_of, IsAddress};
 
     ghost Value = { ℕ };
 
-    ghost view = { λ a. address_word a.home a.segment a.index };
+    ghost view = { λ a. a.word };
 
-    ghost invariant = { λ a. (a.home < 8) × (0 < a.segment) × (a.segment < 2 ^ 16) × (a.index < 1024) };
+    ghost invariant = { λ a. IsAddress a.word };
 
-    ghost inverse = { λ w. record { home = home_of w; segment = segment_of w; index = index_of w } };
+    ghost inverse = { λ w. record { word = w } };
 }
 
 impl Address {
@@ -43,9 +41,9 @@ impl Address {
     {
         if segment > 0 && segment < 1 << 16 && word < 1024 {
             Some(Address {
-                home,
-                segment,
-                index: word,
+                word: u64::from(home.get()) * WORDS_PER_HOME
+                    + u64::from(segment) * WORDS_PER_SEGMENT
+                    + u64::from(word),
             })
         } else {
             None
@@ -56,7 +54,9 @@ impl Address {
     pub fn home(&self) -> NodeNo
         ensures { result ≡ home_of self.now }
     {
-        self.home
+        NodeNo {
+            number: (self.word / WORDS_PER_HOME) as u8,
+        }
     }
 
     /// The number of the segment, from 1.
@@ -64,7 +64,7 @@ impl Address {
         ensures value { result ≡ segment_of self.now }
         ensures range { (0 < result) × (result < 2 ^ 16) }
     {
-        self.segment
+        (self.word % WORDS_PER_HOME / WORDS_PER_SEGMENT) as u32
     }
 
     /// The index of the word in its segment.
@@ -72,7 +72,7 @@ impl Address {
         ensures value { result ≡ index_of self.now }
         ensures range { result < 1024 }
     {
-        self.index
+        (self.word % WORDS_PER_SEGMENT) as u32
     }
 
     /// Its word.
@@ -80,9 +80,7 @@ impl Address {
         ensures value { result ≡ self.now }
         ensures address { IsAddress result }
     {
-        self.home.get() as u64 * WORDS_PER_HOME
-            + self.segment as u64 * WORDS_PER_SEGMENT
-            + self.index as u64
+        self.word
     }
 
     /// The address of that word, None where no address has it.
@@ -90,10 +88,13 @@ impl Address {
         ensures some { IsSome result ↔ IsAddress w }
         ensures value { IfSome result (λ a. a ≡ w) }
     {
-        let home = NodeNo::new((w / WORDS_PER_HOME) as u8)?;
         let segment = w % WORDS_PER_HOME / WORDS_PER_SEGMENT;
         let index = w % WORDS_PER_SEGMENT;
-        Address::new(home, segment as u32, index as u32)
+        if w / WORDS_PER_HOME < 8 && segment > 0 && segment < 1 << 16 && index < 1024 {
+            Some(Address { word: w })
+        } else {
+            None
+        }
     }
 }
 

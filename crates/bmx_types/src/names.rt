@@ -13,21 +13,20 @@ const NAMES_PER_NODE: u64 = 1 << 56;
 /// Contracts see its word: the node in the top 8 bits, the count in the low 56.
 #[derive(Clone, Copy, Debug, PartialEq, Eq, PartialOrd, Ord, Hash)]
 pub struct Name {
-    node: NodeNo,
-    count: u64,
+    word: u64,
 }
 
 impl Model for Name {
-    ghost use Rattle.std.specs.Prelude.{ℕ, ◌+◌, ◌*◌, ◌/◌, ◌%◌, ◌^◌, ◌<◌};
-    ghost use Rattle.bmx_types.specs.Words.{maker, count_of, IsName, name_word};
+    ghost use Rattle.std.specs.Prelude.{ℕ, ◌/◌, ◌%◌, ◌^◌, ◌<◌};
+    ghost use Rattle.bmx_types.specs.Words.{maker, count_of, IsName};
 
     ghost Value = { ℕ };
 
-    ghost view = { λ x. name_word x.node x.count };
+    ghost view = { λ x. x.word };
 
-    ghost invariant = { λ x. (x.node < 8) × (0 < x.count) × (x.count < 2 ^ 56) };
+    ghost invariant = { λ x. IsName x.word };
 
-    ghost inverse = { λ w. record { node = maker w; count = count_of w } };
+    ghost inverse = { λ w. record { word = w } };
 }
 
 impl Name {
@@ -37,7 +36,9 @@ impl Name {
         ensures value { IfSome result (λ x. x ≡ name_word node count) }
     {
         if count > 0 && count < NAMES_PER_NODE {
-            Some(Name { node, count })
+            Some(Name {
+                word: u64::from(node.get()) * NAMES_PER_NODE + count,
+            })
         } else {
             None
         }
@@ -47,7 +48,9 @@ impl Name {
     pub fn node(&self) -> NodeNo
         ensures { result ≡ maker self.now }
     {
-        self.node
+        NodeNo {
+            number: (self.word / NAMES_PER_NODE) as u8,
+        }
     }
 
     /// Which of that node's names it is, from 1.
@@ -55,7 +58,7 @@ impl Name {
         ensures value { result ≡ count_of self.now }
         ensures range { (0 < result) × (result < 2 ^ 56) }
     {
-        self.count
+        self.word % NAMES_PER_NODE
     }
 
     /// Its word: the node in the top 8 bits, the count in the low 56.
@@ -63,7 +66,7 @@ impl Name {
         ensures value { result ≡ self.now }
         ensures name { IsName result }
     {
-        self.node.get() as u64 * NAMES_PER_NODE + self.count
+        self.word
     }
 
     /// The name of that word, None where no name has it.
@@ -71,8 +74,11 @@ impl Name {
         ensures some { IsSome result ↔ IsName w }
         ensures value { IfSome result (λ x. x ≡ w) }
     {
-        let node = NodeNo::new((w / NAMES_PER_NODE) as u8)?;
-        Name::new(node, w % NAMES_PER_NODE)
+        if w / NAMES_PER_NODE < 8 && w % NAMES_PER_NODE > 0 {
+            Some(Name { word: w })
+        } else {
+            None
+        }
     }
 }
 

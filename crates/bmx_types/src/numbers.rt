@@ -31,7 +31,7 @@ pub enum Mode {
 /// The number of a node, from 0 to 7. Contracts see the number.
 #[derive(Clone, Copy, Debug, PartialEq, Eq, PartialOrd, Ord, Hash)]
 pub struct NodeNo {
-    number: u8,
+    pub(crate) number: u8,
 }
 
 impl Model for NodeNo {
