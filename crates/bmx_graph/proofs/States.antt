@@ -42,16 +42,9 @@ put_at-is f n x v m y =
     (λ (e : eqb n m ≡ false). rw e refl)
     (cases_Bool (eqb n m))
 
--- names are compared by both their parts, which is by their words
+-- names are compared by their words
 pub same_name-is : (x y : ℕ) → same_name x y ≡ eqb x y
-same_name-is x y =
-    ⊎_elim
-    (λ (e : x ≡ y). and_from _ _ (eq-eqb (maker x) (maker y) (ap maker e)) (eq-eqb (count_of x) (count_of y) (ap count_of e)) ∙ sym (eq-eqb x y e))
-    (λ (ne : x ≡ y → ⊥). false_from_ne_true (same_name x y) (λ h. let parts = and_parts (eqb (maker x) (maker y)) (eqb (count_of x) (count_of y)) h in
-    let makers : maker x ≡ maker y = eqb-true (maker x) (maker y) parts.0 in
-    let counts : count_of x ≡ count_of y = eqb-true (count_of x) (count_of y) parts.1 in
-    ne (omega (arith, makers, counts))) ∙ sym (ne_eqb x y ne))
-    (cases_eq x y)
+same_name-is x y = refl
 
 -- one hold of a map by pairs changes
 pub held_put : {A : Type 0} (f : ℕ → ℕ → A) (n x : ℕ) (v : A) (m y : ℕ) → cond (eqb n m && same_name x y) v (f m y) ≡ put_at f n x v m y

@@ -14,7 +14,7 @@ use Rattle.bmx_graph.specs.State.{State}
 
 -- two names are the same, as the keys of a map are compared
 abbrev pub same_name : ℕ → ℕ → Bool
-same_name x y = maker x == maker y && count_of x == count_of y
+same_name x y = x == y
 
 -- the same node and the same name
 abbrev pub same_hold : ℕ × ℕ → ℕ × ℕ → Bool

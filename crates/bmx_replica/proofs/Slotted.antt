@@ -10,18 +10,11 @@ use Rattle.bmx_replica.specs.declared.directory.Slot.{Slot}
 
 -- two names are the same, as the keys of a map are compared
 abbrev pub same_name : ℕ → ℕ → Bool
-same_name x y = eqb (maker x) (maker y) && eqb (count_of x) (count_of y)
+same_name x y = eqb x y
 
 -- which is by their words
 pub same_name-is : (x y : ℕ) → same_name x y ≡ eqb x y
-same_name-is x y =
-    ⊎_elim
-    (λ (e : x ≡ y). and_from _ _ (eq-eqb (maker x) (maker y) (ap maker e)) (eq-eqb (count_of x) (count_of y) (ap count_of e)) ∙ sym (eq-eqb x y e))
-    (λ (ne : x ≡ y → ⊥). false_from_ne_true (same_name x y) (λ h. let parts = and_parts (eqb (maker x) (maker y)) (eqb (count_of x) (count_of y)) h in
-    let makers : maker x ≡ maker y = eqb-true (maker x) (maker y) parts.0 in
-    let counts : count_of x ≡ count_of y = eqb-true (count_of x) (count_of y) parts.1 in
-    ne (omega (arith, makers, counts))) ∙ sym (ne_eqb x y ne))
-    (cases_eq x y)
+same_name-is x y = refl
 
 pub slot_of-lookup : (es : List (ℕ × Slot)) (q : ℕ) → lookup (same_name q) es ≡ slot_of es q
 slot_of-lookup [] q = refl

