@@ -1,9 +1,8 @@
 -- A directory of names, as its map shows it.
-use Rattle.std.proofs.Common.{◌≡◌, ℕ, Bool, true, false, ◌&&◌, cond, eqb, List, [], ◌∷◌, Option, Some, refl, sym, ap, ◌∙◌, ⊎_elim, arith}
-use Rattle.std.proofs.lemmas.Bool.{cases_eq, eqb-true, eq-eqb, ne_eqb, and_from, and_parts, false_from_ne_true}
+use Rattle.std.proofs.Common.{◌≡◌, ℕ, Bool, true, false, cond, eqb, List, [], ◌∷◌, Option, Some, refl, sym, ap, ◌∙◌}
+use Rattle.std.proofs.lemmas.Bool.{eqb-true, eq-eqb}
 use Rattle.std.specs.Map.{lookup}
 use Rattle.std.specs.Prelude.{not}
-use Rattle.bmx_types.specs.Words.{maker, count_of, home_of, segment_of, index_of}
 use Rattle.bmx_replica.specs.Slots.{slot_of}
 use Rattle.bmx_replica.specs.Inside.Slots.{PutsSlot}
 use Rattle.bmx_replica.specs.declared.directory.Slot.{Slot}
@@ -26,11 +25,9 @@ PutsSlot-from old new k w h = λ q.
     ∙ ap (λ b. cond b w (lookup (same_name q) old)) (same_name-is k q)
     ∙ ap (λ (o : Option Slot). cond (eqb k q) w o) (slot_of-lookup old q)
 
--- an address is the same as itself, as its parts are compared
-pub same_address : (x y : ℕ) → x ≡ y → (eqb (home_of x) (home_of y) && (eqb (segment_of x) (segment_of y) && eqb (index_of x) (index_of y))) ≡ true
-same_address x y e =
-    and_from _ _ (eq-eqb (home_of x) (home_of y) (ap home_of e))
-    (and_from _ _ (eq-eqb (segment_of x) (segment_of y) (ap segment_of e)) (eq-eqb (index_of x) (index_of y) (ap index_of e)))
+-- an address is the same as itself, as addresses are compared
+pub same_address : (x y : ℕ) → x ≡ y → eqb x y ≡ true
+same_address x y e = eq-eqb x y e
 
 -- numbers that aren't unequal are equal
 pub equal_from : (x y : ℕ) → not (eqb x y) ≡ false → x ≡ y
