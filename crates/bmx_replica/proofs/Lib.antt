@@ -14,3 +14,4 @@ pub mod Telling
 pub mod Installing
 pub mod Following
 pub mod Finding
+pub mod Spaced

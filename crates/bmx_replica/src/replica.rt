@@ -69,13 +69,14 @@ pub struct Replica {
 
 impl Model for Replica {
     ghost use Rattle.std.specs.Prelude.{◌≡◌, min};
+    ghost use Rattle.bmx_segment.specs.Stores.{AreApart};
     ghost use Rattle.bmx_replica.specs.Replicas.{Holding, IsReplica};
 
     ghost Value = { Holding };
 
     ghost view = { λ r. record { slots = r.directory.slots; heap = r.segments; spare = min r.directory.spare r.segments.spare } };
 
-    ghost invariant = { λ r. (r.me ≡ r.segments.me) × IsReplica r.directory.slots r.segments.blocks };
+    ghost invariant = { λ r. (r.me ≡ r.segments.me) × IsReplica r.directory.slots r.segments.blocks × AreApart r.segments.blocks };
 }
 
 /// The parts of a replica, lent out of it: its names, and its segments, for calls that leave the header and
@@ -142,6 +143,7 @@ impl Replica {
             directory,
             segments,
         } = lent;
+        look(&segments);
         self.directory = directory;
         self.segments = segments;
     }
@@ -154,10 +156,6 @@ impl Replica {
         ensures apart { AreApart self.now.heap.blocks }
     {
         let _made = self.segments.made();
-        let Some(first) = Address::from_word(1 << 32) else {
-            unreachable!()
-        };
-        let _header = self.segments.header(first);
         &self.segments
     }
 
@@ -168,7 +166,6 @@ impl Replica {
         ensures few { IfSome result (λ f. f.header.size ≤ 32) }
         ensures stands { IfSome result (λ f. CanSet self.now.heap f.slot.address f.header.name f.header.size) }
         ensures replica { IsReplica self.now.slots self.now.heap.blocks }
-        ensures apart { IfSome result (λ _. AreApart self.now.heap.blocks) }
     {
         let slot = self.directory.get(name)?;
         let Some(header) = self.segments.header(slot.address) else {
@@ -614,6 +611,16 @@ impl Replica {
             unreachable!()
         };
     }
+}
+
+/// Looks at a header, for what all headers keep: no two share a word.
+fn look(segments: &Segments)
+    ensures { AreApart segments.now.blocks }
+{
+    let Some(first) = Address::from_word(1 << 32) else {
+        unreachable!()
+    };
+    let _header = segments.header(first);
 }
 
 /// Moves an object to a place, with its fields, and forwards its old header. It clashes exactly where a

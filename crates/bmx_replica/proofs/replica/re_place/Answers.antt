@@ -8,7 +8,8 @@ use Rattle.bmx_segment.specs.Stores.{header_at, word_at, AreApart, Sets, Lays}
 use Rattle.bmx_segment.specs.declared.headers.Header.{Header}
 use Rattle.bmx_segment.specs.declared.headers.State.TheVariants.{Live, Forwarded}
 use Rattle.bmx_replica.specs.Layouts.{kinds_in}
-use Rattle.bmx_replica.proofs.Laid.{Lays-words, AreApart-kept, sets_there, sets_other}
+use Rattle.bmx_replica.proofs.Laid.{Lays-words}
+use Rattle.bmx_replica.proofs.Spaced.{AreApart-set}
 use Rattle.bmx_replica.proofs.replica.re_place.Goals as goal
 
 -- where the old header still stands, and where the new one does
@@ -17,17 +18,6 @@ still old mid to a x h f lays off there = lays.headers a ∙ ap (λ b. if b then
 
 now_there : (old mid : List Block) (to : ℕ) (x : Header) (f : ℕ → ℕ) → Lays old mid to x f → header_at mid to ≡ Some x
 now_there old mid to x f lays = lays.headers to ∙ ap (λ b. if b then Some x else header_at old to) (eq-eqb to to refl)
-
--- a header that is forwarded keeps its words
-apart_after : (mid new : List Block) (a : ℕ) (h : Header) (to : ℕ) → AreApart mid → header_at mid a ≡ Some h → Sets mid new a (record h { state = Forwarded to }) → AreApart new
-apart_after mid new a h to apart there sets =
-    AreApart-kept mid new apart (λ b y e.
-    elim (cases_eq b a) [
-      | inl at ↦
-          let is : record h { state = Forwarded to } ≡ y = same_Some _ y (sym (sets_there mid new a (record h { state = Forwarded to }) sets) ∙ ap (header_at new) (sym at) ∙ e) in
-          (h, ap (header_at mid) at ∙ there, ap (λ (z : Header). z.size) is)
-      | inr off ↦ (y, sym (sets_other mid new a (record h { state = Forwarded to }) b sets off) ∙ e, refl)
-    ])
 
 pub forward-requires : goal.forward-requires
 forward-requires c =
@@ -70,4 +60,4 @@ returns-clause-apart c =
     let there : header_at mid a ≡ Some h = still old mid c.args.to.address a _ h _ c.in_ok-lay.ensures.laid c.requires.apart c.requires.found.there in
     let S : Type 0 = Sets mid new a (record h { state = Forwarded c.args.to.address }) in
     let sets : S = rw there at c.forward.ensures.set in
-    apart_after mid new a h c.args.to.address c.in_ok-lay.ensures.apart there sets
+    AreApart-set mid new a h (Forwarded c.args.to.address) c.in_ok-lay.ensures.apart there sets

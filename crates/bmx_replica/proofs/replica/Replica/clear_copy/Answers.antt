@@ -25,7 +25,7 @@ invariant_of-self c =
     let Z : ℕ → Type 0 = λ m. Lays r.heap.blocks c.lay.new.self.blocks s.address (record h { state = Live m 0 }) (λ j. get_or (replicate 32 0) j 0) in
     let lays : Z (moves_in h.state) = subst Z moves c.in-Ok.ensures.laid in
     let st = Stands-cleared r next c.args.name s h c.self.invariant.1 f c.set.ensures.slots lays c.in-Ok.ensures.apart in
-    (c.self.invariant.0 ∙ sym (ap (λ (x : Heap). x.me) c.in-Ok.ensures.rest), IsReplica-stands r.slots next.slots r.heap.blocks next.heap.blocks c.args.name _ _ st)
+    (c.self.invariant.0 ∙ sym (ap (λ (x : Heap). x.me) c.in-Ok.ensures.rest), IsReplica-stands r.slots next.slots r.heap.blocks next.heap.blocks c.args.name _ _ st, c.in-Ok.ensures.apart)
 
 pub returns : goal.returns
 returns c =

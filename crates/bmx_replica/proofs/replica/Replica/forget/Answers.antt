@@ -10,6 +10,7 @@ use Rattle.bmx_replica.specs.contracts.replica.Replica.{the_view}
 use Rattle.bmx_replica.proofs.Done.{spare_more}
 use Rattle.bmx_replica.proofs.Done.{Forgets-done}
 use Rattle.bmx_replica.proofs.Forgetting.{IsReplica-forgotten}
+use Rattle.bmx_replica.proofs.Spaced.{AreApart-set}
 use Rattle.bmx_replica.proofs.replica.Replica.forget.Goals as goal
 
 pub invariant_of-self : goal.invariant_of-self
@@ -22,9 +23,8 @@ invariant_of-self c =
     let next : Holding = record { slots = c.remove.new.self.slots; heap = c.kill.new.self; spare = min c.remove.new.self.spare c.kill.new.self.spare } in
     let S : Type 0 = Sets r.heap.blocks next.heap.blocks s.address (record h { state = Dead }) in
     let sets : S = rw f.there at c.kill.ensures.set in
-    let A : Holding → Type 0 = λ x. AreApart x.heap.blocks in
-    let apart : A r = subst A (sym c.self.view_is) c.in-Some.ensures.apart in
-    (c.self.invariant.0 ∙ sym (ap (λ (x : Heap). x.me) c.kill.ensures.rest), IsReplica-forgotten r.slots next.slots r.heap.blocks next.heap.blocks c.args.name s h c.self.invariant.1 f apart c.remove.ensures.slots sets)
+    let apart : AreApart r.heap.blocks = c.self.invariant.2 in
+    (c.self.invariant.0 ∙ sym (ap (λ (x : Heap). x.me) c.kill.ensures.rest), IsReplica-forgotten r.slots next.slots r.heap.blocks next.heap.blocks c.args.name s h c.self.invariant.1 f apart c.remove.ensures.slots sets, AreApart-set r.heap.blocks next.heap.blocks s.address h Dead apart f.there sets)
 
 pub returns : goal.returns
 returns c =
@@ -36,6 +36,5 @@ returns c =
     let next : Holding = record { slots = c.remove.new.self.slots; heap = c.kill.new.self; spare = min c.remove.new.self.spare c.kill.new.self.spare } in
     let S : Type 0 = Sets r.heap.blocks next.heap.blocks s.address (record h { state = Dead }) in
     let sets : S = rw f.there at c.kill.ensures.set in
-    let A : Holding → Type 0 = λ x. AreApart x.heap.blocks in
-    let apart : A r = subst A (sym c.self.view_is) c.in-Some.ensures.apart in
+    let apart : AreApart r.heap.blocks = c.self.invariant.2 in
     rw (← c.self.view_is) (Forgets-done r next c.args.name s h c.self.invariant.1 f apart c.remove.ensures.slots sets c.kill.ensures.rest (spare_more _ _ _ _ c.remove.ensures.spare (ap (λ (x : Heap). x.spare) c.kill.ensures.rest)))

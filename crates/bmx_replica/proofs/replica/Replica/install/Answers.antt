@@ -41,7 +41,7 @@ invariant_of-self c =
     let all : E r = subst E (sym c.self.view_is) c.requires.size in
     let size : length c.args.fields.now ≡ h.size = rw (entry_at-found r.slots r.heap.blocks c.args.name s h f) at all in
     let st = Stands-installed r next c.args.name fields c.words_told-kinds.result.1 s h c.self.invariant.1 f c.set.ensures.slots lays c.in-Ok.ensures.apart held (length-mapped value_told c.args.fields.now ∙ size) in
-    (c.self.invariant.0 ∙ sym (ap (λ (x : Heap). x.me) c.in-Ok.ensures.rest), IsReplica-stands r.slots next.slots r.heap.blocks next.heap.blocks c.args.name _ _ st)
+    (c.self.invariant.0 ∙ sym (ap (λ (x : Heap). x.me) c.in-Ok.ensures.rest), IsReplica-stands r.slots next.slots r.heap.blocks next.heap.blocks c.args.name _ _ st, c.in-Ok.ensures.apart)
 
 pub returns : goal.returns
 returns c =

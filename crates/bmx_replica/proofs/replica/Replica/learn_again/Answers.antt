@@ -2,6 +2,7 @@ use Rattle.std.proofs.Common.{◌≡◌, ◌≢◌, ℕ, ◌<◌, min, List, Som
 use Rattle.std.proofs.lemmas.Bool.{false≢true}
 use Rattle.bmx_types.specs.declared.addresses.Info.{Info}
 use Rattle.bmx_types.specs.declared.addresses.Place.{Place}
+use Rattle.bmx_segment.specs.Stores.{AreApart}
 use Rattle.bmx_segment.specs.Heaps.{Heap, CanSet}
 use Rattle.bmx_segment.specs.declared.headers.Header.{Header}
 use Rattle.bmx_replica.specs.declared.directory.Slot.{Slot}
@@ -55,8 +56,8 @@ invariant_of-self-in_err-re_place c =
     let same : c.re_place.new.segments ≡ r.heap = e.err ∙ rd.stays no in
     let slots : c.re_place.new.directory.slots ≡ r.slots = ap (λ (d : Listing). d.slots) e.err_slots in
     let P : List (ℕ × Slot) → Type 0 = λ l. IsReplica l r.heap.blocks in
-    let Q : Heap → Type 0 = λ h. (c.self.inside.me ≡ h.me) × IsReplica c.re_place.new.directory.slots h.blocks in
-    subst Q (sym same) (c.self.invariant.0, subst P (sym slots) c.self.invariant.1)
+    let Q : Heap → Type 0 = λ h. (c.self.inside.me ≡ h.me) × IsReplica c.re_place.new.directory.slots h.blocks × AreApart h.blocks in
+    subst Q (sym same) (c.self.invariant.0, subst P (sym slots) c.self.invariant.1, c.self.invariant.2)
 
 pub invariant_of-self-2 : goal.invariant_of-self-2
 invariant_of-self-2 c =
@@ -80,7 +81,7 @@ invariant_of-self-2 c =
     let newer : moves_in h.state < i.place.moves = omega arith in
     let st = Stands-again r next mid i c.self.invariant.1 rd c.in_ok-re_place.ensures.apart c.re_place.ensures.rest s h f can puts apart bunch size newer c.in_ok-re_place.ensures.moved in
     let me : c.re_place.new.segments.me ≡ r.heap.me = ap (λ (x : Heap). x.me) c.re_place.ensures.rest ∙ ap (λ (x : Heap). x.me) rd.maps.rest in
-    (c.self.invariant.0 ∙ sym me, IsReplica-stands r.slots next.slots r.heap.blocks next.heap.blocks i.name _ _ st)
+    (c.self.invariant.0 ∙ sym me, IsReplica-stands r.slots next.slots r.heap.blocks next.heap.blocks i.name _ _ st, c.in_ok-re_place.ensures.apart)
 
 pub returns-clause-ok : goal.returns-clause-ok
 returns-clause-ok c =

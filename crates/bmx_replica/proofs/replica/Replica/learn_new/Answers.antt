@@ -1,6 +1,7 @@
 use Rattle.std.proofs.Common.{◌≡◌, ℕ, min, false, List, Result, Ok, Err, Some, None, Option, sym, ap, ◌∙◌, refl, subst, arith}
 use Rattle.std.proofs.lemmas.Bool.{false≢true}
 use Rattle.bmx_types.specs.declared.addresses.Info.{Info}
+use Rattle.bmx_segment.specs.Stores.{AreApart}
 use Rattle.bmx_segment.specs.Heaps.{Heap, CanSet}
 use Rattle.bmx_replica.specs.declared.directory.Slot.{Slot}
 use Rattle.bmx_replica.specs.Slots.{slot_of}
@@ -26,8 +27,8 @@ invariant_of-self-in_err-add_object c =
     let same : c.add_object.new.segments ≡ r.heap = e.err ∙ rd.stays (λ can. false≢true (e.ok.1 can)) in
     let slots : c.add_object.new.directory.slots ≡ r.slots = ap (λ (d : Listing). d.slots) e.err_slots ∙ c.reserve.ensures.slots in
     let P : List (ℕ × Slot) → Type 0 = λ l. IsReplica l r.heap.blocks in
-    let Q : Heap → Type 0 = λ h. (c.self.inside.me ≡ h.me) × IsReplica c.add_object.new.directory.slots h.blocks in
-    subst Q (sym same) (c.self.invariant.0, subst P (sym slots) c.self.invariant.1)
+    let Q : Heap → Type 0 = λ h. (c.self.inside.me ≡ h.me) × IsReplica c.add_object.new.directory.slots h.blocks × AreApart h.blocks in
+    subst Q (sym same) (c.self.invariant.0, subst P (sym slots) c.self.invariant.1, c.self.invariant.2)
 
 pub invariant_of-self-2 : goal.invariant_of-self-2
 invariant_of-self-2 c =
@@ -44,7 +45,7 @@ invariant_of-self-2 c =
     let can : CanSet mid at i.name i.size = c.in_ok-add_object.ensures.ok.0 refl in
     let st = Stands-learned r next mid i c.self.invariant.1 rd c.in_ok-add_object.ensures.apart c.add_object.ensures.rest absent can puts c.in_ok-add_object.ensures.laid in
     let me : c.add_object.new.segments.me ≡ r.heap.me = ap (λ (x : Heap). x.me) c.add_object.ensures.rest ∙ ap (λ (x : Heap). x.me) rd.maps.rest in
-    (c.self.invariant.0 ∙ sym me, IsReplica-stands r.slots next.slots r.heap.blocks next.heap.blocks i.name _ _ st)
+    (c.self.invariant.0 ∙ sym me, IsReplica-stands r.slots next.slots r.heap.blocks next.heap.blocks i.name _ _ st, c.in_ok-add_object.ensures.apart)
 
 pub returns-clause-ok : goal.returns-clause-ok
 returns-clause-ok c =

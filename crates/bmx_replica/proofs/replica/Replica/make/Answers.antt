@@ -24,7 +24,7 @@ invariant_of-self-2 c =
     let free = c.in_ok-address.ensures.free c.args.name in
     let st = Stands-made r next mid c.args.name c.args.bunch c.args.size at c.self.invariant.1 absent hands free puts c.in-Ok.ensures.laid c.in-Ok.ensures.apart in
     let me : c.add_object.new.segments.me ≡ mid.me = ap (λ (x : Heap). x.me) c.add_object.ensures.rest in
-    (c.self.invariant.0 ∙ sym (me ∙ HandsOut-me r.heap mid c.args.bunch c.args.size at hands), IsReplica-stands r.slots next.slots r.heap.blocks next.heap.blocks c.args.name _ _ st)
+    (c.self.invariant.0 ∙ sym (me ∙ HandsOut-me r.heap mid c.args.bunch c.args.size at hands), IsReplica-stands r.slots next.slots r.heap.blocks next.heap.blocks c.args.name _ _ st, c.in-Ok.ensures.apart)
 
 pub returns-clause-made : goal.returns-clause-made
 returns-clause-made c =

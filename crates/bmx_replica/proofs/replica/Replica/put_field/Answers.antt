@@ -11,6 +11,7 @@ use Rattle.bmx_replica.proofs.Laid.{IsLive-from}
 use Rattle.bmx_replica.proofs.Standing.{found_at}
 use Rattle.bmx_replica.proofs.Fielded.{field_of-there}
 use Rattle.bmx_replica.proofs.Done.{IsReplica-written, WritesField-done, OthersStay-done}
+use Rattle.bmx_replica.proofs.Spaced.{AreApart-written}
 use Rattle.bmx_replica.proofs.replica.Replica.put_field.Goals as goal
 
 pub set_word-requires : goal.set_word-requires
@@ -35,6 +36,7 @@ invariant_of-self c =
     let field : W r = subst W (sym c.self.view_is) c.word-kind.ensures.field in (
       c.self.invariant.0 ∙ sym (ap (λ (x : Heap). x.me) c.set_word.ensures.rest),
       IsReplica-written r c.set_word.new.self.blocks c.args.name c.args.i c.args.v word c.in-Some.slot c.self.invariant.1 slot has field c.set_word.ensures.apart c.set_word.ensures.written,
+      AreApart-written r.heap.blocks c.set_word.new.self.blocks c.in-Some.slot.address c.args.i (kind_number word.kind) word.word c.set_word.ensures.apart c.set_word.ensures.written,
     )
 
 pub returns-clause-writes : goal.returns-clause-writes

@@ -46,7 +46,7 @@ invariant_of-self c =
     let M : ℕ → Type 0 = λ m. Moves r.heap.blocks next.heap.blocks s.address (record { address = c.args.to; moves = m + 1 }) h in
     let moves : M (moves_in h.state) = subst M mv c.in-Ok.ensures.moved in
     let st = Stands-relocated r next c.args.name c.args.to s h c.self.invariant.1 f puts apart before c.in-Ok.ensures.apart moves in
-    (c.self.invariant.0 ∙ sym (ap (λ (x : Heap). x.me) c.in-Ok.ensures.rest), IsReplica-stands r.slots next.slots r.heap.blocks next.heap.blocks c.args.name _ _ st)
+    (c.self.invariant.0 ∙ sym (ap (λ (x : Heap). x.me) c.in-Ok.ensures.rest), IsReplica-stands r.slots next.slots r.heap.blocks next.heap.blocks c.args.name _ _ st, c.in-Ok.ensures.apart)
 
 pub returns : goal.returns
 returns c =

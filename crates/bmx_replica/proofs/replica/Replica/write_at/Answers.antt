@@ -10,6 +10,7 @@ use Rattle.bmx_replica.proofs.Laid.{IsLive-from}
 use Rattle.bmx_replica.proofs.Done.{IsReplica-written, WritesField-done}
 use Rattle.bmx_replica.proofs.Finding.{found_of, field_there}
 use Rattle.std.proofs.Common.{is_some}
+use Rattle.bmx_replica.proofs.Spaced.{AreApart-written}
 use Rattle.bmx_replica.proofs.replica.Replica.write_at.Goals as goal
 
 pub set_word-requires : goal.set_word-requires
@@ -35,6 +36,7 @@ invariant_of-self c =
     let writes : W f.0.address = subst W (sym f.1) c.set_word.ensures.written in (
       c.self.invariant.0 ∙ sym (ap (λ (x : Heap). x.me) c.set_word.ensures.rest),
       IsReplica-written r c.set_word.new.self.blocks o.header.name c.args.i h.value h.word f.0 c.self.invariant.1 f.2.slot has one.field c.set_word.ensures.apart writes,
+      AreApart-written r.heap.blocks c.set_word.new.self.blocks o.address c.args.i (kind_number h.word.kind) h.word.word c.set_word.ensures.apart c.set_word.ensures.written,
     )
 
 pub returns : goal.returns
