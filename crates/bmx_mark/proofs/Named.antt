@@ -1,9 +1,7 @@
 -- Names with keys: which names are marked, and their keys.
-use Rattle.std.proofs.Common.{◌≡◌, ℕ, Bool, true, false, cond, ◌||◌, ◌&&◌, ◌==◌, eqb, List, [], ◌∷◌, ◌++◌, take, drop, Option, Some, None, is_some, refl, sym, ap, ◌∙◌, arith, ⊎_elim}
-use Rattle.std.proofs.lemmas.Bool.{cases_eq, eq-eqb, ne_eqb, eqb-true, and_from, and_parts, false_from_ne_true}
+use Rattle.std.proofs.Common.{◌≡◌, ℕ, Bool, true, false, cond, ◌||◌, ◌==◌, eqb, List, [], ◌∷◌, ◌++◌, take, drop, Option, Some, None, is_some, refl, sym, ap, ◌∙◌}
 use Rattle.std.proofs.lemmas.List.{map-append, take-append-drop}
 use Rattle.std.specs.Map.{lookup}
-use Rattle.bmx_types.specs.Words.{maker, count_of}
 use Rattle.bmx_ilist.proofs.Keys.{has_key-append, eqb_swap}
 use Rattle.bmx_mark.specs.Marks.{Marking, names_in, keys_in, has_name, is_marked, key_in}
 
@@ -24,13 +22,9 @@ parted n es q = sym (has-append (take n es) (drop n es) q) ∙ ap (λ l. has_nam
 abbrev pub same_name : ℕ → ℕ → Bool
 same_name x y = eqb x y
 
--- which is by their words
-pub same_name-is : (x y : ℕ) → same_name x y ≡ eqb x y
-same_name-is x y = refl
-
 pub key_in-lookup : (es : List (ℕ × ℕ)) (q : ℕ) → lookup (same_name q) es ≡ key_in es q
 key_in-lookup [] q = refl
-key_in-lookup (e ∷ es) q = ap (λ b. cond b (Some e.1) (lookup (same_name q) es)) (same_name-is q e.0) ∙ ap (λ (o : Option ℕ). cond (eqb q e.0) (Some e.1) o) (key_in-lookup es q)
+key_in-lookup (e ∷ es) q = ap (λ (o : Option ℕ). cond (eqb q e.0) (Some e.1) o) (key_in-lookup es q)
 
 -- a name has a key where it is among them
 pub key_in-some : (es : List (ℕ × ℕ)) (q : ℕ) → is_some (key_in es q) ≡ has_name (names_in es) q
