@@ -22,12 +22,12 @@ use Rattle.bmx_types.specs.declared.values.Val.TheVariants as val
 use Rattle.bmx_graph.specs.declared.walks.Walk.{Walk}
 use Rattle.bmx_graph.specs.Inside.Walks.{IsWalk, GoesTo}
 
--- names are ordered by their makers, then by their counts
+-- names are ordered by their words
 abbrev pub name_cmp : ℕ → ℕ → Ordering
-name_cmp x y = ordering_then (nat_cmp (maker x) (maker y)) (nat_cmp (count_of x) (count_of y))
+name_cmp x y = nat_cmp x y
 
 name_cmp_at : (x y : ℕ) → name_cmp x y ≡ nat_cmp x y
-name_cmp_at x y = grind (arith, nat_tests)
+name_cmp_at x y = refl
 
 -- which is the order of their words
 pub name_cmp-is : name_cmp ≡ nat_cmp
