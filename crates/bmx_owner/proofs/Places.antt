@@ -1,17 +1,19 @@
 -- Where a search ends, and what a write or an insert there makes.
-use Rattle.std.proofs.Common.{◌≡◌, ℕ, zero, suc, ◌<◌, ◌≤◌, Bool, true, false, List, [], ◌∷◌, ◌++◌, length, get_or, set, insert, sym, ap, ◌∙◌, subst, arith, ⊎_elim, nat_lt, ◌==◌, nat_cmp, Result, Ok, Err, is_ok, MatchResult, le_of_eq, le_of_lt}
+use Rattle.std.proofs.Common.{◌≡◌, ℕ, zero, suc, ◌<◌, ◌≤◌, Bool, true, false, List, [], ◌∷◌, ◌++◌, length, get_or, set, insert, sym, ap, ◌∙◌, subst, arith, ⊎_elim, nat_lt, ◌==◌, nat_cmp, Result, Ok, Err, is_ok, MatchResult, le_of_eq, le_of_lt, Some, unwrap_or}
 use Rattle.std.specs.List.{AllWithin, list_any}
 use Rattle.std.specs.List.Sorted.{IsPartitionPoint, IsPartitionedBy, IsStrictlyIncreasing, IsBinarySearchResult}
 use Rattle.std.proofs.lemmas.List.Sorted.{searched}
 use Rattle.std.proofs.lemmas.List.Kept.{AllPairs-from_increasing}
 use Rattle.std.proofs.lemmas.Bool.{cases_eq, cases_lt, cases_Bool, or_left, or_right, eq-eqb, ne_eqb}
 use Rattle.std.proofs.lemmas.Bool.Decides.{nat_tests}
-use Rattle.std.proofs.lemmas.List.{set_split, get_or_default}
+use Rattle.std.proofs.Math.Nat.{max-eq_left}
+use Rattle.std.proofs.lemmas.List.{set_split, set-get_or, get_or_default}
 use Rattle.std.proofs.lemmas.List.Folds.{list_any_none}
 use Rattle.bmx_owner.specs.declared.entering.Record.{Record}
-use Rattle.bmx_owner.specs.Records.{is_of, is_ahead, is_behind, IsInOrder, has_record, with_record}
+use Rattle.bmx_owner.specs.Records.{is_of, is_ahead, is_behind, IsInOrder, find_record, has_record, with_record, blank, sent_by, got_by, given, taken_over}
 use Rattle.bmx_owner.specs.Inside.Search.{StandsAt, FitsAt}
 use Rattle.bmx_owner.proofs.Keys.{key_cases, is_behind-of, is_of-ahead, is_of-behind, is_behind-ahead, is_ahead-trans, is_ahead-before_of, is_behind-after_of}
+use Rattle.bmx_owner.proofs.Found.{find_record-key}
 use Rattle.bmx_owner.proofs.Parts.{filter_front, filter_rest, find_at, find_none}
 
 clash : {b : Bool} → b ≡ true → b ≡ false → ⊥
@@ -74,6 +76,35 @@ with_record-at records r i at =
 -- an insert where it fits
 pub with_record-inserted : (records : List Record) (r : Record) (i : ℕ) → FitsAt records r.name r.from i → insert records i r ≡ with_record r records
 with_record-inserted records r i at = λ j. at.ahead j ++ r ∷ at.behind j
+
+-- what is read where a record stands is found, and is of its key
+pub found-at : (records : List Record) (name node i : ℕ) (r : Record) → StandsAt records name node i → r ≡ get_or records i r → find_record records name node ≡ Some r
+found-at records name node i r at read = at.found r ∙ ap Some (sym read)
+
+pub StandsAt-own : (records : List Record) (name node i : ℕ) (r : Record) → StandsAt records name node i → r ≡ get_or records i r → StandsAt records r.name r.from i
+StandsAt-own records name node i r at read =
+    let key = find_record-key records name node r (found-at records name node i r at read) in
+    subst (λ q. StandsAt records q r.from i) (sym key.0) (subst (λ m. StandsAt records name m i) (sym key.1) at)
+
+-- in its own place nothing changes
+with_record-own : (records : List Record) (name node i : ℕ) (r : Record) → StandsAt records name node i → r ≡ get_or records i r → with_record r records ≡ records
+with_record-own records name node i r at read =
+    sym (with_record-at records r i (StandsAt-own records name node i r at read))
+    ∙ ap (set records i) read
+    ∙ set-get_or records i r
+
+-- a letter no later than those that the record knows
+pub given-known : (records : List Record) (name bunch node seq i : ℕ) (r : Record) → StandsAt records name node i → r ≡ get_or records i r → seq ≤ r.sent → records ≡ given records name bunch node seq
+given-known records name bunch node seq i r at read late =
+    sym (with_record-own records name node i r at read)
+    ∙ ap (λ n. with_record (record r { sent = n }) records) (sym (max-eq_left late))
+    ∙ ap (λ o. with_record (sent_by seq (unwrap_or o (blank name bunch node))) records) (sym (found-at records name node i r at read))
+
+pub taken_over-known : (records : List Record) (name bunch node seq i : ℕ) (r : Record) → StandsAt records name node i → r ≡ get_or records i r → seq ≤ r.got → records ≡ taken_over records name bunch node seq
+taken_over-known records name bunch node seq i r at read late =
+    sym (with_record-own records name node i r at read)
+    ∙ ap (λ n. with_record (record r { got = n }) records) (sym (max-eq_left late))
+    ∙ ap (λ o. with_record (got_by seq (unwrap_or o (blank name bunch node))) records) (sym (found-at records name node i r at read))
 
 -- records with smaller names stand in front
 pub named_below-partitioned : (records : List Record) (name : ℕ) → IsInOrder records → IsPartitionedBy (λ r. nat_lt r.name name) records

@@ -160,9 +160,30 @@ impl Records {
         ensures change { find_record self.new.list ≡ put_at (find_record self.old.list) name to (Some (sent_by seq (record_or_blank self.old.list name bunch to))) }
         ensures spare { self.old.spare ≤ self.new.spare + 1 }
     {
-        let mut record = self.find_or_blank(name, bunch, to);
-        record.sent = record.sent.max(seq);
-        self.put(record);
+        match self.search(name, to) {
+            Ok(i) => {
+                let record = self.records[i];
+                if record.sent < seq {
+                    self.replace(
+                        i,
+                        Record {
+                            sent: seq,
+                            ..record
+                        },
+                    );
+                }
+            }
+            Err(i) => self.insert(
+                i,
+                Record {
+                    name,
+                    bunch,
+                    from: to,
+                    sent: seq,
+                    got: 0,
+                },
+            ),
+        }
     }
 
     /// Notes that by letter number `seq` from the node the object of that name and bunch was taken
@@ -174,9 +195,24 @@ impl Records {
         ensures change { find_record self.new.list ≡ put_at (find_record self.old.list) name from (Some (got_by seq (record_or_blank self.old.list name bunch from))) }
         ensures spare { self.old.spare ≤ self.new.spare + 1 }
     {
-        let mut record = self.find_or_blank(name, bunch, from);
-        record.got = record.got.max(seq);
-        self.put(record);
+        match self.search(name, from) {
+            Ok(i) => {
+                let record = self.records[i];
+                if record.got < seq {
+                    self.replace(i, Record { got: seq, ..record });
+                }
+            }
+            Err(i) => self.insert(
+                i,
+                Record {
+                    name,
+                    bunch,
+                    from,
+                    sent: 0,
+                    got: seq,
+                },
+            ),
+        }
     }
 
     /// Whether some record has the name. Takes logarithmic time.
@@ -237,34 +273,26 @@ impl Records {
         gone as u64
     }
 
-    /// The record of that name and node, or else a blank one of that bunch.
-    fn find_or_blank(&self, name: Name, bunch: BunchNo, node: NodeNo) -> Record
-        ensures { result ≡ record_or_blank self.now.list name bunch node }
+    /// Puts a record in the place of the one of the same name and node, which stands there.
+    fn replace(&mut self, i: usize, entry: Record)
+        requires { StandsAt self.old.list entry.name entry.from i }
+        ensures list { self.new.list ≡ with_record entry self.old.list }
+        ensures spare { self.new.spare ≡ self.old.spare }
     {
-        self.find(name, node).unwrap_or(Record {
-            name,
-            bunch,
-            from: node,
-            sent: 0,
-            got: 0,
-        })
+        self.records[i] = entry;
     }
 
-    /// Puts a record in its place, instead of the one of the same name and node.
-    fn put(&mut self, entry: Record)
-        requires { 0 < self.old.spare }
+    /// Puts a new record where it fits.
+    fn insert(&mut self, i: usize, entry: Record)
+        requires room { 0 < self.old.spare }
+        requires fits { FitsAt self.old.list entry.name entry.from i }
         ensures list { self.new.list ≡ with_record entry self.old.list }
-        ensures spare { self.old.spare ≤ self.new.spare + 1 }
+        ensures spare { self.new.spare + 1 ≡ self.old.spare }
     {
-        match self.search(entry.name, entry.from) {
-            Ok(i) => self.records[i] = entry,
-            Err(i) => {
-                let inserted = self.records.insert(i, entry).is_ok();
-                prove!(inserted);
-                note(&mut self.names, &entry);
-                self.room -= 1;
-            }
-        }
+        let inserted = self.records.insert(i, entry).is_ok();
+        prove!(inserted);
+        note(&mut self.names, &entry);
+        self.room -= 1;
     }
 
     /// Where the record of the name and the node stands, or else where it would.
