@@ -185,9 +185,9 @@ impl Inter {
     }
 
     /// What a collection of the bunch leaves of its stubs: those whose source is kept and has the
-    /// target in its copy. Stubs of other bunches stay, and so do all scions. Looks at the stubs of that
-    /// bunch alone, with a logarithmic search for each; only where some go one pass moves the others
-    /// together.
+    /// target in its copy. Stubs of other bunches stay, and so do all scions. Walks the stubs of that bunch
+    /// alone, with a logarithmic search for each; where none goes that is all. Where some go, one pass looks at
+    /// each stub and moves those behind the first that goes, each once.
     pub fn keep<E: Keeps>(&mut self, bunch: BunchNo, keeps: &E)
         ensures stubs { self.new.stubs ≡ stubs_kept bunch (E.is_kept keeps.now) (E.is_held keeps.now) self.old.stubs }
         ensures scions { self.new.scions ≡ self.old.scions }
@@ -198,10 +198,11 @@ impl Inter {
 
     /// Ends scions by this node's own table of the bunch, which lists the references that have a stub,
     /// and was made in the step of number `clock`. Removes each scion of that bunch that isn't listed
-    /// and whose own number is at most that one; stubs stay. Answers how many went. Looks at the scions of
-    /// that bunch alone, with a logarithmic search for each and one of the list for each that may go:
-    /// logarithmic where the list rises by source and then by target, else linear. Only where some go
-    /// one pass moves the others together.
+    /// and whose own number is at most that one; stubs stay. Answers how many went. Looks once whether the
+    /// list rises by source and then by target, then walks the scions of that bunch alone, with a logarithmic
+    /// search for each and one of the list for each that may go: logarithmic where the list rises, else
+    /// linear; where none goes that is all. Where some go, one pass looks at each scion and moves those behind
+    /// the first that goes, each once.
     pub fn clean(&mut self, bunch: BunchNo, clock: u64, listed: &Pairs) -> u64
         ensures stubs { self.new.stubs ≡ self.old.stubs }
         ensures scions { self.new.scions ≡ scions_cleaned bunch clock listed.now self.old.scions }

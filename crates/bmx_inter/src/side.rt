@@ -105,8 +105,9 @@ impl<T: OfBunch + Copy + Drop> Side<T> {
         }
     }
 
-    /// Takes out what is of the bunch and goes, and answers how many went. Looks at what is of that bunch
-    /// alone, with a logarithmic search for each; only where some go one pass moves the others together.
+    /// Takes out what is of the bunch and goes, and answers how many went. Walks what is of that bunch alone,
+    /// with a logarithmic search for each; only where some go, one pass looks at all and moves what stands
+    /// behind the first that goes, each once.
     pub(crate) fn end<E: Ends<T>>(&mut self, bunch: BunchNo, test: &E) -> u64
         requires { E.is_sound test.now }
         ensures list { self.new.list ≡ filter (λ x. not (is_ended_in T.bunch_of bunch (E.is_over test.now) x)) self.old.list }

@@ -241,8 +241,9 @@ impl Records {
     /// refers to by way of this one, and was made when it had issued `sent` letters to this node and
     /// taken `got` from it. Removes each record of that bunch and node whose name isn't listed and on
     /// which no later letter bears: its `sent` is at most `got`, and its `got` at most `sent`. Answers
-    /// how many went. Looks at the records from that node alone, with a logarithmic search for each;
-    /// only where some go one pass moves the others together.
+    /// how many went. Walks the records from that node alone, with a logarithmic search for each and one of
+    /// the list for each that may go; where none goes that is all. Where some go, one pass looks at each record
+    /// and moves those behind the first that goes, each once.
     pub fn clean(
         &mut self,
         bunch: BunchNo,
