@@ -11,3 +11,4 @@ pub mod Heaping
 pub mod FieldKinds
 pub mod Apart
 pub mod HeaderWords
+pub mod Counted

@@ -7,9 +7,9 @@ use Rattle.std.proofs.lemmas.List.{length-set, get_or_read, get_or_past, get_or_
 use Rattle.bmx_types.specs.Updates.{Puts}
 use Rattle.bmx_segment.specs.Blocks.{Block, CanStand, blank_block}
 use Rattle.bmx_segment.specs.declared.headers.Header.{Header}
-use Rattle.bmx_segment.specs.Stores.{segment_key, key_of, key_at, block_at, CanStandAt}
+use Rattle.bmx_segment.specs.Stores.{segment_key, key_of, key_at, block_at, IsAt, CanStandAt}
 use Rattle.bmx_segment.specs.Inside.Blocks.{IsBlock}
-use Rattle.bmx_segment.specs.Inside.Stores.{AreBlocks, AreDistinct, IsBlank, IsListed, IsStored, IsAt, rank_of, rank_in}
+use Rattle.bmx_segment.specs.Inside.Stores.{AreBlocks, AreDistinct, IsBlank, IsListed, IsStored, rank_of, rank_in}
 use Rattle.bmx_segment.proofs.Found.{block_at-at, block_at-none, AreBlocks-set, at-set, Puts-set, Puts-removed, chosen, passed}
 
 -- a fact of the block of a segment

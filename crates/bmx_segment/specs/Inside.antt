@@ -1,3 +1,4 @@
 -- What serves proofs and private functions alone.
 pub mod Blocks
 pub mod Stores
+pub mod Numbers

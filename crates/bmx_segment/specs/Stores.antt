@@ -1,5 +1,5 @@
 -- The mapped segments, as a finite map from home and number to blocks of words.
-use Rattle.std.specs.Prelude.{◌≡◌, ◌≢◌, ◌⊎◌, ℕ, ◌+◌, ◌-◌, ◌*◌, ◌^◌, ◌<◌, ◌≤◌, Bool, if◌then◌else◌, ◌==◌, ◌&&◌, nat_le, nat_lt, List, [], ◌∷◌, slice_index, Option, Some, None, IsSome, IsSomeAnd, is_some, unwrap_or}
+use Rattle.std.specs.Prelude.{◌≡◌, ◌≢◌, ◌⊎◌, ℕ, ◌+◌, ◌-◌, ◌*◌, ◌^◌, ◌<◌, ◌≤◌, Bool, if◌then◌else◌, ◌==◌, ◌&&◌, nat_le, nat_lt, List, [], ◌∷◌, length, slice_index, slice_index_or, Option, Some, None, IsSome, IsSomeAnd, is_some, unwrap_or}
 use Rattle.std.specs.Option.{option_and_then, option_map}
 use Rattle.bmx_types.specs.Words.{home_of, segment_of, index_of}
 use Rattle.bmx_types.specs.Updates.{Puts}
@@ -45,6 +45,18 @@ word_at blocks address = word_in (block_at blocks (key_at address)) (index_of ad
 abbrev pub live_of : Option Block → ℕ
 live_of None = 0
 live_of (Some b) = live_in b
+
+-- where the block of a segment stands
+pub record IsAt (blocks : List Block) (key i : ℕ) : Type 0 where
+  pub within : i < length blocks
+  pub keyed : (d : Block) → key_of (slice_index_or blocks i d) ≡ key
+  pub found : (d : Block) → block_at blocks key ≡ Some (slice_index_or blocks i d)
+
+-- the block at a place is taken out, and the last one takes its place
+pub record TakesOut (old new : List Block) (i : ℕ) : Type 0 where
+  pub fewer : length new + 1 ≡ length old
+  pub here : (d : Block) → i + 1 < length old → slice_index_or new i d ≡ slice_index_or old (length old - 1) d
+  pub others : (k : ℕ) (d : Block) → k ≢ i → k + 1 < length old → slice_index_or new k d ≡ slice_index_or old k d
 
 -- no two headers share a word, their fields counted as theirs
 abbrev pub AreApart : List Block → Type 0

@@ -8,7 +8,7 @@ ghost use Rattle.std.specs.Option.{option_map};
 ghost use Rattle.bmx_segment.specs.declared.segments.PlaceError.TheVariants.{Full};
 ghost use Rattle.bmx_segment.specs.declared.headers.State.TheVariants.{Forwarded, Dead};
 ghost use Rattle.bmx_segment.specs.Blocks.{Block};
-ghost use Rattle.bmx_segment.specs.Stores.{segment_key, key_at, block_at, header_at, word_at, live_of, IsMapped, Maps, Sets, Writes, Lays, Drops, HasFieldAt, AreApart};
+ghost use Rattle.bmx_segment.specs.Stores.{segment_key, key_at, block_at, header_at, word_at, live_of, IsMapped, IsAt, TakesOut, Maps, Sets, Writes, Lays, Drops, HasFieldAt, AreApart};
 ghost use Rattle.bmx_segment.specs.Heaps.{Heap, made_of, handed_of, left_of, current_of, room_of, own_at, with_handed, CanSet, IsOpen, IsOpenOne, Makes, PlacesIn, PlacesInNew, IsHeap};
 
 use crate::headers::{Clash, Header, Kind, State};
@@ -88,6 +88,26 @@ impl Segments {
         ensures heap { IsHeap self.now }
     {
         self.own.len() as u32
+    }
+
+    /// How many segments are mapped. It reads one number, so it is the cheapest call that says what segments
+    /// keep.
+    pub fn mapped(&self) -> u32
+        ensures value { result ≡ length self.now.blocks }
+        ensures few { result ≤ 2 ^ 19 }
+        ensures heap { IsHeap self.now }
+        ensures apart { AreApart self.now.blocks }
+    {
+        self.store.len() as u32
+    }
+
+    /// The home and the number of the i-th mapped segment, from 0. Their order changes where one is dropped.
+    pub fn mapped_at(&self, i: u32) -> (NodeNo, u32)
+        requires { i < length self.now.blocks }
+        ensures at { IsAt self.now.blocks (segment_key result.0 result.1) i }
+        ensures numbers { (result.0 < 8) × (0 < result.1) × (result.1 ≤ 65535) }
+    {
+        self.store.at(i as usize)
     }
 
     /// Whether a segment is mapped.
@@ -223,12 +243,13 @@ impl Segments {
         self.store.set_state(address, State::Dead);
     }
 
-    /// Takes a segment away, and its headers with it.
+    /// Takes a segment away, and its headers with it. The last of those mapped takes its place among them.
     pub fn drop_segment(&mut self, home: NodeNo, number: u32)
         requires mapped { IsMapped self.old.blocks home number }
         requires closed { ¬ IsOpen self.old home number }
         requires dead { live_of (block_at self.old.blocks (segment_key home number)) ≡ 0 }
         ensures blocks { Drops self.old.blocks self.new.blocks home number }
+        ensures listed { (i : ℕ) → IsAt self.old.blocks (segment_key home number) i → TakesOut self.old.blocks self.new.blocks i }
         ensures rest { self.new ≡ record self.old { blocks = self.new.blocks } }
     {
         self.store.remove(home, number);

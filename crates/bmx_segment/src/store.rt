@@ -6,8 +6,8 @@ ghost use Rattle.bmx_types.specs.Words.{index_of};
 ghost use Rattle.bmx_segment.specs.Headers.{IsHeader, kind_number};
 ghost use Rattle.bmx_types.specs.Updates.{Puts};
 ghost use Rattle.bmx_segment.specs.Blocks.{Block};
-ghost use Rattle.bmx_segment.specs.Stores.{segment_key, block_at, header_at, word_at, live_of, AreApart, Maps, Sets, Writes, CanStandAt, HasFieldAt};
-ghost use Rattle.bmx_segment.specs.Inside.Stores.{Mapped, rank_of, AreBlocks, IsBlank, IsAt, Fills};
+ghost use Rattle.bmx_segment.specs.Stores.{segment_key, block_at, header_at, word_at, live_of, IsAt, TakesOut, AreApart, Maps, Sets, Writes, CanStandAt, HasFieldAt};
+ghost use Rattle.bmx_segment.specs.Inside.Stores.{Mapped, rank_of, AreBlocks, IsBlank, Fills};
 ghost use Rattle.bmx_segment.specs.declared.headers.Header.{Header as HeaderOf};
 
 use crate::headers::{Clash, Header, Kind, State};
@@ -117,6 +117,25 @@ impl Store {
         ensures bound { result < 2 ^ 63 }
     {
         self.pool.len()
+    }
+
+    /// How many segments are mapped.
+    pub(crate) fn len(&self) -> usize
+        ensures value { result ≡ length self.now.blocks }
+        ensures few { result ≤ 2 ^ 19 }
+        ensures apart { AreApart self.now.blocks }
+    {
+        self.segments.len()
+    }
+
+    /// The home and the number of the i-th mapped segment, from 0.
+    pub(crate) fn at(&self, i: usize) -> (NodeNo, u32)
+        requires { i < length self.now.blocks }
+        ensures at { IsAt self.now.blocks (segment_key result.0 result.1) i }
+        ensures numbers { (result.0 < 8) × (0 < result.1) × (result.1 ≤ 65535) }
+    {
+        let segment = &self.segments[i];
+        (segment.home(), segment.number())
     }
 
     /// Where a mapped segment stands.
@@ -280,6 +299,7 @@ impl Store {
     /// Takes a segment away. Where it isn't mapped nothing changes.
     pub(crate) fn remove(&mut self, home: NodeNo, number: u32)
         ensures blocks { Puts (block_at self.old.blocks) (block_at self.new.blocks) (segment_key home number) None }
+        ensures listed { (i : ℕ) → IsAt self.old.blocks (segment_key home number) i → TakesOut self.old.blocks self.new.blocks i }
         ensures spare { self.new.spare ≡ self.old.spare }
     {
         let Some(place) = self.place_of(home, number) else {

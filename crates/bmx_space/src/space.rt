@@ -5,9 +5,9 @@ ghost use Rattle.bmx_segment.specs.Heaps.{made_of, Makes, PlacesIn, CanSet};
 ghost use Rattle.bmx_space.specs.Spaces.{Reserved, IsOwn, IsReady, nothing, segments_for, next_number, after_next, opened, opened_last};
 ghost use Rattle.bmx_space.specs.Sweeps.{Sweeps};
 
-use crate::sweep::sweep_home;
+use crate::sweep::sweep_at;
 use bmx_segment::{PlaceError, Segments};
-use bmx_types::{Address, BunchNo, NodeNo};
+use bmx_types::{Address, BunchNo};
 use std::marker::Model;
 
 /// How many words of a segment are sure to be handed out before an object doesn't fit: all 1,024 but for 35,
@@ -132,18 +132,15 @@ impl Space {
     }
 
     /// Drops each mapped segment that isn't open and has no live header, and tells how many these were. No
-    /// word of the node may lead into one. Takes no memory. It looks at each number that a segment can have,
-    /// 65,535 at each of 8 homes.
+    /// word of the node may lead into one. Looks at each mapped segment once, in constant time, and takes no
+    /// memory.
     pub fn sweep(&mut self, segments: &mut Segments) -> u32
         ensures swept { Sweeps segments.old segments.new result }
         ensures space { self.new ≡ self.old }
     {
         let mut swept = 0;
-        for home in 0..8 {
-            let Some(home) = NodeNo::new(home) else {
-                unreachable!()
-            };
-            swept += sweep_home(segments, home);
+        for i in (0..segments.mapped()).rev() {
+            swept += sweep_at(segments, i);
         }
         swept
     }

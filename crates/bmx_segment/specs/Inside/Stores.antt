@@ -50,12 +50,6 @@ pub record IsStored (segments pool : List Block) (table : List ℕ) (room ranks 
   pub enough : length segments + length pool ≤ room
   pub whole : 0 < length pool → all_ranks ≤ ranks
 
--- where the block of a segment stands
-pub record IsAt (blocks : List Block) (key i : ℕ) : Type 0 where
-  pub within : i < length blocks
-  pub keyed : (d : Block) → key_of (slice_index_or blocks i d) ≡ key
-  pub found : (d : Block) → block_at blocks key ≡ Some (slice_index_or blocks i d)
-
 -- the words behind the header at an address are those, so many, from now on; no header changes, and no
 -- other word
 pub record Fills (old new : List Block) (address n : ℕ) (ws : List ℕ) : Type 0 where

@@ -17,3 +17,8 @@ pub returns-clause-blocks : goal.returns-clause-blocks
 returns-clause-blocks c =
     let same : c.args.self.now.blocks ≡ c.self.inside.store.blocks = ap (λ (x : Heap). x.blocks) (sym c.self.view_is) in
     rw same (Drops-from c.self.inside.store.blocks c.remove.new.self.blocks c.args.home c.args.number c.remove.ensures.blocks)
+
+pub returns-clause-listed : goal.returns-clause-listed
+returns-clause-listed c =
+    let same : c.args.self.now.blocks ≡ c.self.inside.store.blocks = ap (λ (x : Heap). x.blocks) (sym c.self.view_is) in
+    rw same c.remove.ensures.listed

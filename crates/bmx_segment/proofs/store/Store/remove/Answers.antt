@@ -3,9 +3,9 @@ use Rattle.std.specs.Prelude.{slice_index}
 use Rattle.std.proofs.lemmas.List.{length-set, get_or_read, get_or-set_same, get_or-set_other}
 use Rattle.bmx_types.specs.Updates.{Puts}
 use Rattle.bmx_segment.specs.Blocks.{Block, blank_block}
-use Rattle.bmx_segment.specs.Stores.{block_at, segment_key}
-use Rattle.bmx_segment.specs.Inside.Stores.{Mapped, IsAt, IsStored, rank_of, rank_in}
-use Rattle.bmx_segment.proofs.Stored.{in_table, same_rank, IsStored-removed, Puts-taken, Puts-nothing}
+use Rattle.bmx_segment.specs.Stores.{block_at, segment_key, IsAt, TakesOut}
+use Rattle.bmx_segment.specs.Inside.Stores.{Mapped, IsStored, rank_of, rank_in}
+use Rattle.bmx_segment.proofs.Stored.{distinct, in_table, same_rank, IsStored-removed, Puts-taken, Puts-nothing}
 use Rattle.bmx_segment.proofs.store.Store.remove.Goals as goal
 
 pub index_mut-requires : goal.index_mut-requires
@@ -125,5 +125,30 @@ returns-clause-blocks c =
     let P : List Block → Type 0 = λ bs. Puts (block_at bs) (block_at ys) key None in
     subst P same (Puts-taken xs ys c.self.inside.pool.items table next c.self.inside.segments.cap c.self.inside.table.cap place c.rank-moved.result c.self.invariant within fewer last_is here stay gone moves others d key (at.keyed d))
 
+pub returns-clause-listed : goal.returns-clause-listed
+returns-clause-listed c =
+    let xs : List Block = c.self.inside.segments.items in
+    let ys : List Block = c.swap_remove.new.self.items in
+    let table : List ℕ = c.self.inside.table.items in
+    let n : ℕ = length xs in
+    let counted = c.self.inside.segments.ok.0 in
+    let same : xs ≡ c.args.self.now.blocks = ap (λ (s : Mapped). s.blocks) c.self.view_is in
+    let place : ℕ = c.in-Some.place in
+    let At : List Block → Type 0 = λ bs. IsAt bs (segment_key c.args.home c.args.number) place in
+    let at : At xs = subst At (sym same) c.in-Some.ensures.some in
+    let within = at.within in
+    let fewer : length ys + 1 ≡ n = let l = c.swap_remove.ensures.len in let k = c.swap_remove.new.self.ok.0 in omega arith in
+    let here : (d : Block) → place + 1 < n → get_or ys place d ≡ get_or xs (n - 1) d = λ d lt. c.swap_remove.ensures.by_index.0 d (omega arith) ∙ ap (λ (m : ℕ). get_or xs (m - 1) d) counted in
+    let stay : (k : ℕ) (d : Block) → k ≢ place → k + 1 < n → get_or ys k d ≡ get_or xs k d = λ k d ne lt. c.swap_remove.ensures.by_index.1 k d ne (omega arith) in
+    let taken : TakesOut xs ys place = record { fewer = fewer; here = here; others = stay } in
+    λ i there.
+    let found : IsAt xs (segment_key c.args.home c.args.number) i = subst (λ (bs : List Block). IsAt bs (segment_key c.args.home c.args.number) i) (sym same) there in
+    let d : Block = blank_block 0 0 in
+    let is : i ≡ place = distinct xs table c.self.invariant.blocks c.self.invariant.lists i place d found.within within (found.keyed d ∙ sym (at.keyed d)) in
+    subst (λ (bs : List Block). TakesOut bs ys i) same (subst (λ (k : ℕ). TakesOut xs ys k) (sym is) taken)
+
 pub returns-in_default-clause-blocks : goal.returns-in_default-clause-blocks
 returns-in_default-clause-blocks c = Puts-nothing c.args.self.now.blocks (segment_key c.args.home c.args.number) c.in_default.ensures.none
+
+pub returns-in_default-clause-listed : goal.returns-in_default-clause-listed
+returns-in_default-clause-listed c = λ i there. absurd (let e = sym c.in_default.ensures.none ∙ there.found (blank_block 0 0) in cc)
