@@ -1,5 +1,5 @@
 -- A block in which a header is set.
-use Rattle.std.proofs.Common.{◌≡◌, ◌≢◌, ◌⊎◌, ℕ, ◌+◌, ◌/◌, ◌<◌, ◌≤◌, true, length, Some, None, arith, refl, sym, ap, ◌∙◌, inl, inr, subst, eq-eqb}
+use Rattle.std.proofs.Common.{◌≡◌, ◌≢◌, ◌⊎◌, ℕ, ◌+◌, ◌/◌, ◌<◌, ◌≤◌, ◌↔◌, true, false, length, Some, None, arith, refl, sym, ap, ◌∙◌, inl, inr, subst, eq-eqb}
 use Rattle.std.proofs.lemmas.Bool.{cases_eq, cases_lt, cases_order, cases_Bool, ne_eqb, false≢true}
 use Rattle.std.proofs.lemmas.Option.{cond_some, none-some}
 use Rattle.std.proofs.lemmas.List.{length-set}
@@ -119,6 +119,17 @@ CanStand-there b i name size there block e en es =
 -- the same, for what is read there
 pub CanStand-begins : (b : Block) (i : ℕ) (h : Header) → IsBlock b → header_in b i ≡ Some h → CanStand b i h.name h.size
 CanStand-begins b i h block e = CanStand-there b i h.name h.size h block e refl refl
+
+-- what begins there has that name and size exactly where those can be set
+pub CanStand-same : (b : Block) (i name size : ℕ) → IsBlock b → is_start b.starts i ≡ true → ((slice_index b.words (i + 1) ≡ name) × (size_in (slice_index b.words i) ≡ size)) ↔ CanStand b i name size
+CanStand-same b i name size block begins = (
+  λ e. CanStand-there b i name size (header_of (slice_index b.words i) (slice_index b.words (i + 1)) (slice_index b.words (i + 2)) (slice_index b.words (i + 3))) block (stands b i begins) e.0 e.1,
+  λ can. can.same (header_of (slice_index b.words i) (slice_index b.words (i + 1)) (slice_index b.words (i + 2)) (slice_index b.words (i + 3))) (stands b i begins),
+)
+
+-- no header is where none begins
+pub nothing : (b : Block) (i : ℕ) → is_start b.starts i ≡ false → header_in b i ≡ None
+nothing b i none = rw none
 
 -- a header can begin where none does, and none reaches or begins within its words
 pub CanStand-free : (b : Block) (i name size : ℕ) → header_in b i ≡ None → i + 4 + size ≤ 1024 → ((j : ℕ) (other : Header) → header_in b j ≡ Some other → (j + 4 + other.size ≤ i) ⊎ (i + 4 + size ≤ j)) → CanStand b i name size

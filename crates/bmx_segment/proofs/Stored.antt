@@ -1,13 +1,14 @@
 -- What a store keeps when a segment is found, changed, added or taken out.
-use Rattle.std.proofs.Common.{◌≡◌, ◌≢◌, ℕ, ◌+◌, ◌-◌, ◌^◌, ◌<◌, ◌≤◌, List, [], ◌∷◌, ◌++◌, length, get_or, set, Option, Some, None, arith, refl, sym, ap, ◌∙◌, inl, inr, subst, is_some}
+use Rattle.std.proofs.Common.{◌≡◌, ◌≢◌, ℕ, ◌+◌, ◌-◌, ◌^◌, ◌<◌, ◌≤◌, List, [], ◌∷◌, ◌++◌, length, get_or, set, Option, Some, None, IsSome, true, false, arith, refl, sym, ap, ◌∙◌, inl, inr, subst, is_some}
 use Rattle.std.specs.Prelude.{IsSomeAnd, IfSome, IfNone, slice_index}
+use Rattle.std.specs.Option.{option_and_then}
 use Rattle.bmx_types.specs.Words.{home_of, segment_of, index_of}
 use Rattle.std.proofs.lemmas.Bool.{cases_eq, cases_lt}
 use Rattle.std.proofs.lemmas.List.{length-set, get_or_read, get_or_past, get_or_push, get_or_append_left, length_push}
 use Rattle.bmx_types.specs.Updates.{Puts}
-use Rattle.bmx_segment.specs.Blocks.{Block, CanStand, blank_block}
+use Rattle.bmx_segment.specs.Blocks.{Block, header_in, CanStand, blank_block}
 use Rattle.bmx_segment.specs.declared.headers.Header.{Header}
-use Rattle.bmx_segment.specs.Stores.{segment_key, key_of, key_at, block_at, IsAt, CanStandAt}
+use Rattle.bmx_segment.specs.Stores.{segment_key, key_of, key_at, block_at, header_at, IsAt, CanStandAt}
 use Rattle.bmx_segment.specs.Inside.Blocks.{IsBlock}
 use Rattle.bmx_segment.specs.Inside.Stores.{AreBlocks, AreDistinct, IsBlank, IsListed, IsStored, rank_of, rank_in}
 use Rattle.bmx_segment.proofs.Found.{block_at-at, block_at-none, AreBlocks-set, at-set, Puts-set, Puts-removed, chosen, passed}
@@ -99,9 +100,38 @@ none_of None xs now table home number rank blocks lists same few is tells =
     let P : List Block → Type 0 = λ bs. block_at bs (segment_key home number) ≡ None in
     subst P same (absent-from xs table blocks lists home number few (ap (slice_index table) (sym is) ∙ tells))
 
+-- the row of a mapped segment tells where it stands
+pub row_at : (xs now : List Block) (table known : List ℕ) (home number address rank : ℕ) → AreBlocks xs → IsListed xs table → xs ≡ now → known ≡ table → home < 8 → number < 2 ^ 32
+    → home ≡ home_of address → number ≡ segment_of address → rank ≡ rank_of home number → IsSome (block_at now (key_at address))
+    → (rank < length known) × (1 ≤ slice_index known rank) × IsAt now (key_at address) (slice_index known rank - 1)
+row_at xs now table known home number address rank blocks lists same is few less h n ranked mapped =
+    let row : ℕ = slice_index table rank in
+    let key : segment_key home number ≡ key_at address = λ i. segment_key (h i) (n i) in
+    let some : 1 ≤ row = elim (cases_lt 0 row) [
+      | inl more ↦ omega arith
+      | inr past ↦
+          let here : row ≡ 0 = omega arith in
+          let none : block_at xs (segment_key home number) ≡ None = absent-from xs table blocks lists home number less (ap (slice_index table) (sym ranked) ∙ here) in
+          let gone : block_at now (key_at address) ≡ None = ap (block_at now) (sym key) ∙ subst (λ (bs : List Block). block_at bs (segment_key home number) ≡ None) same none in
+          let e : false ≡ true = sym (ap is_some gone) ∙ mapped in
+          absurd (cc)
+    ] in
+    let next : row ≡ row - 1 + 1 = omega arith in
+    let at : IsAt xs (segment_key home number) (row - 1) = IsAt-from xs table blocks lists home number (row - 1) few (ap (slice_index table) (sym ranked) ∙ next) in
+    let now_at : IsAt now (key_at address) (row - 1) = subst (λ (k : ℕ). IsAt now k (row - 1)) key (subst (λ (bs : List Block). IsAt bs (segment_key home number) (row - 1)) same at) in
+    subst (λ (t : List ℕ). (rank < length t) × (1 ≤ slice_index t rank) × IsAt now (key_at address) (slice_index t rank - 1)) (sym is) (in_table table rank (row - 1) next, some, now_at)
+
 pub is_there : (o : Option ℕ) (now : List Block) (key : ℕ) → IfSome o (λ i. IsAt now key i) → IfNone o (block_at now key ≡ None) → is_some o ≡ is_some (block_at now key)
 is_there None now key some none = sym (ap is_some none)
 is_there (Some i) now key some none = sym (ap is_some (some.found (blank_block 0 0)))
+
+-- where a header begins at an address, its segment is mapped
+pub header_mapped : (bs : List Block) (address : ℕ) (P : Header → Type 0) → IsSomeAnd (header_at bs address) P → IsSome (block_at bs (key_at address))
+header_mapped bs address P holds = mapped (block_at bs (key_at address)) holds
+  where
+    mapped : (o : Option Block) → IsSomeAnd (option_and_then (λ b. header_in b (index_of address)) o) P → IsSome o
+    mapped None holds = absurd holds
+    mapped (Some b) holds = refl
 
 -- the segment of an address, where its place was found
 module _ (xs now : List Block) (same : xs ≡ now) (home number address place : ℕ) (h : home ≡ home_of address) (n : number ≡ segment_of address) (at : IsAt now (segment_key home number) place) (s : Block) (is : s ≡ get_or xs place s) where

@@ -3,7 +3,7 @@ ghost use Rattle.std.specs.Prelude.{◌≡◌, ℕ, ◌+◌, ◌*◌, ◌/◌, �
 ghost use Rattle.bmx_segment.specs.declared.headers.Kind.{Kind as KindOf};
 ghost use Rattle.bmx_types.specs.Words.{IsName, IsAddress};
 ghost use Rattle.bmx_segment.specs.declared.headers.Header.{Header};
-ghost use Rattle.bmx_segment.specs.Headers.{mark_of, third_of, fourth_of, header_of, size_in, held_moves, state_number, live_number, IsHeader, IsHeaderWords, kind_number, kind_of, with_kind};
+ghost use Rattle.bmx_segment.specs.Headers.{mark_of, third_of, fourth_of, header_of, state_in, size_in, held_moves, state_number, live_number, IsHeader, IsHeaderWords, kind_number, kind_of, with_kind};
 
 use bmx_types::{Address, BunchNo, Name};
 
@@ -88,6 +88,18 @@ pub(crate) fn size_in(mark: u64) -> usize
     ensures { result ≡ size_in mark }
 {
     (mark / SIZE_UNIT % BYTE) as usize
+}
+
+/// 1 where the mark is that of a live header, else 0.
+pub(crate) fn live_in_mark(mark: u64) -> u32
+    ensures value { result ≡ (if state_in mark == 1 then 1 else 0) }
+    ensures one { result ≤ 1 }
+{
+    if mark / STATE_UNIT % BYTE == LIVE {
+        1
+    } else {
+        0
+    }
 }
 
 /// The moves among the first and the third word of a header, which a forwarded one has not: it counts as

@@ -7,7 +7,7 @@ ghost use Rattle.bmx_segment.specs.Headers.{IsHeader, size_in, kind_number};
 ghost use Rattle.bmx_segment.specs.Inside.Blocks.{IsBlock, with_words};
 ghost use Rattle.bmx_segment.specs.declared.headers.Header.{Header as HeaderOf};
 
-use crate::headers::{Header, Kind, held_moves, size_in};
+use crate::headers::{Header, Kind, held_moves, live_in_mark, size_in};
 use bmx_types::{Name, NoMemory, NodeNo};
 use std::alloc::Global;
 use std::marker::Model;
@@ -115,12 +115,14 @@ impl Segment {
     /// Whether a header begins at a word.
     fn begins(&self, index: usize) -> bool
         requires { index < 1024 }
-        ensures { result ≡ is_start self.now.starts index }
+        ensures value { result ≡ is_start self.now.starts index }
+        ensures block { IsBlock self.now }
     {
         self.starts[index / 64] >> (index % 64) & 1 == 1
     }
 
     /// The header that begins at a word.
+    #[inline]
     pub(crate) fn header(&self, index: usize) -> Option<Header>
         requires { index < 1024 }
         ensures value { result ≡ header_in self.now index }
@@ -144,10 +146,11 @@ impl Segment {
         requires { index < 1024 }
         ensures { result ≡ option_map (λ (h : HeaderOf). h.name) (header_in self.now index) }
     {
-        match self.header(index) {
-            Some(header) => Some(header.name),
-            None => None,
+        let words = self.words.as_slice();
+        if !self.begins(index) {
+            return None;
         }
+        Name::from_word(words[index + 1])
     }
 
     /// 1 where a live header begins at a word, else 0.
@@ -155,10 +158,11 @@ impl Segment {
         requires { index < 1024 }
         ensures { result ≡ live_at (header_in self.now index) }
     {
-        match self.header(index) {
-            Some(header) => header.state.live(),
-            None => 0,
+        let words = self.words.as_slice();
+        if !self.begins(index) {
+            return 0;
         }
+        live_in_mark(words[index])
     }
 
     /// The bits that say whether headers begin, of the 64 words from one on, the first in the lowest.
@@ -220,6 +224,16 @@ impl Segment {
         }
     }
 
+    /// Whether the header that begins at a word has that name and size.
+    fn is_same(&self, index: usize, header: &Header) -> bool
+        requires bound { index < 1024 }
+        requires begins { is_start self.now.starts index ≡ true }
+        ensures { IsTrue result ↔ CanStand self.now index header.now.name header.now.size }
+    {
+        let words = self.words.as_slice();
+        words[index + 1] == header.name.word() && size_in(words[index]) == header.size as usize
+    }
+
     /// Whether that header can be set at a word. Looks at the header there, or else at the bits of the
     /// words of the object and at the last header before it.
     pub(crate) fn can_stand(&self, index: usize, header: &Header) -> bool
@@ -231,8 +245,8 @@ impl Segment {
         if end > SEGMENT_WORDS {
             return false;
         }
-        if let Some(there) = self.header(index) {
-            return there.name == header.name && there.size == header.size;
+        if self.begins(index) {
+            return self.is_same(index, header);
         }
         if !self.is_free(index, end) {
             return false;
@@ -288,6 +302,7 @@ impl Segment {
     }
 
     /// Writes a field of the live header that begins at a word, and its kind.
+    #[inline]
     pub(crate) fn set_field(&mut self, index: usize, field: usize, kind: Kind, word: u64)
         requires bound { index < 1024 }
         requires field { HasField self.old index field }

@@ -125,6 +125,7 @@ impl Segments {
     }
 
     /// The header that begins at an address, None where none does.
+    #[inline]
     pub fn header(&self, address: Address) -> Option<Header>
         ensures value { result ≡ header_at self.now.blocks address }
         ensures fits { IfSome result (λ h. IsHeader h × (index_of address + 4 + h.size ≤ 1024)) }
@@ -216,6 +217,7 @@ impl Segments {
     }
 
     /// Writes a field of the live header at an address, and its kind.
+    #[inline]
     pub fn set_word(&mut self, address: Address, i: u8, kind: Kind, w: u64)
         requires { HasFieldAt self.old.blocks address i }
         ensures written { Writes self.old.blocks self.new.blocks address i (kind_number kind) w }

@@ -6,7 +6,7 @@ ghost use Rattle.bmx_types.specs.Words.{index_of};
 ghost use Rattle.bmx_segment.specs.Headers.{IsHeader, kind_number};
 ghost use Rattle.bmx_types.specs.Updates.{Puts};
 ghost use Rattle.bmx_segment.specs.Blocks.{Block};
-ghost use Rattle.bmx_segment.specs.Stores.{segment_key, block_at, header_at, word_at, live_of, IsAt, TakesOut, AreApart, Maps, Sets, Writes, CanStandAt, HasFieldAt};
+ghost use Rattle.bmx_segment.specs.Stores.{segment_key, key_at, block_at, header_at, word_at, live_of, IsAt, TakesOut, AreApart, Maps, Sets, Writes, CanStandAt, HasFieldAt};
 ghost use Rattle.bmx_segment.specs.Inside.Stores.{Mapped, rank_of, AreBlocks, IsBlank, Fills};
 ghost use Rattle.bmx_segment.specs.declared.headers.Header.{Header as HeaderOf};
 
@@ -158,6 +158,24 @@ impl Store {
         }
     }
 
+    /// Where the segment of an address stands, which is mapped.
+    fn place_at(&self, address: Address) -> usize
+        requires { IsSome (block_at self.now.blocks (key_at address)) }
+        ensures at { IsAt self.now.blocks (key_at address) result }
+        ensures blocks { AreBlocks self.now.blocks }
+    {
+        let table = self.table.as_slice();
+        table[rank(address.home(), address.segment())] - 1
+    }
+
+    /// The segment of an address, which is mapped.
+    fn segment_at(&self, address: Address) -> &Segment
+        requires { IsSome (block_at self.now.blocks (key_at address)) }
+        ensures { block_at self.now.blocks (key_at address) ≡ Some result.now }
+    {
+        &self.segments[self.place_at(address)]
+    }
+
     /// Whether a segment is mapped.
     pub(crate) fn is_mapped(&self, home: NodeNo, number: u32) -> bool
         ensures { result ≡ is_some (block_at self.now.blocks (segment_key home number)) }
@@ -176,6 +194,7 @@ impl Store {
     }
 
     /// The header that begins at an address.
+    #[inline]
     pub(crate) fn header(&self, address: Address) -> Option<Header>
         ensures value { result ≡ header_at self.now.blocks address }
         ensures fits { IfSome result (λ h. IsHeader h × (index_of address + 4 + h.size ≤ 1024)) }
@@ -210,10 +229,8 @@ impl Store {
         requires { HasFieldAt self.now.blocks address field }
         ensures { result ≡ word_at self.now.blocks (address + 4 + field) }
     {
-        match self.segment(address.home(), address.segment()) {
-            Some(segment) => segment.field(address.index() as usize, field),
-            None => 0,
-        }
+        let segment = self.segment_at(address);
+        segment.field(address.index() as usize, field)
     }
 
     /// Makes `spare` at least n.
@@ -367,6 +384,7 @@ impl Store {
     }
 
     /// Writes a field of the live header at an address, and its kind.
+    #[inline]
     pub(crate) fn set_field(&mut self, address: Address, field: usize, kind: Kind, word: u64)
         requires { HasFieldAt self.old.blocks address field }
         ensures written { Writes self.old.blocks self.new.blocks address field (kind_number kind) word }
@@ -374,9 +392,8 @@ impl Store {
         ensures spare { self.new.spare ≡ self.old.spare }
     {
         let index = address.index() as usize;
-        if let Some(place) = self.place_of(address.home(), address.segment()) {
-            let segment = &mut self.segments[place];
-            segment.set_field(index, field, kind, word);
-        }
+        let place = self.place_at(address);
+        let segment = &mut self.segments[place];
+        segment.set_field(index, field, kind, word);
     }
 }

@@ -1,6 +1,6 @@
-use Rattle.std.proofs.Common.{◌≡◌, ℕ, ◌<◌, List, get_or, set, Option, Some, None, sym, ap, subst, refl, arith}
+use Rattle.std.proofs.Common.{◌≡◌, ℕ, ◌<◌, List, get_or, set, Option, Some, sym, ap, subst, refl, arith}
 use Rattle.std.specs.Prelude.{IsSomeAnd}
-use Rattle.bmx_types.specs.Words.{index_of}
+use Rattle.bmx_types.specs.Words.{home_of, segment_of, index_of}
 use Rattle.bmx_segment.specs.Headers.{IsLive, kind_number}
 use Rattle.bmx_segment.specs.Blocks.{Block, HasField, header_in, with_field}
 use Rattle.bmx_segment.specs.Stores.{key_at, Writes}
@@ -10,7 +10,7 @@ use Rattle.bmx_segment.proofs.Apart.{AreApart-from}
 use Rattle.bmx_segment.proofs.Standing.{size-few}
 use Rattle.bmx_segment.proofs.Fields.{header_with, IsBlock-with_field}
 use Rattle.bmx_segment.proofs.Keeping.{Writes-from, header_at-in}
-use Rattle.bmx_segment.proofs.Stored.{no_block_at, within_there, block_there, block_now, keyed_there, IsStored-set, Puts-stored}
+use Rattle.bmx_segment.proofs.Stored.{within_there, block_there, block_now, keyed_there, header_mapped, IsStored-set, Puts-stored}
 use Rattle.bmx_segment.proofs.store.Store.set_field.Goals as goal
 
 pub set_field-requires-clause-field : goal.set_field-requires-clause-field
@@ -19,13 +19,13 @@ set_field-requires-clause-field c =
     let now : List Block = c.args.self.now.blocks in
     let same : xs ≡ now = ap (λ (s : Mapped). s.blocks) c.self.view_is in
     let a : ℕ = c.args.address in
-    let place : ℕ = c.in-Some.place in
+    let place : ℕ = c.place_at-place.result in
     let s : Block = c.index_mut-segment.result.now in
     let is : s ≡ get_or xs place s = c.index_mut-segment.ensures.value in
-    let within = within_there xs now same c.home.result c.segment.result a place c.home.ensures c.segment.ensures.value c.in-Some.ensures.some s is in
-    let at = block_there xs now same c.home.result c.segment.result a place c.home.ensures c.segment.ensures.value c.in-Some.ensures.some s is in
-    let there = block_now xs now same c.home.result c.segment.result a place c.home.ensures c.segment.ensures.value c.in-Some.ensures.some s is in
-    let keyed = keyed_there xs now same c.home.result c.segment.result a place c.home.ensures c.segment.ensures.value c.in-Some.ensures.some s is in
+    let within = within_there xs now same (home_of a) (segment_of a) a place refl refl c.place_at-place.ensures.at s is in
+    let at = block_there xs now same (home_of a) (segment_of a) a place refl refl c.place_at-place.ensures.at s is in
+    let there = block_now xs now same (home_of a) (segment_of a) a place refl refl c.place_at-place.ensures.at s is in
+    let keyed = keyed_there xs now same (home_of a) (segment_of a) a place refl refl c.place_at-place.ensures.at s is in
     let index : c.index-index.result ≡ index_of a = c.index-index.ensures.value in
     let H : Option Header → Type 0 = λ o. IsSomeAnd o (λ (h : Header). IsLive h.state × (c.args.field < h.size)) in
     let here : H (header_in s (index_of a)) = subst H (header_at-in now a (Some s) there) c.requires in
@@ -38,13 +38,13 @@ invariant_of-self c =
     let now : List Block = c.args.self.now.blocks in
     let same : xs ≡ now = ap (λ (s : Mapped). s.blocks) c.self.view_is in
     let a : ℕ = c.args.address in
-    let place : ℕ = c.in-Some.place in
+    let place : ℕ = c.place_at-place.result in
     let s : Block = c.index_mut-segment.result.now in
     let is : s ≡ get_or xs place s = c.index_mut-segment.ensures.value in
-    let within = within_there xs now same c.home.result c.segment.result a place c.home.ensures c.segment.ensures.value c.in-Some.ensures.some s is in
-    let at = block_there xs now same c.home.result c.segment.result a place c.home.ensures c.segment.ensures.value c.in-Some.ensures.some s is in
-    let there = block_now xs now same c.home.result c.segment.result a place c.home.ensures c.segment.ensures.value c.in-Some.ensures.some s is in
-    let keyed = keyed_there xs now same c.home.result c.segment.result a place c.home.ensures c.segment.ensures.value c.in-Some.ensures.some s is in
+    let within = within_there xs now same (home_of a) (segment_of a) a place refl refl c.place_at-place.ensures.at s is in
+    let at = block_there xs now same (home_of a) (segment_of a) a place refl refl c.place_at-place.ensures.at s is in
+    let there = block_now xs now same (home_of a) (segment_of a) a place refl refl c.place_at-place.ensures.at s is in
+    let keyed = keyed_there xs now same (home_of a) (segment_of a) a place refl refl c.place_at-place.ensures.at s is in
     let index : c.index-index.result ≡ index_of a = c.index-index.ensures.value in
     let H : Option Header → Type 0 = λ o. IsSomeAnd o (λ (h : Header). IsLive h.state × (c.args.field < h.size)) in
     let here : H (header_in s (index_of a)) = subst H (header_at-in now a (Some s) there) c.requires in
@@ -55,19 +55,19 @@ invariant_of-self c =
     let block = IsBlock-with_field s i c.args.field n c.args.word c.set_field.ensures.block got.0 got.1 got.2.0 got.2.1 in
     rw (c.set_field.ensures.set, index) (IsStored-set xs c.self.inside.pool.items c.self.inside.table.items c.self.inside.segments.cap c.self.inside.table.cap place s t c.self.invariant within is refl refl block)
 
-pub returns-in-Some-clause-written : goal.returns-in-Some-clause-written
-returns-in-Some-clause-written c =
+pub returns-clause-written : goal.returns-clause-written
+returns-clause-written c =
     let xs : List Block = c.self.inside.segments.items in
     let now : List Block = c.args.self.now.blocks in
     let same : xs ≡ now = ap (λ (s : Mapped). s.blocks) c.self.view_is in
     let a : ℕ = c.args.address in
-    let place : ℕ = c.in-Some.place in
+    let place : ℕ = c.place_at-place.result in
     let s : Block = c.index_mut-segment.result.now in
     let is : s ≡ get_or xs place s = c.index_mut-segment.ensures.value in
-    let within = within_there xs now same c.home.result c.segment.result a place c.home.ensures c.segment.ensures.value c.in-Some.ensures.some s is in
-    let at = block_there xs now same c.home.result c.segment.result a place c.home.ensures c.segment.ensures.value c.in-Some.ensures.some s is in
-    let there = block_now xs now same c.home.result c.segment.result a place c.home.ensures c.segment.ensures.value c.in-Some.ensures.some s is in
-    let keyed = keyed_there xs now same c.home.result c.segment.result a place c.home.ensures c.segment.ensures.value c.in-Some.ensures.some s is in
+    let within = within_there xs now same (home_of a) (segment_of a) a place refl refl c.place_at-place.ensures.at s is in
+    let at = block_there xs now same (home_of a) (segment_of a) a place refl refl c.place_at-place.ensures.at s is in
+    let there = block_now xs now same (home_of a) (segment_of a) a place refl refl c.place_at-place.ensures.at s is in
+    let keyed = keyed_there xs now same (home_of a) (segment_of a) a place refl refl c.place_at-place.ensures.at s is in
     let index : c.index-index.result ≡ index_of a = c.index-index.ensures.value in
     let H : Option Header → Type 0 = λ o. IsSomeAnd o (λ (h : Header). IsLive h.state × (c.args.field < h.size)) in
     let here : H (header_in s (index_of a)) = subst H (header_at-in now a (Some s) there) c.requires in
@@ -81,13 +81,8 @@ returns-in-Some-clause-written c =
     rw (c.set_field.ensures.set, index)
     (subst W same (Writes-from xs (set xs place t) a c.args.field n c.args.word s at c.set_field.ensures.block got.0 got.1 got.2.0 has (omega arith) (Puts-stored xs c.self.inside.pool.items c.self.inside.table.items c.self.inside.segments.cap c.self.inside.table.cap place s t c.self.invariant within is refl refl (key_at a) keyed)))
 
-pub returns-in_default-clause-written : goal.returns-in_default-clause-written
-returns-in_default-clause-written c =
-    let now : List Block = c.args.self.now.blocks in
-    let a : ℕ = c.args.address in
-    let none = no_block_at now c.home.result c.segment.result a c.home.ensures c.segment.ensures.value c.in_default.ensures.none in
-    let H : Option Header → Type 0 = λ o. IsSomeAnd o (λ (h : Header). IsLive h.state × (c.args.field < h.size)) in
-    absurd (subst H (header_at-in now a None none) c.requires)
+pub place_at-place-requires : goal.place_at-place-requires
+place_at-place-requires c = header_mapped c.args.self.now.blocks c.args.address (λ h. IsLive h.state × (c.args.field < h.size)) c.requires
 
-pub returns-in-Some-clause-apart : goal.returns-in-Some-clause-apart
-returns-in-Some-clause-apart c = AreApart-from c.args.self.now.blocks c.place_of.ensures.blocks
+pub returns-clause-apart : goal.returns-clause-apart
+returns-clause-apart c = AreApart-from c.args.self.now.blocks c.place_at-place.ensures.blocks
