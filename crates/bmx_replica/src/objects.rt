@@ -4,13 +4,13 @@ ghost use Rattle.std.specs.Prelude.{◌≡◌, ℕ, ◌<◌, None, IsSome, IfSom
 ghost use Rattle.std.specs.Option.{option_map};
 ghost use Rattle.bmx_segment.specs.Headers.{kind_number};
 ghost use Rattle.bmx_replica.specs.Chains.{Means, name_at};
-ghost use Rattle.bmx_replica.specs.Replicas.{entry_of, copy_of, field_of, value_in, target_in, HasTarget, IsField, IsReplica, StandsAt, IsHolding, WritesField};
+ghost use Rattle.bmx_replica.specs.Replicas.{entry_of, info_in, copy_of, field_of, value_in, target_in, HasTarget, IsField, IsReplica, StandsAt, IsHolding, WritesField};
 
 use crate::layout::kind_in;
 use crate::replica::{Found, Replica};
 use crate::words::Word;
 use bmx_segment::{Header, Kind, State};
-use bmx_types::{Address, Name, Val};
+use bmx_types::{Address, Info, Name, Place, Val};
 
 /// An object where it stands: its address, and its live header there.
 #[derive(Clone, Copy)]
@@ -36,6 +36,38 @@ impl Replica {
         let Found { slot, header } = self.find(name)?;
         let address = slot.address;
         Some(Object { address, header })
+    }
+
+    /// The object of a name where it stands, None where the name has no copy. Expected constant time.
+    pub fn copied(&self, name: Name) -> Option<Object>
+        ensures stands { IfSome result (λ o. StandsAt self.now o) }
+        ensures named { IfSome result (λ o. o.header.name ≡ name) }
+        ensures some { is_some result ≡ is_some (copy_of self.now name) }
+    {
+        let Found { slot, header } = self.find(name)?;
+        if !slot.has_copy {
+            return None;
+        }
+        let address = slot.address;
+        Some(Object { address, header })
+    }
+
+    /// What the node knows of an object where it stands. It looks nothing up.
+    pub fn info_at(&self, object: &Object) -> Info
+        requires { StandsAt self.now object.now }
+        ensures { option_map (info_in object.now.header.name) (entry_of self.now object.now.header.name) ≡ Some result }
+    {
+        let _segments = &self.segments;
+        let Object { address, header } = *object;
+        let State::Live { moves, .. } = header.state else {
+            unreachable!()
+        };
+        Info {
+            name: header.name,
+            bunch: header.bunch,
+            size: header.size,
+            place: Place { address, moves },
+        }
     }
 
     /// The object of the name that an address word means, None where it means none or the name has no
@@ -142,6 +174,19 @@ impl Replica {
             }
             Kind::Far => unreachable!(),
         }
+    }
+
+    /// Writes a value to a field of the copy of an object's name. A name is looked up where the value refers
+    /// to one.
+    pub fn store_at(&mut self, object: &Object, i: u8, value: Val)
+        requires stands { StandsAt self.old object.now }
+        requires field { IsSome (field_of self.old object.now.header.name i) }
+        requires target { HasTarget self.old value }
+        ensures { WritesField self.old self.new object.now.header.name i value }
+    {
+        let at = object.address;
+        let Word { kind, word } = self.word(value);
+        self.segments.set_word(at, i, kind, word);
     }
 
     /// Writes a field of the copy of an object's name.
