@@ -8,7 +8,8 @@ use Rattle.bmx_replica.specs.Chains.{name_at, Ends, EndsLive, here}
 use Rattle.std.proofs.lemmas.Bool.{false≢true}
 use Rattle.bmx_segment.specs.Stores.{header_at}
 use Rattle.bmx_replica.specs.Slots.{slot_of, address_of}
-use Rattle.bmx_replica.specs.Replicas.{Holding, Entry, IsReplica, StandsAt, IsHolding, entry_of, copy_of, field_at, field_of}
+use Rattle.bmx_replica.specs.Layouts.{kinds_in}
+use Rattle.bmx_replica.specs.Replicas.{Holding, Entry, IsReplica, StandsAt, IsHolding, entry_of, copy_of, field_at, field_of, values_of}
 use Rattle.bmx_replica.specs.Inside.Replicas.{IsFound}
 use Rattle.bmx_replica.specs.declared.directory.Slot.{Slot}
 use Rattle.bmx_replica.specs.declared.objects.Object.{Object}
@@ -25,6 +26,10 @@ some_if : {A : Type 0} (b : Bool) (x : A) → IsSome (if b then Some x else None
 some_if true x is = refl
 some_if false x is = absurd (false≢true is)
 
+not_false : (b : Bool) → (b ≡ false → ⊥) → b ≡ true
+not_false true off = refl
+not_false false off = absurd (off refl)
+
 module _ (r : Holding) (o : Object) (kept : IsReplica r.slots r.heap.blocks) (at : StandsAt r o) where
   pub copied : IsSome (copy_of r o.header.name) → (found_of r o kept at).0.has_copy ≡ true
   copied is =
@@ -36,6 +41,13 @@ module _ (r : Holding) (o : Object) (kept : IsReplica r.slots r.heap.blocks) (at
   field_there i is lt =
       let f = found_of r o kept at in
       field_of-found r o.header.name f.0 o.header f.2 i (copied is) lt ∙ ap (λ a. Some (field_at r.heap.blocks a o.header i)) f.1
+
+  -- where a field isn't null it has a copy
+  pub copied_there : (kinds_in o.header.state ≡ 0 → ⊥) → IsSome (copy_of r o.header.name)
+  copied_there some =
+      let f = found_of r o kept at in
+      let copied : f.0.has_copy ≡ true = not_false f.0.has_copy (λ none. some (kept.blank o.header.name f.0 o.header f.2.slot none f.2.there)) in
+      ap is_some (copy_of-found r o.header.name f.0 o.header f.2 ∙ ap (λ b. if b then Some (values_of (field_at r.heap.blocks f.0.address o.header) o.header.size) else None) copied)
 
   -- its name has an entry
   pub entry_there : IsSome (entry_of r o.header.name)

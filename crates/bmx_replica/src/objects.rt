@@ -1,6 +1,6 @@
 //! Objects as they are found by words, and values with their words: what a program's command on a register
 //! needs, without a look-up by name.
-ghost use Rattle.std.specs.Prelude.{◌≡◌, ℕ, ◌<◌, None, IsSome, IfSome, IfNone, is_some, nat_lt};
+ghost use Rattle.std.specs.Prelude.{◌≡◌, ℕ, ◌<◌, ◌↔◌, None, IsTrue, IsSome, IfSome, IfNone, is_some, nat_lt};
 ghost use Rattle.std.specs.Option.{option_map};
 ghost use Rattle.bmx_segment.specs.Headers.{kind_number};
 ghost use Rattle.bmx_replica.specs.Chains.{Means, name_at};
@@ -50,6 +50,21 @@ impl Replica {
         }
         let address = slot.address;
         Some(Object { address, header })
+    }
+
+    /// Whether the name of an object has a copy. It is looked up only where all fields are null.
+    pub fn is_copied(&self, object: &Object) -> bool
+        requires { StandsAt self.now object.now }
+        ensures { IsTrue result ↔ IsSome (copy_of self.now object.now.header.name) }
+    {
+        let _segments = &self.segments;
+        let State::Live { kinds, .. } = object.header.state else {
+            unreachable!()
+        };
+        if kinds != 0 {
+            return true;
+        }
+        self.has_copy(object.header.name)
     }
 
     /// What the node knows of an object where it stands. It looks nothing up.
