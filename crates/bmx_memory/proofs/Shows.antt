@@ -1,5 +1,5 @@
 -- What contents show, part by part.
-use Rattle.std.proofs.Common.{◌≡◌, ℕ, ◌^◌, ◌<◌, ◌==◌, ◌&&◌, nat_lt, Bool, true, false, cond, List, [], ◌∷◌, map, Option, Some, None, is_some, slice_get, slice_set, unwrap_or, length, replicate, zero, suc, ◌≢◌, option_and_then, refl, sym, ap, ◌∙◌, inl, inr, arith}
+use Rattle.std.proofs.Common.{◌≡◌, ℕ, ◌^◌, ◌<◌, ◌==◌, ◌&&◌, nat_lt, Bool, true, false, cond, List, [], ◌∷◌, map, Option, Some, None, is_some, slice_get, slice_set, unwrap_or, length, replicate, zero, suc, ◌≢◌, option_and_then, refl, sym, ap, subst, ◌∙◌, inl, inr, arith}
 use Rattle.std.proofs.Math.Path.{fun_ext}
 use Rattle.std.specs.Option.{option_map, option_map_or}
 use Rattle.std.proofs.lemmas.Bool.{cases_eq, eq-eqb, ne_eqb, false≢true}
@@ -153,6 +153,9 @@ register_shown m q w is = ap (λ o. option_map_or (value_at m.replica) o val.Nul
 pub of_some : {A : Type 0} (o : Option A) (P : A → Type 0) → ((v : A) → o ≡ Some v → P v) → IfSome o P
 of_some None P h = tt
 of_some (Some v) P h = h v refl
+
+pub if_some : {A : Type 0} (o : Option A) (P : A → Type 0) (v : A) → o ≡ Some v → IfSome o P → P v
+if_some o P v is holds = subst (λ x. IfSome x P) is holds
 
 pub of_none : {A P : Type 0} (o : Option A) → (is_some o ≡ false → P) → IfNone o P
 of_none None h = h refl

@@ -12,7 +12,7 @@ use Rattle.bmx_segment.specs.Blocks.{Block}
 use Rattle.bmx_segment.specs.declared.headers.Header.{Header}
 use Rattle.bmx_token.specs.declared.parts.Part.{Part}
 use Rattle.bmx_replica.specs.declared.directory.Slot.{Slot}
-use Rattle.bmx_replica.specs.Replicas.{Entry, IsReplica, entry_of, entry_in, field_at}
+use Rattle.bmx_replica.specs.Replicas.{Entry, IsReplica, target_in, entry_of, entry_in, field_at}
 use Rattle.bmx_replica.specs.Replicas.{values_of as values_in}
 use Rattle.bmx_replica.proofs.Fielded.{length-values_of}
 use Rattle.bmx_protocol.specs.declared.views.ViewField.{ViewField}
@@ -47,6 +47,12 @@ pub entry_told : (m : Shown) (v : Val) (name : ℕ) → HasEntry m v → v ≡ v
 entry_told m v name has is none =
     let there : is_some (m.object name) ≡ true = subst (HasEntry m) is has in
     false≢true (sym (info_missing name (lies_in m.places name) (m.object name) none) ∙ there)
+
+-- a value with that target refers to it
+pub target_is : (v : Val) (name : ℕ) → target_in v ≡ Some name → v ≡ val.Ref name
+target_is val.Null name is = absurd (none-some name is)
+target_is (val.Int k) name is = absurd (none-some name is)
+target_is (val.Ref n) name is = ap val.Ref (same_Some n name is)
 
 -- ## its fields
 

@@ -6,14 +6,15 @@ ghost use Rattle.bmx_token.specs.declared.parts.Part.{Part};
 ghost use Rattle.bmx_protocol.specs.Nodes.{NodeState, field_of};
 ghost use Rattle.bmx_protocol.specs.Rules.{infos, told_field, told_fields, heard_field};
 ghost use Rattle.bmx_protocol.specs.Strays.{some_clash};
-ghost use Rattle.bmx_memory.specs.Contents.{room_of};
-ghost use Rattle.bmx_replica.specs.Replicas.{StandsAt};
-ghost use Rattle.bmx_memory.specs.Shown.{shown, known_with, Sees, HasEntry, with_copy, has_copy, value_of};
+ghost use Rattle.bmx_segment.specs.Headers.{kind_number};
+ghost use Rattle.bmx_memory.specs.Contents.{room_of, value_at};
+ghost use Rattle.bmx_replica.specs.Replicas.{StandsAt, IsField};
+ghost use Rattle.bmx_memory.specs.Shown.{shown, known_with, Sees, HasEntry, with_copy, has_copy};
 ghost use Rattle.bmx_memory.specs.Letters.{FitsFields};
 
 use crate::memory::Memory;
 use bmx_msg::{Field, Fields, Msg};
-use bmx_replica::Object;
+use bmx_replica::{Object, Word};
 use bmx_types::{Items, Name, NoMemory, Val};
 use std::alloc::Global;
 
@@ -37,22 +38,21 @@ impl Memory {
         let _sound = self.replica.segments();
     }
 
-    /// The fields of a name's copy, as a letter tells them; none where there is no copy.
+    /// The fields of a name's copy, as a letter tells them; none where there is no copy. It looks up the name,
+    /// and no other where the object of each reference stands where the field's word says.
     pub fn fields(&self, alloc: Global, name: Name) -> Result<Fields, NoMemory>
         ensures { (s : NodeState) (lies : ℕ → Place) → Sees (shown self.now) s lies → IfOk result (λ fields. fields ≡ told_fields s lies name) }
     {
-        let Some(info) = self.replica.info(name) else {
-            return Ok(Items::new(alloc));
-        };
         let Some(object) = self.copied_object(name) else {
             return Ok(Items::new(alloc));
         };
+        let info = self.replica.info_at(&object);
         let mut fields = Vec::with_capacity(alloc, usize::from(info.size))?;
         for i in 0..info.size {
-            let Some(value) = self.field_of(&object, i) else {
+            let Some(word) = self.word_of(&object, i) else {
                 return Ok(Items::from_vec(fields));
             };
-            fields.push(self.told(value))?;
+            fields.push(self.told(word))?;
         }
         Ok(Items::from_vec(fields))
     }
@@ -62,37 +62,22 @@ impl Memory {
         ensures some { IfSome result (λ o. StandsAt self.now.replica o × (o.header.name ≡ name) × (has_copy (shown self.now) name ≡ true)) }
         ensures none { IfNone result (has_copy (shown self.now) name ≡ false) }
     {
-        if !self.has_copy(name) {
-            return None;
+        self.replica.copied(name)
+    }
+
+    /// What a word holds, as a letter tells it.
+    fn told(&self, word: Word) -> Field
+        requires field { IsField self.now.replica.heap.blocks (kind_number word.kind) word.word }
+        requires known { HasEntry (shown self.now) (value_at self.now.replica word) }
+        ensures { (s : NodeState) (lies : ℕ → Place) → Sees (shown self.now) s lies → result ≡ told_field s lies (field_of (value_at self.now.replica word)) }
+    {
+        if let Some(object) = self.replica.object_of(word) {
+            return Field::Ref(self.replica.info_at(&object));
         }
-        self.replica.object(name)
-    }
-
-    /// The value in a field of an object with a copy, None where it has no such field.
-    fn field_of(&self, object: &Object, i: u8) -> Option<Val>
-        requires stands { StandsAt self.now.replica object.now }
-        requires copy { has_copy (shown self.now) object.now.header.name ≡ true }
-        ensures value { result ≡ value_of (shown self.now) object.now.header.name i }
-        ensures known { IfSome result (λ v. HasEntry (shown self.now) v) }
-    {
-        let word = self.replica.field_word(object, i)?;
-        Some(self.replica.value(word))
-    }
-
-    /// A value as a letter tells it.
-    fn told(&self, value: Val) -> Field
-        requires { HasEntry (shown self.now) value }
-        ensures { (s : NodeState) (lies : ℕ → Place) → Sees (shown self.now) s lies → result ≡ told_field s lies (field_of value) }
-    {
-        match value {
+        match self.replica.value(word) {
             Val::Null => Field::Null,
             Val::Int(number) => Field::Int(number),
-            Val::Ref(name) => {
-                let Some(info) = self.info(name) else {
-                    unreachable!()
-                };
-                Field::Ref(info)
-            }
+            Val::Ref(_) => unreachable!(),
         }
     }
 }

@@ -6,6 +6,7 @@
 
 mod letters;
 mod memory;
+mod objects;
 
 pub use memory::Memory;
 
