@@ -138,6 +138,14 @@ pub copy_shown : (m : Contents) (name : ℕ) → has_copy (shown m) name ≡ is_
 unfolding shown
 copy_shown m name = copy_of_object (entry_of m.replica name)
 
+-- without a copy no field holds a value
+pub no_field : (m : Contents) (name i : ℕ) → is_some (copy_of m.replica name) ≡ false → value_of (shown m) name i ≡ None
+no_field m name i none = value_shown m name i ∙ by (copy_of m.replica name) none
+  where
+    by : (o : Option (List Val)) → is_some o ≡ false → option_and_then (λ (l : List Val). slice_get l i) o ≡ None
+    by None none = refl
+    by (Some l) none = absurd (false≢true (sym none))
+
 no_entry : (o : Option Entry) → is_some o ≡ false → is_some (option_and_then (λ (e : Entry). e.copy) o) ≡ false
 no_entry None none = refl
 no_entry (Some e) none = absurd (false≢true (sym none))
@@ -156,6 +164,10 @@ of_some (Some v) P h = h v refl
 
 pub if_some : {A : Type 0} (o : Option A) (P : A → Type 0) (v : A) → o ≡ Some v → IfSome o P → P v
 if_some o P v is holds = subst (λ x. IfSome x P) is holds
+
+pub some_map : {A : Type 0} (o : Option A) (P Q : A → Type 0) → ((v : A) → P v → Q v) → IfSome o P → IfSome o Q
+some_map None P Q f holds = tt
+some_map (Some v) P Q f holds = f v holds
 
 pub of_none : {A P : Type 0} (o : Option A) → (is_some o ≡ false → P) → IfNone o P
 of_none None h = h refl

@@ -34,6 +34,7 @@ impl Memory {
         ensures shown { shown self.new ≡ with_copy (shown self.old) name (Some (map heard_field fields.now)) }
         ensures room { room_of self.new ≡ room_of self.old }
     {
+        self.seen = None;
         self.replica.install(name, fields);
         let _sound = self.replica.segments();
     }

@@ -3,32 +3,43 @@ ghost use Rattle.std.specs.Prelude.{◌≡◌, ℕ, ◌+◌, ◌<◌, ◌≤◌,
 ghost use Rattle.bmx_types.specs.declared.values.Val.TheVariants.{Null};
 ghost use Rattle.bmx_protocol.specs.Places.{no_places, is_full};
 ghost use Rattle.bmx_segment.specs.declared.segments.PlaceError.TheVariants.{Full};
+ghost use Rattle.bmx_replica.specs.Replicas.{StandsAt, HasTarget, WritesField, field_of};
 ghost use Rattle.bmx_memory.specs.Contents.{room_of};
 ghost use Rattle.bmx_memory.specs.Shown.{shown, HasEntry, AllHaveEntries, value_of, has_copy, info_of, with_register, with_copy, with_stored, with_object, with_info, Fits};
 ghost use Rattle.bmx_memory.specs.Meaning.{MeansWhole};
 
-use bmx_replica::{Replica, Words};
+use bmx_replica::{Object, Replica, Words};
 use bmx_segment::PlaceError;
 use bmx_types::{BunchNo, Info, Name, NoMemory, NodeNo, Val};
 use std::alloc::Global;
 use std::marker::Model;
+
+/// A register, and the object to which it refers, where it stands.
+#[derive(Clone, Copy)]
+pub(crate) struct Seen {
+    pub(crate) register: u8,
+    pub(crate) object: Object,
+}
 
 /// What a node has of objects. Contracts see its contents, and what they show to the rules of a node.
 #[derive(Drop)]
 pub struct Memory {
     pub(crate) replica: Replica,
     pub(crate) registers: Words,
+    /// What was looked at last, until something changes.
+    pub(crate) seen: Option<Seen>,
 }
 
 impl Model for Memory {
     ghost use Rattle.bmx_memory.specs.Contents.{Contents};
-    ghost use Rattle.bmx_memory.specs.Inside.Keeping.{Keeps};
+    ghost use Rattle.std.specs.Prelude.{IfSome};
+    ghost use Rattle.bmx_memory.specs.Inside.Keeping.{Keeps, IsSeen};
 
     ghost Value = { Contents };
 
     ghost view = { λ m. record { replica = m.replica; registers = m.registers } };
 
-    ghost invariant = { λ m. Keeps (record { replica = m.replica; registers = m.registers }) };
+    ghost invariant = { λ m. let c : Contents = record { replica = m.replica; registers = m.registers } in Keeps c × IfSome m.seen (IsSeen c) };
 }
 
 impl Memory {
@@ -40,7 +51,11 @@ impl Memory {
         let replica = Replica::new(alloc, me, limit);
         let _sound = replica.segments();
         let registers = Words::new();
-        Memory { replica, registers }
+        Memory {
+            replica,
+            registers,
+            seen: None,
+        }
     }
 
     /// What it has of objects, in words.
@@ -58,6 +73,11 @@ impl Memory {
         ensures value { result ≡ (shown self.now).register register }
         ensures known { HasEntry (shown self.now) result }
     {
+        if let Some(seen) = &self.seen {
+            if seen.register == register {
+                return Val::Ref(seen.object.header.name);
+            }
+        }
         self.replica.value(self.registers.at(register))
     }
 
@@ -68,6 +88,7 @@ impl Memory {
         ensures shown { shown self.new ≡ with_register (shown self.old) register value }
         ensures room { room_of self.new ≡ room_of self.old }
     {
+        self.seen = None;
         let word = self.replica.word(value);
         self.registers.set(register, word);
     }
@@ -91,6 +112,11 @@ impl Memory {
         ensures value { result ≡ value_of (shown self.now) name i }
         ensures known { IfSome result (λ v. HasEntry (shown self.now) v) }
     {
+        if let Some(seen) = &self.seen {
+            if seen.object.header.name == name {
+                return self.field_at(&seen.object, i);
+            }
+        }
         self.replica.field(name, i)
     }
 
@@ -101,7 +127,8 @@ impl Memory {
         ensures shown { shown self.new ≡ with_stored (shown self.old) name i value }
         ensures room { room_of self.new ≡ room_of self.old }
     {
-        self.replica.write_field(name, i, value);
+        store(&mut self.replica, &self.seen, name, i, value);
+        self.seen = None;
         let _sound = self.replica.segments();
     }
 
@@ -117,6 +144,7 @@ impl Memory {
         ensures room { room_of self.old ≤ room_of self.new + 1 }
     {
         let _few = bunch.get();
+        self.seen = None;
         let made = self.replica.make(name, bunch, size);
         let _sound = self.replica.segments();
         made
@@ -132,6 +160,7 @@ impl Memory {
         ensures room { room_of self.old ≤ room_of self.new + 1 }
     {
         let _few = bunch.get();
+        self.seen = None;
         let made = self.replica.make_birth(name, bunch, size);
         let _sound = self.replica.segments();
         made
@@ -143,6 +172,7 @@ impl Memory {
         ensures ok { OnOk result (n ≤ room_of self.new) }
         ensures room { room_of self.old ≤ room_of self.new }
     {
+        self.seen = None;
         let reserved = self.replica.reserve(n);
         let _sound = self.replica.segments();
         reserved
@@ -158,6 +188,7 @@ impl Memory {
         ensures room { room_of self.old ≤ room_of self.new + 1 }
     {
         let _few = info.place.address.segment();
+        self.seen = None;
         let Ok(()) = self.replica.learn(info) else {
             unreachable!()
         };
@@ -169,7 +200,24 @@ impl Memory {
         ensures shown { shown self.new ≡ with_copy (shown self.old) name None }
         ensures room { room_of self.new ≡ room_of self.old }
     {
+        self.seen = None;
         self.replica.clear_copy(name);
         let _sound = self.replica.segments();
     }
+}
+
+/// Writes a field of a name's copy, with no look-up of the name where its object was seen.
+fn store(replica: &mut Replica, seen: &Option<Seen>, name: Name, i: u8, value: Val)
+    requires stands { IfSome seen.now (λ s. StandsAt replica.old s.object) }
+    requires field { IsSome (field_of replica.old name i) }
+    requires target { HasTarget replica.old value }
+    ensures { WritesField replica.old replica.new name i value }
+{
+    if let Some(seen) = seen {
+        if seen.object.header.name == name {
+            replica.store_at(&seen.object, i, value);
+            return;
+        }
+    }
+    replica.write_field(name, i, value);
 }

@@ -3,10 +3,11 @@ ghost use Rattle.std.specs.Prelude.{◌≡◌, ◌<◌, true, IsSome, IfSome};
 ghost use Rattle.std.specs.Option.{option_map};
 ghost use Rattle.bmx_segment.specs.Headers.{kind_number};
 ghost use Rattle.bmx_replica.specs.Replicas.{StandsAt, IsField, target_in};
-ghost use Rattle.bmx_memory.specs.Contents.{room_of, value_at};
-ghost use Rattle.bmx_memory.specs.Shown.{shown, HasEntry, value_of, has_copy, with_register, with_stored};
+ghost use Rattle.bmx_memory.specs.Contents.{value_at};
+ghost use Rattle.bmx_memory.specs.Shown.{shown, HasEntry, value_of, has_copy};
+ghost use Rattle.bmx_memory.specs.Inside.Keeping.{IsSeen};
 
-use crate::memory::Memory;
+use crate::memory::{Memory, Seen};
 use bmx_replica::{Object, Word};
 use bmx_types::Val;
 
@@ -20,6 +21,24 @@ impl Memory {
         self.replica.object_of(self.registers.at(register))
     }
 
+    /// Finds the object to which a register refers, so that what is asked of both from now on, until something
+    /// changes, needs no look-up.
+    pub fn look_at(&mut self, register: u8)
+        requires { register < 16 }
+        ensures { self.new ≡ self.old }
+    {
+        self.seen = self.seen_in(register);
+    }
+
+    /// A register with the object to which it refers, None where it refers to none.
+    fn seen_in(&self, register: u8) -> Option<Seen>
+        requires { register < 16 }
+        ensures { IfSome result (IsSeen self.now) }
+    {
+        let object = self.object_in(register)?;
+        Some(Seen { register, object })
+    }
+
     /// The word in a field of an object with a copy, None where it has no such field.
     pub(crate) fn word_of(&self, object: &Object, i: u8) -> Option<Word>
         requires stands { StandsAt self.now.replica object.now }
@@ -31,26 +50,17 @@ impl Memory {
         self.replica.field_word(object, i)
     }
 
-    /// The value in a field of an object with a copy, None where it has no such field.
+    /// The value in a field of an object's copy, None where it has no copy or no such field. A name is looked up
+    /// where all fields are null.
     pub fn field_at(&self, object: &Object, i: u8) -> Option<Val>
-        requires stands { StandsAt self.now.replica object.now }
-        requires copy { has_copy (shown self.now) object.now.header.name ≡ true }
+        requires { StandsAt self.now.replica object.now }
         ensures value { result ≡ value_of (shown self.now) object.now.header.name i }
         ensures known { IfSome result (λ v. HasEntry (shown self.now) v) }
     {
+        if !self.replica.is_copied(object) {
+            return None;
+        }
         let word = self.word_of(object, i)?;
         Some(self.replica.value(word))
-    }
-
-    /// A field of an object's copy holds a value. A name is looked up where the value refers to one.
-    pub fn write_at(&mut self, object: &Object, i: u8, value: Val)
-        requires stands { StandsAt self.old.replica object.now }
-        requires field { IsSome (value_of (shown self.old) object.now.header.name i) }
-        requires known { HasEntry (shown self.old) value }
-        ensures shown { shown self.new ≡ with_stored (shown self.old) object.now.header.name i value }
-        ensures room { room_of self.new ≡ room_of self.old }
-    {
-        self.replica.store_at(object, i, value);
-        let _sound = self.replica.segments();
     }
 }

@@ -7,8 +7,11 @@ use Rattle.bmx_segment.specs.Stores.{header_at, AreApart}
 use Rattle.bmx_segment.specs.declared.headers.Header.{Header}
 use Rattle.bmx_segment.specs.declared.headers.State.TheVariants.{Dead}
 use Rattle.bmx_replica.specs.declared.words.Word.{Word}
-use Rattle.bmx_replica.specs.Replicas.{Holding, IsField, IsReplica}
+use Rattle.bmx_types.specs.declared.values.Val.TheVariants as val
+use Rattle.bmx_replica.specs.Replicas.{Holding, IsField, IsReplica, StandsAt}
+use Rattle.bmx_memory.specs.declared.memory.Seen.{Seen}
 use Rattle.bmx_memory.specs.Contents.{Contents}
+use Rattle.bmx_memory.specs.Shown.{shown}
 
 -- no object was forgotten: no header is dead
 abbrev pub NoneDied : List Block → Type 0
@@ -31,3 +34,8 @@ pub record Keeps (m : Contents) : Type 0 where
   pub standing : NoneDied m.replica.heap.blocks
   pub few : length m.registers ≡ 16
   pub held : (r : ℕ) (w : Word) → slice_get m.registers r ≡ Some w → IsHeldIn m.replica.heap.blocks w
+
+-- a register refers to an object, which stands where it says
+pub record IsSeen (m : Contents) (s : Seen) : Type 0 where
+  pub stands : StandsAt m.replica s.object
+  pub refers : (shown m).register s.register ≡ val.Ref s.object.header.name

@@ -13,7 +13,7 @@ returns-clause-value c =
 pub returns-clause-known : goal.returns-clause-known
 returns-clause-known c =
     let m = the_view c.self.inside in
-    let kept = c.self.invariant in
+    let kept = c.self.invariant.0 in
     of_some c.field.result (HasEntry (shown c.args.self.now)) (λ v is.
     subst (λ (n : Contents). HasEntry (shown n) v) c.self.view_is
     (entry_shown m v (field_target m.replica kept.sound.replica kept.standing c.args.name c.args.i v (sym c.field.ensures ∙ is))))

@@ -53,7 +53,7 @@ returns c = λ s lies sees.
     let i : Info = c.info_at-info.result in
     let known = subst (λ (n : ℕ). option_map (info_in n) (entry_of r.replica n) ≡ Some i) c.in-Some.ensures.some.1 c.info_at-info.ensures in
     let told : info_of (shown r) name ≡ Some i = sym (info_shown r name) ∙ known in
-    let all : take i.size (copied (shown r) name) ≡ copied (shown r) name = all_copied r name i c.self.invariant.sound.replica told in
+    let all : take i.size (copied (shown r) name) ≡ copied (shown r) name = all_copied r name i c.self.invariant.0.sound.replica told in
     let here : take i.size (copied m name) ≡ copied m name = subst (λ (x : Contents). take i.size (copied (shown x) name) ≡ copied (shown x) name) c.self.view_is all in
     let past : c.loop-i.i ≡ i.size = omega (arith, c.loop-i-test.false, c.loop-i.auto.i-end) in
     c.from_vec-2.ensures

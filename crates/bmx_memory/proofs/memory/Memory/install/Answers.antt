@@ -25,12 +25,14 @@ pub invariant_of-self : goal.invariant_of-self
 invariant_of-self c =
     let m = the_view c.self.inside in
     let new = c.install.new.self in
-    let sound = c.segments-sound.ensures in
-    kept_changed m new c.self.invariant (record { replica = sound.replica; heap = sound.kept; apart = sound.apart })
-    (none_died-seen m.replica.heap.blocks new.heap.blocks (recast_installed m.replica new c.args.name (values_told c.args.fields.now) c.self.invariant.sound.replica c.install.ensures).headers c.self.invariant.standing)
-    c.install.ensures.keeps.names
+    let sound = c.segments-sound.ensures in (
+      kept_changed m new c.self.invariant.0 (record { replica = sound.replica; heap = sound.kept; apart = sound.apart })
+          (none_died-seen m.replica.heap.blocks new.heap.blocks (recast_installed m.replica new c.args.name (values_told c.args.fields.now) c.self.invariant.0.sound.replica c.install.ensures).headers c.self.invariant.0.standing)
+          c.install.ensures.keeps.names,
+      tt,
+    )
 
 pub returns-clause-shown : goal.returns-clause-shown
 returns-clause-shown c =
-    shown_installed (the_view c.self.inside) c.install.new.self c.args.name c.args.fields.now c.self.invariant c.install.ensures
+    shown_installed (the_view c.self.inside) c.install.new.self c.args.name c.args.fields.now c.self.invariant.0 c.install.ensures
     ∙ ap (λ (m : Contents). with_copy (shown m) c.args.name (Some (map heard_field c.args.fields.now))) c.self.view_is

@@ -15,11 +15,13 @@ unreachable-requires c =
 pub invariant_of-self : goal.invariant_of-self
 invariant_of-self c =
     let sound = c.segments-sound.ensures in
-    let small = subst (λ (n : ℕ). n < 2 ^ 16) c.segment-few.ensures.value c.segment-few.ensures.range.1 in
-    kept_learnt (the_view c.self.inside) c.learn.new.self c.args.info.now c.self.invariant (record { replica = sound.replica; heap = sound.kept; apart = sound.apart }) small c.in-Ok.ensures.ok
+    let small = subst (λ (n : ℕ). n < 2 ^ 16) c.segment-few.ensures.value c.segment-few.ensures.range.1 in (
+      kept_learnt (the_view c.self.inside) c.learn.new.self c.args.info.now c.self.invariant.0 (record { replica = sound.replica; heap = sound.kept; apart = sound.apart }) small c.in-Ok.ensures.ok,
+      tt,
+    )
 
 pub returns-clause-shown : goal.returns-clause-shown
 returns-clause-shown c =
     let small = subst (λ (n : ℕ). n < 2 ^ 16) c.segment-few.ensures.value c.segment-few.ensures.range.1 in
-    shown_learnt (the_view c.self.inside) c.learn.new.self c.args.info.now c.self.invariant small c.in-Ok.ensures.ok
+    shown_learnt (the_view c.self.inside) c.learn.new.self c.args.info.now c.self.invariant.0 small c.in-Ok.ensures.ok
     ∙ ap (λ (n : Contents). with_info (shown n) c.args.info.now) c.self.view_is

@@ -18,15 +18,17 @@ invariant_of-self c =
     let m = the_view c.self.inside in
     let new = c.make_birth-made.new.self in
     let s = c.segments-sound.ensures in
-    let sound : IsSound new = record { replica = s.replica; heap = s.kept; apart = s.apart } in
-    result_map c.make_birth-made.result (λ made. kept_made m new c.args.name c.args.bunch c.args.size c.self.invariant sound (subst (λ (n : ℕ). n < 16) c.get-few.ensures.value c.get-few.ensures.bound) made) (λ same. kept_still m new c.self.invariant sound same)
-    c.make_birth-made.ensures.made c.make_birth-made.ensures.err
+    let sound : IsSound new = record { replica = s.replica; heap = s.kept; apart = s.apart } in (
+      result_map c.make_birth-made.result (λ made. kept_made m new c.args.name c.args.bunch c.args.size c.self.invariant.0 sound (subst (λ (n : ℕ). n < 16) c.get-few.ensures.value c.get-few.ensures.bound) made) (λ same. kept_still m new c.self.invariant.0 sound same)
+          c.make_birth-made.ensures.made c.make_birth-made.ensures.err,
+      tt,
+    )
 
 pub returns-clause-ok : goal.returns-clause-ok
 returns-clause-ok c =
     let m = the_view c.self.inside in
     ok_map c.make_birth-made.result
-    (λ made. shown_made m c.make_birth-made.new.self c.args.name c.args.bunch c.args.size c.self.invariant c.segments-sound.ensures.kept (subst (λ (n : ℕ). n < 16) c.get-few.ensures.value c.get-few.ensures.bound) made ∙ ap (λ (n : Contents). with_object (shown n) c.args.name c.args.bunch c.args.size) c.self.view_is)
+    (λ made. shown_made m c.make_birth-made.new.self c.args.name c.args.bunch c.args.size c.self.invariant.0 c.segments-sound.ensures.kept (subst (λ (n : ℕ). n < 16) c.get-few.ensures.value c.get-few.ensures.bound) made ∙ ap (λ (n : Contents). with_object (shown n) c.args.name c.args.bunch c.args.size) c.self.view_is)
     c.make_birth-made.ensures.made
 
 pub returns-clause-err : goal.returns-clause-err

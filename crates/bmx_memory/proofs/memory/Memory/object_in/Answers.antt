@@ -10,12 +10,12 @@ use Rattle.bmx_memory.proofs.Shows.{register_shown}
 use Rattle.bmx_memory.proofs.memory.Memory.object_in.Goals as goal
 
 pub object_of-requires-clause-field : goal.object_of-requires-clause-field
-object_of-requires-clause-field c = c.self.invariant.held c.args.register c.at.result c.at.ensures.word
+object_of-requires-clause-field c = c.self.invariant.0.held c.args.register c.at.result c.at.ensures.word
 
 pub object_of-requires-clause-target : goal.object_of-requires-clause-target
 object_of-requires-clause-target c =
     let m = the_view c.self.inside in
-    let kept = c.self.invariant in
+    let kept = c.self.invariant.0 in
     target_held m.replica kept.sound.replica kept.standing (kind_number c.at.result.kind) c.at.result.word (kept.held c.args.register c.at.result c.at.ensures.word)
 
 pub returns-clause-named : goal.returns-clause-named

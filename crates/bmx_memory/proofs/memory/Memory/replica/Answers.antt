@@ -27,7 +27,7 @@ all_known m kept = record {
 }
 
 pub returns-clause-whole : goal.returns-clause-whole
-returns-clause-whole c = subst MeansWhole c.self.view_is (means_whole (the_view c.self.inside) c.self.invariant)
+returns-clause-whole c = subst MeansWhole c.self.view_is (means_whole (the_view c.self.inside) c.self.invariant.0)
 
 pub returns-clause-known : goal.returns-clause-known
-returns-clause-known c = subst (λ (m : Contents). AllHaveEntries (shown m)) c.self.view_is (all_known (the_view c.self.inside) c.self.invariant)
+returns-clause-known c = subst (λ (m : Contents). AllHaveEntries (shown m)) c.self.view_is (all_known (the_view c.self.inside) c.self.invariant.0)

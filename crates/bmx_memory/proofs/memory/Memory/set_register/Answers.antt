@@ -14,13 +14,15 @@ word-word-requires c =
 
 pub invariant_of-self : goal.invariant_of-self
 invariant_of-self c =
-    let m = the_view c.self.inside in
-    subst (λ (ws : List Word). Keeps (record m { registers = ws })) (sym c.set.ensures) (kept_set m c.args.register c.word-word.result c.self.invariant c.word-word.ensures.field)
+    let m = the_view c.self.inside in (
+      subst (λ (ws : List Word). Keeps (record m { registers = ws })) (sym c.set.ensures) (kept_set m c.args.register c.word-word.result c.self.invariant.0 c.word-word.ensures.field),
+      tt,
+    )
 
 pub returns-clause-shown : goal.returns-clause-shown
 returns-clause-shown c =
     let m = the_view c.self.inside in
-    let few : length m.registers ≡ 16 = c.self.invariant.few in
+    let few : length m.registers ≡ 16 = c.self.invariant.0.few in
     let small = c.requires.register in
     ap (λ (ws : List Word). shown (record m { registers = ws })) c.set.ensures
     ∙ shown_set m c.args.register c.word-word.result c.args.value (omega (arith, few, small)) c.word-word.ensures.holds

@@ -20,7 +20,7 @@ returns-clause-value c =
 pub returns-clause-known : goal.returns-clause-known
 returns-clause-known c =
     let m : Contents = the_view c.self.inside in
-    let kept = c.self.invariant in
+    let kept = c.self.invariant.0 in
     let name : ℕ = c.args.object.now.header.name in
     let copy : IsSome (copy_of m.replica name) = sym (copy_shown m name) ∙ subst (λ (n : Contents). has_copy (shown n) name ≡ true) (sym c.self.view_is) c.requires.copy in
     let found : field_of m.replica name c.args.i ≡ option_map (value_at m.replica) c.field_word.result = c.field_word.ensures.value copy in
