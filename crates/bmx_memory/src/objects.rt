@@ -13,7 +13,7 @@ use bmx_types::Val;
 
 impl Memory {
     /// The object to which a register refers, where it stands, None where it refers to none.
-    pub fn object_in(&self, register: u8) -> Option<Object>
+    fn object_in(&self, register: u8) -> Option<Object>
         requires { register < 16 }
         ensures stands { IfSome result (λ o. StandsAt self.now.replica o) }
         ensures named { option_map (λ o. o.header.name) result ≡ target_in ((shown self.now).register register) }
@@ -52,7 +52,7 @@ impl Memory {
 
     /// The value in a field of an object's copy, None where it has no copy or no such field. A name is looked up
     /// where all fields are null.
-    pub fn field_at(&self, object: &Object, i: u8) -> Option<Val>
+    pub(crate) fn field_at(&self, object: &Object, i: u8) -> Option<Val>
         requires { StandsAt self.now.replica object.now }
         ensures value { result ≡ value_of (shown self.now) object.now.header.name i }
         ensures known { IfSome result (λ v. HasEntry (shown self.now) v) }
