@@ -1,5 +1,5 @@
 -- All names of a map, sorted.
-use Rattle.std.proofs.Common.{◌≡◌, ◌↔◌, ℕ, Bool, true, eqb, List, Contains, IsSome, IsPermutation, IsSorted, nat_cmp, sym, ap, ◌∙◌, subst, ⊎_elim, arith}
+use Rattle.std.proofs.Common.{◌≡◌, ◌↔◌, ℕ, Bool, true, eqb, List, Contains, IsSome, IsPermutation, IsSorted, nat_cmp, refl, sym, ap, ◌∙◌, subst, ⊎_elim, arith}
 use Rattle.std.proofs.Math.Path.{fun_ext}
 use Rattle.std.specs.declared.cmp.Ordering.{Ordering}
 use Rattle.std.specs.Ordering.{ordering_then}
@@ -18,16 +18,12 @@ use Rattle.bmx_token.specs.declared.parts.Part.{Part}
 use Rattle.bmx_tokens.specs.Tables.{part_in}
 use Rattle.bmx_tokens.proofs.Map.{same_name, same_name-is, part_in-lookup}
 
--- names are ordered by their makers, then by their counts
+-- names are ordered by their words
 abbrev pub name_cmp : ℕ → ℕ → Ordering
 name_cmp x y = nat_cmp x y
 
-name_cmp_at : (x y : ℕ) → name_cmp x y ≡ nat_cmp x y
-name_cmp_at x y = refl
-
--- which is the order of their words
 name_cmp-is : name_cmp ≡ nat_cmp
-name_cmp-is = fun_ext (λ x. fun_ext (name_cmp_at x))
+name_cmp-is = refl
 
 same_name-eqb : same_name ≡ eqb
 same_name-eqb = fun_ext (λ x. fun_ext (same_name-is x))
