@@ -185,6 +185,9 @@ fn numbers(alloc: Global, counts: &[u64], nodes: u8) -> Result<Numbers, NoMemory
 fn can_issue(issued: &[u64], room: usize) -> bool
     ensures { IsTrue result ↔ ((node : ℕ) → slice_index issued.now node + room < 2 ^ 64) }
 {
+    if room == 0 {
+        return true;
+    }
     let most = u64::MAX - room as u64;
     for count in issued {
         if *count > most {
