@@ -1,5 +1,5 @@
 //! A letter that is taken.
-ghost use Rattle.std.specs.Prelude.{◌≡◌, ℕ, ◌+◌, ◌<◌, ◌≤◌, ◌^◌, ◌||◌, ◌∷◌, ◌++◌, [], if◌then◌else◌, true, false, length, map, filter_map, Some, IsSome, OnOk, OnErr, IfOk};
+ghost use Rattle.std.specs.Prelude.{◌≡◌, ℕ, ◌+◌, ◌<◌, ◌≤◌, ◌^◌, ◌||◌, ◌∷◌, ◌++◌, [], if◌then◌else◌, true, false, length, map, filter_map, Some, None, IsSome, OnOk, OnErr, IfOk};
 ghost use Rattle.bmx_memory.specs.Shown.{shown};
 ghost use Rattle.bmx_protocol.specs.Nodes.{Setting, Known};
 ghost use Rattle.bmx_protocol.specs.Changes.{Knows, Hears, Takes, after_change, after_changes};
@@ -14,7 +14,10 @@ ghost use Rattle.bmx_node.specs.Inside.Keeping.{Keeps, Frame};
 ghost use Rattle.bmx_node.specs.Inside.Reacting.{Reacts, letter_on, request_msg, grant_msg};
 ghost use Rattle.bmx_node.specs.Inside.Taking.{CanTake, IsNext, Took};
 ghost use Rattle.bmx_node.specs.Inside.Hearing.{CanHear, Rooms, KeepsBut, OnlyRoom};
-ghost use Rattle.bmx_token.specs.Tokens.{granted};
+ghost use Rattle.bmx_types.specs.declared.numbers.Mode.{Mode};
+ghost use Rattle.bmx_token.specs.declared.answers.Requested.TheVariants as requested_is;
+ghost use Rattle.bmx_token.specs.declared.answers.Revoked.TheVariants as revoked_is;
+ghost use Rattle.bmx_token.specs.Tokens.{request, inval, granted};
 ghost use Rattle.bmx_token.specs.Transitions.{Grants};
 ghost use Rattle.bmx_tokens.specs.Tables.{part_of, part_at};
 ghost use Rattle.bmx_mail.specs.Mails.{Tracks, KnowsBunch, taken_of};
@@ -26,7 +29,7 @@ use crate::strays::Screen;
 use bmx_mail::Mail;
 use bmx_msg::{Fields, Letter, Msg};
 use bmx_protocol::{Done, NodeAnswer};
-use bmx_token::{Requested, Revoked};
+use bmx_token::{Part, Requested, Revoked, Role};
 use bmx_types::{Info, Mode, Name, NoMemory, NodeNo};
 
 /// Who sends a letter, its number, and the stamp of the step that takes it.
@@ -96,10 +99,11 @@ impl Holdings {
         ensures keeps { Keeps self.new }
         ensures frame { Frame self.old self.new }
     {
-        if self.tokens.get(name).is_none() {
+        let Some(part) = self.tokens.get(name) else {
             return Ok(self.tell(NodeAnswer::Stray));
-        }
-        let mut outbox = self.mail.outbox(self.alloc, taking.stamp, 1)?;
+        };
+        let most = letters_to_ask(part);
+        let mut outbox = self.mail.outbox(self.alloc, taking.stamp, most)?;
         match self.tokens.request(name, asker, mode)? {
             Requested::Stray => return Ok(self.tell(NodeAnswer::Stray)),
             Requested::Queued => {}
@@ -202,22 +206,39 @@ impl Holdings {
         ensures keeps { Keeps self.new }
         ensures frame { Frame self.old self.new }
     {
+        let Some(part) = self.tokens.get(name) else {
+            return self.return_nothing(taking, name);
+        };
         let from = taking.from;
-        let mut outbox = self.mail.outbox(self.alloc, taking.stamp, 1)?;
-        if self.tokens.get(name).is_none() {
-            self.mail.post(&mut outbox, from, Msg::InvAck { name });
-        } else {
-            let copy = self.memory.has_copy(name);
-            match self.tokens.inval(name, from, copy)? {
-                None => return Ok(self.tell(NodeAnswer::Stray)),
-                Some(Revoked::AtRelease) => {}
-                Some(Revoked::Now) => {
-                    self.memory.clear_copy(name);
-                    self.mail.post(&mut outbox, from, Msg::InvAck { name });
-                }
+        let copy = self.memory.has_copy(name);
+        let most = letters_to_recall(part, copy);
+        let mut outbox = self.mail.outbox(self.alloc, taking.stamp, most)?;
+        match self.tokens.inval(name, from, copy)? {
+            None => return Ok(self.tell(NodeAnswer::Stray)),
+            Some(Revoked::AtRelease) => {}
+            Some(Revoked::Now) => {
+                self.memory.clear_copy(name);
+                self.mail.post(&mut outbox, from, Msg::InvAck { name });
             }
         }
         self.mail.count_taken(from);
+        Ok(answer(NodeAnswer::Nil, outbox))
+    }
+
+    /// The same of an object that isn't known: there is no copy, and that is told.
+    fn return_nothing(&mut self, taking: Taking, name: Name) -> Result<Done, NoMemory>
+        requires keeps { Keeps self.old }
+        requires next { IsNext self.old taking.from taking.seq }
+        requires unknown { part_of self.old.tokens name ≡ None }
+        ensures takes { IfOk result (λ done. Took taking.stamp self.old taking.from taking.seq (msg.Inval name) done self.new) }
+        ensures err { OnErr result (node_of self.new ≡ node_of self.old) }
+        ensures keeps { Keeps self.new }
+        ensures frame { Frame self.old self.new }
+    {
+        let mut outbox = self.mail.outbox(self.alloc, taking.stamp, 1)?;
+        self.mail
+            .post(&mut outbox, taking.from, Msg::InvAck { name });
+        self.mail.count_taken(taking.from);
         Ok(answer(NodeAnswer::Nil, outbox))
     }
 
@@ -236,6 +257,26 @@ impl Holdings {
         self.mail.count_taken(taking.from);
         Ok(self.tell(NodeAnswer::Nil))
     }
+}
+
+/// For how many letters a request needs room: for one where it is passed on.
+fn letters_to_ask(part: &Part) -> usize
+    ensures { (me asker : ℕ) (m : Mode) (parent : ℕ) → (request me part.now asker m).1 ≡ requested_is.Forward parent → result ≡ 1 }
+{
+    match part.role {
+        Role::Owner => 0,
+        Role::Parent(_) => 1,
+    }
+}
+
+/// For how many letters a recall needs room: for none where the copy is given up later.
+fn letters_to_recall(part: &Part, copy: bool) -> usize
+    ensures { (from : ℕ) → (inval part.now from copy).1 ≡ Some revoked_is.Now → result ≡ 1 }
+{
+    if copy && (part.held.is_some() || part.ready) {
+        return 0;
+    }
+    1
 }
 
 /// Counts the letter that brought a grant, and notes who handed the object over, where it does.

@@ -18,11 +18,11 @@ use Rattle.bmx_node.proofs.Notes.{takes_unknown, request_name, request_note, req
 use Rattle.bmx_node.proofs.holdings.Holdings.asked.Goals.{in-Queued, in-Forward}
 use Rattle.bmx_node.proofs.holdings.Holdings.asked.Goals as goal
 
-pub returns-then-is_none-clause-takes : goal.returns-then-is_none-clause-takes
-returns-then-is_none-clause-takes c =
+pub returns-in_default-clause-takes : goal.returns-in_default-clause-takes
+returns-in_default-clause-takes c =
     let h = c.args.self.now in
     let name = c.args.name in
-    let none : part_of h.tokens name ≡ None = search rules in
+    let none : part_of h.tokens name ≡ None = rw c.in_default.is at c.get.ensures.none in
     rw c.tell.ensures (takes_unknown c.args.taking.stamp h c.args.taking.from c.args.taking.seq (request_msg name c.args.asker c.args.mode) name (Asks c.args.mode c.args.asker) c.requires.keeps
     (request_name name c.args.asker c.args.mode) (request_note name c.args.asker c.args.mode) none refl)
 
@@ -65,7 +65,7 @@ returns-clause-takes c =
           took_so stamp h (record h { tokens = c.request.new.self; mail = cnt }) (record c.match-branch-3.self { mail = cnt }) from c.args.taking.seq asked (record { answer = answer.Nil; letters = l ∷ [] }) c.answer.result
           (c.answer.ensures ∙ ap (λ (b : OutboxState). record { answer = answer.Nil; letters = b.letters }) w.outbox-is
           ∙ ap (λ (x : List Sending). record { answer = answer.Nil; letters = x })
-          (sent_one h.mail w.post.new.self stamp parent 1 w.request-in-Forward.result c.in_ok-outbox.outbox w.post.new.outbox opened w.post.ensures.outbox
+          (sent_one h.mail w.post.new.self stamp parent c.letters_to_ask-most.result w.request-in-Forward.result c.in_ok-outbox.outbox w.post.new.outbox opened w.post.ensures.outbox
           ∙ ap (λ (m : Msg). next_letter h.mail stamp parent m ∷ []) w.request-in-Forward.ensures))
           (ap (λ (x : Holdings). record x { mail = cnt }) w.self-is)
           (request_passed stamp h from c.args.taking.seq name c.requires.keeps there c.request.new.self cnt c.args.asker c.args.mode parent c.in_ok-request.ensures.part (sym c.in_ok-request.ensures.answer ∙ w.in-Forward.is)
@@ -73,7 +73,7 @@ returns-clause-takes c =
           (counted_after h.mail w.post.new.self cnt from l (request_gives name c.args.asker c.args.mode)
           (subst (λ (x : Holdings). Tracks x.mail cnt (Takes from ∷ []) (λ _. Unit {0})) w.self-is c.count_taken.ensures.change)
           (λ s. subst (λ (m : Msg). after_changes (with_mail s h.mail) (flat_map sent_changes (next_letter h.mail stamp parent m ∷ [])) ≡ with_mail s w.post.new.self) w.request-in-Forward.ensures
-          (tracked_sent h.mail w.post.new.self stamp parent 1 w.request-in-Forward.result c.in_ok-outbox.outbox w.post.new.outbox opened w.post.ensures.change s
+          (tracked_sent h.mail w.post.new.self stamp parent c.letters_to_ask-most.result w.request-in-Forward.result c.in_ok-outbox.outbox w.post.new.outbox opened w.post.ensures.change s
           (subst (TellsBunches s) (sym w.request-in-Forward.ensures) (request_tells s name c.args.asker c.args.mode))))))
     ]
 

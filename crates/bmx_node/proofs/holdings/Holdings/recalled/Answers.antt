@@ -8,8 +8,8 @@ use Rattle.bmx_mail.specs.Mails.{OutboxState, Tracks, next_letter}
 use Rattle.bmx_node.specs.declared.holdings.Holdings.{Holdings}
 use Rattle.bmx_node.specs.Inside.Keeping.{Keeps, Frame}
 use Rattle.bmx_node.proofs.Operating.{frame_tokens, frame_cleared, keeps_mail, sent_one, tracked_sent}
-use Rattle.bmx_node.proofs.Notes.{recall_unknown, recall_stray, recall_later, recall_now, recall_keeps, recall_keeps_cleared, counted_after, took_so}
-use Rattle.bmx_node.proofs.holdings.Holdings.recalled.Goals.{then-is_none, else-is_none+in_ok-inval+in-Some-AtRelease, else-is_none+in_ok-inval+in-Some-Now}
+use Rattle.bmx_node.proofs.Notes.{recall_stray, recall_later, recall_now, recall_keeps, recall_keeps_cleared, counted_after, took_so}
+use Rattle.bmx_node.proofs.holdings.Holdings.recalled.Goals.{in-Some-AtRelease, in-Some-Now}
 use Rattle.bmx_node.proofs.holdings.Holdings.recalled.Goals as goal
 
 pub returns-in-None-clause-takes : goal.returns-in-None-clause-takes
@@ -37,33 +37,23 @@ returns-clause-takes c =
     let seq = c.args.taking.seq in
     let cnt = c.count_taken.new.self in
     let opened = c.in_ok-outbox.ensures.outbox in
+    let there : IsSome (part_of h.tokens name) = search rules in
     let l : Sending = next_letter h.mail stamp from (msg.InvAck name) in
-    elim c.if-is_none.branch [
-      | then-is_none w ↦
-          let none : part_of h.tokens name ≡ None = search rules in
-          took_so stamp h (record h { mail = cnt }) (record c.if-is_none.self { mail = cnt }) from seq (msg.Inval name) (record { answer = answer.Nil; letters = l ∷ [] }) c.answer.result
-          (c.answer.ensures ∙ ap (λ (b : OutboxState). record { answer = answer.Nil; letters = b.letters }) w.outbox-is
-          ∙ ap (λ (x : List Sending). record { answer = answer.Nil; letters = x }) (sent_one h.mail w.post.new.self stamp from 1 (msg.InvAck name) c.in_ok-outbox.outbox w.post.new.outbox opened w.post.ensures.outbox))
-          (ap (λ (x : Holdings). record x { mail = cnt }) w.self-is)
-          (recall_unknown stamp h cnt from seq name c.requires.keeps none
-          (counted_after h.mail w.post.new.self cnt from l refl (subst (λ (x : Holdings). Tracks x.mail cnt (Takes from ∷ []) (λ _. Unit {0})) w.self-is c.count_taken.ensures.change)
-          (λ s. tracked_sent h.mail w.post.new.self stamp from 1 (msg.InvAck name) c.in_ok-outbox.outbox w.post.new.outbox opened w.post.ensures.change s tt)))
-      | else-is_none+in_ok-inval+in-Some-AtRelease w ↦
-          let there : IsSome (part_of h.tokens name) = search rules in
-          took_so stamp h (record h { tokens = w.inval.new.self; mail = cnt }) (record c.if-is_none.self { mail = cnt }) from seq (msg.Inval name) (record { answer = answer.Nil; letters = [] }) c.answer.result
+    elim c.match-this.branch [
+      | in-Some-AtRelease w ↦
+          took_so stamp h (record h { tokens = c.inval.new.self; mail = cnt }) (record c.match-this.self { mail = cnt }) from seq (msg.Inval name) (record { answer = answer.Nil; letters = [] }) c.answer.result
           (c.answer.ensures ∙ ap (λ (b : OutboxState). record { answer = answer.Nil; letters = b.letters }) (w.outbox-is ∙ opened))
           (ap (λ (x : Holdings). record x { mail = cnt }) w.self-is)
-          (recall_later stamp h from seq name c.requires.keeps there w.inval.new.self cnt w.has_copy-copy.result w.has_copy-copy.ensures w.in_ok-inval.ensures.part (sym w.in_ok-inval.ensures.answer ∙ w.in-Some-AtRelease.is ∙ ap Some w.in-Some-AtRelease.field-0-is)
+          (recall_later stamp h from seq name c.requires.keeps there c.inval.new.self cnt c.has_copy-copy.result c.has_copy-copy.ensures c.in_ok-inval.ensures.part (search rules)
           (subst (λ (x : Holdings). Tracks x.mail cnt (Takes from ∷ []) (λ _. Unit {0})) w.self-is c.count_taken.ensures.change))
-      | else-is_none+in_ok-inval+in-Some-Now w ↦
-          let there : IsSome (part_of h.tokens name) = search rules in
-          took_so stamp h (record h { tokens = w.inval.new.self; memory = w.clear_copy.new.self; mail = cnt }) (record c.if-is_none.self { mail = cnt }) from seq (msg.Inval name) (record { answer = answer.Nil; letters = l ∷ [] }) c.answer.result
+      | in-Some-Now w ↦
+          took_so stamp h (record h { tokens = c.inval.new.self; memory = w.clear_copy.new.self; mail = cnt }) (record c.match-this.self { mail = cnt }) from seq (msg.Inval name) (record { answer = answer.Nil; letters = l ∷ [] }) c.answer.result
           (c.answer.ensures ∙ ap (λ (b : OutboxState). record { answer = answer.Nil; letters = b.letters }) w.outbox-is
-          ∙ ap (λ (x : List Sending). record { answer = answer.Nil; letters = x }) (sent_one h.mail w.post-in-Some-Now.new.self stamp from 1 (msg.InvAck name) c.in_ok-outbox.outbox w.post-in-Some-Now.new.outbox opened w.post-in-Some-Now.ensures.outbox))
+          ∙ ap (λ (x : List Sending). record { answer = answer.Nil; letters = x }) (sent_one h.mail w.post.new.self stamp from c.letters_to_recall-most.result (msg.InvAck name) c.in_ok-outbox.outbox w.post.new.outbox opened w.post.ensures.outbox))
           (ap (λ (x : Holdings). record x { mail = cnt }) w.self-is)
-          (recall_now stamp h from seq name c.requires.keeps there w.inval.new.self w.clear_copy.new.self cnt w.has_copy-copy.result w.has_copy-copy.ensures w.in_ok-inval.ensures.part (sym w.in_ok-inval.ensures.answer ∙ w.in-Some-Now.is ∙ ap Some w.in-Some-Now.field-0-is) w.clear_copy.ensures.shown
-          (counted_after h.mail w.post-in-Some-Now.new.self cnt from l refl (subst (λ (x : Holdings). Tracks x.mail cnt (Takes from ∷ []) (λ _. Unit {0})) w.self-is c.count_taken.ensures.change)
-          (λ s. tracked_sent h.mail w.post-in-Some-Now.new.self stamp from 1 (msg.InvAck name) c.in_ok-outbox.outbox w.post-in-Some-Now.new.outbox opened w.post-in-Some-Now.ensures.change s tt)))
+          (recall_now stamp h from seq name c.requires.keeps there c.inval.new.self w.clear_copy.new.self cnt c.has_copy-copy.result c.has_copy-copy.ensures c.in_ok-inval.ensures.part (search rules) w.clear_copy.ensures.shown
+          (counted_after h.mail w.post.new.self cnt from l refl (subst (λ (x : Holdings). Tracks x.mail cnt (Takes from ∷ []) (λ _. Unit {0})) w.self-is c.count_taken.ensures.change)
+          (λ s. tracked_sent h.mail w.post.new.self stamp from c.letters_to_recall-most.result (msg.InvAck name) c.in_ok-outbox.outbox w.post.new.outbox opened w.post.ensures.change s tt)))
     ]
 
 pub returns-clause-keeps : goal.returns-clause-keeps
@@ -74,24 +64,19 @@ returns-clause-keeps c =
     let from = c.args.taking.from in
     let seq = c.args.taking.seq in
     let cnt = c.count_taken.new.self in
-    elim c.if-is_none.branch [
-      | then-is_none w ↦ subst (λ (x : Holdings). Keeps (record x { mail = cnt })) (sym w.self-is) (keeps_mail h cnt c.requires.keeps)
-      | else-is_none+in_ok-inval+in-Some-AtRelease w ↦
-          let there : IsSome (part_of h.tokens name) = search rules in
-          subst (λ (x : Holdings). Keeps (record x { mail = cnt })) (sym w.self-is)
-          (recall_keeps stamp h from seq name c.requires.keeps there w.inval.new.self cnt w.has_copy-copy.result w.in_ok-inval.ensures.part)
-      | else-is_none+in_ok-inval+in-Some-Now w ↦
-          let there : IsSome (part_of h.tokens name) = search rules in
-          subst (λ (x : Holdings). Keeps (record x { mail = cnt })) (sym w.self-is)
-          (recall_keeps_cleared stamp h from seq name c.requires.keeps there w.inval.new.self w.clear_copy.new.self cnt w.has_copy-copy.result w.in_ok-inval.ensures.part (sym w.in_ok-inval.ensures.answer ∙ w.in-Some-Now.is ∙ ap Some w.in-Some-Now.field-0-is) w.clear_copy.ensures.shown)
+    let there : IsSome (part_of h.tokens name) = search rules in
+    elim c.match-this.branch [
+      | in-Some-AtRelease w ↦ subst (λ (x : Holdings). Keeps (record x { mail = cnt })) (sym w.self-is)
+          (recall_keeps stamp h from seq name c.requires.keeps there c.inval.new.self cnt c.has_copy-copy.result c.in_ok-inval.ensures.part)
+      | in-Some-Now w ↦ subst (λ (x : Holdings). Keeps (record x { mail = cnt })) (sym w.self-is)
+          (recall_keeps_cleared stamp h from seq name c.requires.keeps there c.inval.new.self w.clear_copy.new.self cnt c.has_copy-copy.result c.in_ok-inval.ensures.part (search rules) w.clear_copy.ensures.shown)
     ]
 
 pub returns-clause-frame : goal.returns-clause-frame
 returns-clause-frame c =
     let h = c.args.self.now in
     let cnt = c.count_taken.new.self in
-    elim c.if-is_none.branch [
-      | then-is_none w ↦ subst (λ (x : Holdings). Frame h (record x { mail = cnt })) (sym w.self-is) (frame_tokens h h.tokens cnt)
-      | else-is_none+in_ok-inval+in-Some-AtRelease w ↦ subst (λ (x : Holdings). Frame h (record x { mail = cnt })) (sym w.self-is) (frame_tokens h w.inval.new.self cnt)
-      | else-is_none+in_ok-inval+in-Some-Now w ↦ subst (λ (x : Holdings). Frame h (record x { mail = cnt })) (sym w.self-is) (frame_cleared h w.inval.new.self w.clear_copy.new.self cnt c.args.name w.clear_copy.ensures.shown)
+    elim c.match-this.branch [
+      | in-Some-AtRelease w ↦ subst (λ (x : Holdings). Frame h (record x { mail = cnt })) (sym w.self-is) (frame_tokens h c.inval.new.self cnt)
+      | in-Some-Now w ↦ subst (λ (x : Holdings). Frame h (record x { mail = cnt })) (sym w.self-is) (frame_cleared h c.inval.new.self w.clear_copy.new.self cnt c.args.name w.clear_copy.ensures.shown)
     ]
