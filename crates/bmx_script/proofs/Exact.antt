@@ -16,9 +16,9 @@ use Rattle.bmx_script.specs.declared.lines.LineKind.TheVariants as line
 use Rattle.bmx_script.specs.Spelling.{verb_word, operand_words, command_words, line_words, spelling}
 use Rattle.bmx_script.specs.Grammar.{is_within, may_follow, section_of, is_built, is_built_command, is_bunch_word, same_word, named_on, named_in, in_range, fits_command, IsSpelled, HasForm, IsGood}
 use Rattle.bmx_script.specs.Inside.Distinct.{AreDistinct}
-use Rattle.bmx_script.specs.Inside.Parsing.{map_read, read_command, node_line, first_limit, declared_bunch, phase_line, setting_line, head_line, line_of, read_line}
+use Rattle.bmx_script.specs.Inside.Parsing.{is_space, map_read, read_command, node_line, first_limit, declared_bunch, phase_line, setting_line, head_line, line_of, read_line}
 use Rattle.bmx_script.proofs.ReadLemmas.{is_form, split_if, if_true, if_false, form_and, form_map, and_form, map_form, good_and, good_map, and_good, map_good, form_below, below_form, below_good, good_below, form_within, within_form, within_good, good_within}
-use Rattle.bmx_script.proofs.Words.{is_space, same_word-true}
+use Rattle.bmx_script.proofs.Words.{same_word-true}
 use Rattle.bmx_script.proofs.Plain.{are_words, plain_line}
 use Rattle.bmx_script.proofs.Operands.{both, choose_form, if_form, if_good}
 use Rattle.bmx_script.proofs.Commands.{form_command, good_command, command_form, command_good, HasCommand, IsCommand}

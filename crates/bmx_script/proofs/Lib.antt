@@ -9,7 +9,7 @@ pub mod Named
 pub mod OneReading
 pub mod Opened
 pub mod Operands
-pub mod OtherCounts
+pub mod Spaces
 pub mod Plain
 pub mod RoundTrip
 pub mod Sound

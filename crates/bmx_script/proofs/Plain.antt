@@ -14,7 +14,8 @@ use Rattle.bmx_script.specs.declared.lines.LineKind.{LineKind}
 use Rattle.bmx_script.specs.declared.lines.LineKind.TheVariants as line
 use Rattle.bmx_script.specs.Spelling.{word_of, register_word, operand_word, verb_word, operand_words, command_words, line_words, spelling}
 use Rattle.bmx_script.specs.Grammar.{is_word_byte, is_bunch_word, begins_with_letter, is_comment, is_built, named_by, named_in, named_on}
-use Rattle.bmx_script.proofs.Words.{is_space, has_no_space, split-join}
+use Rattle.bmx_script.specs.Inside.Parsing.{is_space}
+use Rattle.bmx_script.proofs.Words.{has_no_space, split-join}
 
 -- what passes one test passes another
 pub list_all_then : {X : Type 0} (p q : X → Bool) → ((x : X) → p x ≡ true → q x ≡ true) → (xs : List X) → list_all p xs ≡ true → list_all q xs ≡ true
@@ -33,10 +34,10 @@ has_no_feed w = list_all (λ c. not (c == 10)) w
 digit_plain : (c : ℕ) → is_digit c ≡ true → nat_lt 32 c ≡ true
 digit_plain c h = let range : (48 ≤ c) × (c ≤ 57) = is_digit_range c h in lt-ltb 32 c (omega arith)
 
-numeral_plain : (n : ℕ) → is_plain (numeral n) ≡ true
+pub numeral_plain : (n : ℕ) → is_plain (numeral n) ≡ true
 numeral_plain n = list_all_then is_digit (λ c. nat_lt 32 c) digit_plain (numeral n) (numeral_digits n)
 
-signed_numeral_plain : (z : ℤ) → is_plain (signed_numeral z) ≡ true
+pub signed_numeral_plain : (z : ℤ) → is_plain (signed_numeral z) ≡ true
 signed_numeral_plain (pos n) = numeral_plain n
 signed_numeral_plain (negsuc n) = and_from (nat_lt 32 45) (is_plain (numeral (n + 1))) refl (numeral_plain (n + 1))
 
@@ -61,10 +62,10 @@ both_words ws bs cs h = and_parts (are_words ws bs) (are_words ws cs) (sym (list
 named_plain : (ws : List (List ℕ)) (b : ℕ) → are_words ws (b ∷ []) ≡ true → is_plain (word_of ws b) ≡ true
 named_plain ws b h = bunch_word_plain (word_of ws b) (the_word ws b h)
 
-register_plain : (r : ℕ) → is_plain (register_word r) ≡ true
+pub register_plain : (r : ℕ) → is_plain (register_word r) ≡ true
 register_plain r = and_from (nat_lt 32 114) (is_plain (numeral r)) refl (numeral_plain r)
 
-operand_plain : (ws : List (List ℕ)) (o : Operand) → are_words ws (named_by o) ≡ true → is_plain (operand_word ws o) ≡ true
+pub operand_plain : (ws : List (List ℕ)) (o : Operand) → are_words ws (named_by o) ≡ true → is_plain (operand_word ws o) ≡ true
 operand_plain ws (operand.Register r) h = register_plain r
 operand_plain ws (operand.Anchor b) h = and_from (nat_lt 32 64) (is_plain (word_of ws b)) refl (named_plain ws b h)
 operand_plain ws (operand.Int z) h = signed_numeral_plain z
@@ -131,7 +132,7 @@ line_plain ws line.Settle built named = refl
 
 -- ## no space in a word
 
-no_space : (w : List ℕ) → is_plain w ≡ true → has_no_space w ≡ true
+pub no_space : (w : List ℕ) → is_plain w ≡ true → has_no_space w ≡ true
 no_space w h = list_all_then (λ c. nat_lt 32 c) (λ c. not (c == 32)) (λ c p. not_from_false (c == 32) (ne_eqb c 32 (λ e. absurd (omega (arith, ltb-true 32 c p, e))))) w h
 
 split_plain : (ws : List (List ℕ)) → 0 < length ws → list_all is_plain ws ≡ true → slice_split is_space (join_with_byte 32 ws) ≡ ws

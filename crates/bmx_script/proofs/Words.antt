@@ -6,17 +6,15 @@ use Rattle.std.proofs.lemmas.List.Splits.{length-slice_split}
 use Rattle.std.proofs.lemmas.Bool.{and_parts, and_from, eqb-true, ne_eqb, not-true, cases_lt}
 use Rattle.std.specs.Prelude.{IsUtf8, slice_index, ◌⊎◌}
 use Rattle.std.proofs.lemmas.Str.{IsUtf8-from_ascii}
+use Rattle.bmx_script.specs.Inside.Parsing.{is_space}
 use Rattle.bmx_script.specs.Grammar.{is_word_byte, is_bunch_word, begins_with_letter, same_word}
 use Rattle.bmx_script.proofs.ReadLemmas.{split_if}
 
 -- a word without a space
-abbrev pub is_space : ℕ → Bool
-is_space c = c == 32
-
 abbrev pub has_no_space : List ℕ → Bool
 has_no_space w = list_all (λ c. not (c == 32)) w
 
-split_last : (w : List ℕ) → has_no_space w ≡ true → slice_split is_space w ≡ w ∷ []
+pub split_last : (w : List ℕ) → has_no_space w ≡ true → slice_split is_space w ≡ w ∷ []
 split_last [] h = refl
 split_last (c ∷ w) h =
     let parts : (not (c == 32) ≡ true) × (has_no_space w ≡ true) = and_parts (not (c == 32)) (has_no_space w) h in
@@ -46,7 +44,7 @@ split_cut i (c ∷ cs) at e = split_if (c == 32) (Some i) (position_from is_spac
     let found : (m : ℕ) × (at ≡ i + 1 + m) × (m < length cs) × (slice_split is_space cs ≡ take m cs ∷ slice_split is_space (drop (suc m) cs)) = split_cut (i + 1) cs at q in
     (suc found.0, omega (arith, found.1), omega (arith, found.2), rw (h, found.3) refl))
 
-split_uncut : (i : ℕ) (bytes : List ℕ) → position_from is_space i bytes ≡ None → slice_split is_space bytes ≡ bytes ∷ []
+pub split_uncut : (i : ℕ) (bytes : List ℕ) → position_from is_space i bytes ≡ None → slice_split is_space bytes ≡ bytes ∷ []
 split_uncut i [] e = refl
 split_uncut i (c ∷ cs) e = split_if (c == 32) (Some i) (position_from is_space (i + 1) cs) None e
     (λ h q. cc)
@@ -97,63 +95,6 @@ position_none t i [] d h = refl
 position_none t i (x ∷ xs) d h =
     let first : t x ≡ false = h 0 (omega arith) in
     rw first (position_none t (i + 1) xs d (λ q below. h (suc q) (omega arith)))
-
--- words that were cut off up to a place of a text, and the word from there on, which has no space up to another
-pub record IsCut {X : Type 0} (f : X → List ℕ) (words : List X) (text : List ℕ) (from at : ℕ) : Type 0 where
-  pub is : map f words ++ slice_split is_space (drop from text) ≡ slice_split is_space text
-  pub low : from ≤ at
-  pub plain : (q : ℕ) → from ≤ q → q < at → is_space (get_or text q 0) ≡ false
-
-pub cut_none : {X : Type 0} (f : X → List ℕ) (text : List ℕ) → IsCut f [] text 0 0
-cut_none f text = record { is = refl; low = omega arith; plain = λ q h below. absurd (omega arith) }
-
--- one more byte of the word
-pub cut_byte : {X : Type 0} (f : X → List ℕ) (words : List X) (text : List ℕ) (from at : ℕ) → IsCut f words text from at → get_or text at 0 ≢ 32 → IsCut f words text from (at + 1)
-cut_byte f words text from at cut other = record {
-  is = cut.is;
-  low = omega (arith, cut.low);
-  plain = λ q h below. ⊎_elim (λ before. cut.plain q h before) (λ (here : q ≡ at). rw here (ne_eqb (get_or text at 0) 32 other)) (cases_below q at below);
-}
-  where
-    cases_below : (q at : ℕ) → q < at + 1 → (q < at) ⊎ (q ≡ at)
-    cases_below q at h = ⊎_elim (λ (b : q < at). inl b) (λ (a : at ≤ q). inr (omega arith)) (cases_lt q at)
-
--- where the word ends
-found_space : {X : Type 0} (f : X → List ℕ) (words : List X) (text : List ℕ) (from at : ℕ) → IsCut f words text from at → at < length text → get_or text at 0 ≡ 32 → position_from is_space 0 (drop from text) ≡ Some (at - from)
-found_space f words text from at cut below here =
-    let place : from + (at - from) ≡ at = omega (arith, cut.low) in
-    position_at is_space 0 (drop from text) (at - from) 0 (omega (arith, length-drop from text, cut.low))
-    (rw (get_or-drop from text (at - from) 0, place, here) refl)
-    (λ q h. rw (get_or-drop from text q 0) (cut.plain (from + q) (omega arith) (omega (arith, cut.low))))
-    ∙ ap (λ n. Some n) (omega arith)
-
--- a word more
-pub cut_word : {X : Type 0} (f : X → List ℕ) (words more : List X) (w : X) (text : List ℕ) (from at : ℕ) → IsCut f words text from at → at < length text → get_or text at 0 ≡ 32
-    → more ≡ words ++ w ∷ [] → f w ≡ take (at - from) (drop from text) → IsCut f more text (at + 1) (at + 1)
-cut_word f words more w text from at cut below here pushed word =
-    let behind : drop (at - from + 1) (drop from text) ≡ drop (at + 1) text = drop-drop (at - from + 1) from text ∙ ap (λ n. drop n text) (omega (arith, cut.low)) in
-    let rest_is : slice_split is_space (drop from text) ≡ f w ∷ slice_split is_space (drop (at + 1) text) =
-    split_at (drop from text) (at - from) (found_space f words text from at cut below here)
-    ∙ ap (λ x. x ∷ slice_split is_space (drop (at - from + 1) (drop from text))) (sym word) ∙ ap (λ x. f w ∷ slice_split is_space x) behind in
-    record {
-      is = ap (λ x. map f x ++ slice_split is_space (drop (at + 1) text)) pushed ∙ ap (λ x. x ++ slice_split is_space (drop (at + 1) text)) (map-append f words (w ∷ []))
-          ∙ append_assoc (map f words) (f w ∷ []) (slice_split is_space (drop (at + 1) text)) ∙ ap (λ x. map f words ++ x) (sym rest_is) ∙ cut.is;
-      low = omega arith;
-      plain = λ q h below. absurd (omega arith);
-    }
-
--- the last word
-pub cut_all : {X : Type 0} (f : X → List ℕ) (words more : List X) (w : X) (text : List ℕ) (from : ℕ) → IsCut f words text from (length text) → more ≡ words ++ w ∷ [] → f w ≡ drop from text → map f more ≡ slice_split is_space text
-cut_all f words more w text from cut pushed word =
-    let none : position_from is_space 0 (drop from text) ≡ None =
-    position_none is_space 0 (drop from text) 0 (λ q h. rw (get_or-drop from text q 0) (cut.plain (from + q) (omega arith) (omega (arith, length-drop from text)))) in
-    ap (map f) pushed ∙ map-append f words (w ∷ []) ∙ ap (λ x. map f words ++ x ∷ []) word ∙ ap (λ x. map f words ++ x) (sym (split_uncut 0 (drop from text) none)) ∙ cut.is
-
--- there are more words than were cut off
-pub cut_more : {X : Type 0} (f : X → List ℕ) (words : List X) (text : List ℕ) (from at : ℕ) → IsCut f words text from at → length words < length (slice_split is_space text)
-cut_more f words text from at cut =
-    let all : length (slice_split is_space text) ≡ length (map f words) + length (slice_split is_space (drop from text)) = ap length (sym cut.is) ∙ length-append (map f words) (slice_split is_space (drop from text)) in
-    omega (arith, all, length-map words f, length-slice_split is_space (drop from text))
 
 pub position_below : (t : List ℕ → Bool) (words : List (List ℕ)) (j : ℕ) → position_from t 0 words ≡ Some j → j < length words
 position_below t words j e =

@@ -124,8 +124,25 @@ fn section_of(what: &LineKind) -> Section
 }
 
 /// Whether a word is that text.
+#[inline(always)]
 pub(crate) fn is_word(word: &[u8], text: &str) -> bool
     ensures { result ≡ same_word word.now text.now }
 {
-    word == text.as_bytes()
+    match (word, text.as_bytes()) {
+        ([first, word @ ..], [letter, text @ ..]) => *first == *letter && are_same(word, text),
+        (word, text) => word.len() == text.len(),
+    }
+}
+
+/// Whether two words are the same. Those of two to four bytes take no call.
+#[inline(always)]
+fn are_same(word: &[u8], text: &[u8]) -> bool
+    ensures { result ≡ same_word word.now text.now }
+{
+    match (word, text) {
+        ([a, b], [y, z]) => *a == *y && *b == *z,
+        ([a, b, c], [x, y, z]) => *a == *x && *b == *y && *c == *z,
+        ([a, b, c, d], [w, x, y, z]) => *a == *w && *b == *x && *c == *y && *d == *z,
+        (word, text) => word == text,
+    }
 }

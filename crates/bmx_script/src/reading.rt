@@ -1,24 +1,17 @@
 //! A line's words, and what they say. It sees one line, and what is known before it.
-ghost use Rattle.std.specs.Prelude.{◌≡◌, ◌==◌, ◌≤◌, ◌<◌, length, map, true, IfOk, IfSome, IfNone};
-ghost use Rattle.std.specs.List.{list_all, slice_split};
+ghost use Rattle.std.specs.Prelude.{◌≡◌, ◌≤◌, ◌<◌, [], ◌∷◌, length, true, IfOk, IfSome, IfNone};
+ghost use Rattle.std.specs.List.{list_all, position_from, slice_split};
 ghost use Rattle.bmx_numerals.specs.Words.{read_below};
 ghost use Rattle.bmx_script.specs.Grammar.{is_bunch_word as is_bunch_word_lem, is_word_byte as is_word_byte_lem, begins_with_letter as begins_with_letter_lem};
 ghost use Rattle.bmx_script.specs.Inside.Reader.{HasRoom};
-ghost use Rattle.bmx_script.specs.Inside.Parsing.{read_register, read_bunch, read_source, read_value, begins_as_source as begins_as_source_lem, read_place, of_one, of_two, of_three, line_of, placed_line, head_line as head_line_lem, setting_line as setting_line_lem, phase_line as phase_line_lem, read_version, read_nodes, read_segments, declared_bunch, read_line as read_line_lem};
+ghost use Rattle.bmx_script.specs.Inside.Parsing.{is_space, read_register, read_bunch, read_source, read_value, begins_as_source as begins_as_source_lem, read_place, of_one, of_two, of_three, read_command, placed_line, head_line as head_line_lem, setting_line as setting_line_lem, phase_line as phase_line_lem, read_version, read_nodes, read_segments, declared_bunch, read_line as read_line_lem};
 
 use crate::knowledge::{Knowledge, Section, is_word};
 use crate::lines::LineKind;
-use arrayvec::ArrayVec;
 use bmx_numerals::{Misfit, both, integer, number_below, number_within};
 use bmx_types::{BunchNo, Command, NoMemory, NodeNo, Operand, Text};
 use std::alloc::Global;
 use std::str;
-
-/// How many words a line has at most.
-const MOST_WORDS: usize = 5;
-
-/// The words of a line.
-type Words<'a> = ArrayVec<&'a [u8], MOST_WORDS>;
 
 /// What a line says by its words, on what is known before it. Linear in the line's length.
 #[inline(always)]
@@ -30,56 +23,83 @@ pub(crate) fn read_line(
     requires { HasRoom known.now }
     ensures { IfOk result (λ line. line ≡ read_line_lem known.now text.now) }
 {
-    match words_of(text) {
-        Some(words) => line(alloc, known, words.as_slice()),
-        None => Ok(Err(Misfit::Form)),
-    }
-}
-
-/// What a line says by its words.
-#[inline(always)]
-fn line(
-    alloc: Global,
-    known: &Knowledge,
-    words: &[&[u8]],
-) -> Result<Result<LineKind, Misfit>, NoMemory>
-    requires { HasRoom known.now }
-    ensures { IfOk result (λ line. line ≡ line_of known.now (map (λ w. w.now) words.now)) }
-{
-    let (node, command) = match words {
-        [node, verb, a] => (node, command_of_one(known, verb, a)),
-        [node, verb, a, b] => (node, command_of_two(known, verb, a, b)),
-        [node, verb, a, b, c] => (node, command_of_three(known, verb, (a, b, c))),
-        [key, word] => return head_line(alloc, known, key, word),
-        [] => return Ok(Err(Misfit::Form)),
-        [word] => return Ok(phase_line(known, word)),
-        [_, _, _, _, _, _, ..] => return Ok(Err(Misfit::Form)),
+    let Some((first, rest)) = first_word(text) else {
+        return Ok(phase_line(known, text));
     };
-    Ok(node_line(known, node, command))
+    let Some((second, rest)) = first_verb(rest) else {
+        return head_line(alloc, known, first, rest);
+    };
+    Ok(node_line(known, first, command(known, second, rest)))
 }
 
-/// The words of a line, which lie between its spaces; None where they are more than a line has.
+/// The first word of a text and what is behind its space; None where the text has no space.
 #[inline(always)]
-fn words_of(text: &[u8]) -> Option<Words<'_>>
-    ensures some { IfSome result (λ words. map (λ w. w.now) words.items ≡ slice_split (λ c. c == 32) text.now) }
-    ensures none { IfNone result (5 < length (slice_split (λ c. c == 32) text.now)) }
+fn first_word(text: &[u8]) -> Option<(&[u8], &[u8])>
+    ensures some { IfSome result (λ parts. slice_split is_space text.now ≡ parts.0.now ∷ slice_split is_space parts.1.now) }
+    ensures none { IfNone result (slice_split is_space text.now ≡ text.now ∷ []) }
 {
-    let mut words = ArrayVec::new();
-    let mut from = 0;
-    for (at, byte) in text.iter().enumerate() {
-        if *byte == b' ' {
-            if words.is_full() {
-                return None;
-            }
-            words.push(&text[from..at]);
-            from = at + 1;
-        }
+    match space_in(text) {
+        Some(at) => Some((&text[..at], &text[at + 1..])),
+        None => None,
     }
-    if words.is_full() {
-        return None;
+}
+
+/// Where the first space stands. Most words are short.
+#[inline(always)]
+fn space_in(text: &[u8]) -> Option<usize>
+    ensures found { result ≡ position_from is_space 0 text.now }
+    ensures within { IfSome result (λ at. at < length text.now) }
+{
+    match text {
+        [b' ', ..] => Some(0),
+        [_, b' ', ..] => Some(1),
+        [_, _, b' ', ..] => Some(2),
+        [_, _, _, b' ', ..] => Some(3),
+        [_] | [_, _] => None,
+        _ => any_space_in(text),
     }
-    words.push(&text[from..]);
-    Some(words)
+}
+
+/// The same, wherever it stands.
+#[inline(never)]
+fn any_space_in(text: &[u8]) -> Option<usize>
+    ensures found { result ≡ position_from is_space 0 text.now }
+    ensures within { IfSome result (λ at. at < length text.now) }
+{
+    text.iter().position(|byte| *byte == b' ')
+}
+
+/// The first word of a text, which may well be a verb, and what is behind its space.
+#[inline(always)]
+fn first_verb(text: &[u8]) -> Option<(&[u8], &[u8])>
+    ensures some { IfSome result (λ parts. slice_split is_space text.now ≡ parts.0.now ∷ slice_split is_space parts.1.now) }
+    ensures none { IfNone result (slice_split is_space text.now ≡ text.now ∷ []) }
+{
+    match text {
+        [b'c', b'o', b'p', b'y', b' ', rest @ ..] => Some((b"copy", rest)),
+        [b'd', b'o', b'n', b'e', b' ', rest @ ..] => Some((b"done", rest)),
+        [b'd', b'r', b'o', b'p', b' ', rest @ ..] => Some((b"drop", rest)),
+        [b'r', b'e', b'a', b'd', b' ', rest @ ..] => Some((b"read", rest)),
+        [b's', b'a', b'm', b'e', b' ', rest @ ..] => Some((b"same", rest)),
+        [b's', b'h', b'o', b'w', b' ', rest @ ..] => Some((b"show", rest)),
+        [b'w', b'r', b'i', b't', b'e', b' ', rest @ ..] => Some((b"write", rest)),
+        _ => first_word(text),
+    }
+}
+
+/// A command, by its verb and the text of what it does that to.
+#[inline(always)]
+fn command(known: &Knowledge, verb: &[u8], text: &[u8]) -> Result<Command, Misfit>
+    requires { HasRoom known.now }
+    ensures { result ≡ read_command known.now verb.now (slice_split is_space text.now) }
+{
+    let Some((a, rest)) = first_word(text) else {
+        return command_of_one(known, verb, text);
+    };
+    match first_word(rest) {
+        None => command_of_two(known, verb, a, rest),
+        Some((b, c)) => command_of_three(known, verb, (a, b, c)),
+    }
 }
 
 /// A line of one word: `phase` or `quiet`, in its place.

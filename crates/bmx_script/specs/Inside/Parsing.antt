@@ -26,6 +26,10 @@ number_of section.Plan = 4
 number_of section.Body = 5
 number_of section.End = 6
 
+-- what stands between two words
+abbrev pub is_space : ℕ → Bool
+is_space c = c == space
+
 -- the same reading of another value
 abbrev pub map_read : {A B : Type 0} → (A → B) → Result A Misfit → Result B Misfit
 map_read f (Err why) = Err why
@@ -157,4 +161,4 @@ line_of k (a ∷ b ∷ c ∷ words) = if may_follow k.section 5 then node_line k
 
 -- a line: its words are what lies between its spaces
 abbrev pub read_line : Knowledge → List ℕ → Result LineKind Misfit
-read_line k text = line_of k (slice_split (λ c. c == space) text)
+read_line k text = line_of k (slice_split is_space text)
