@@ -51,11 +51,12 @@ fn space_in(text: &[u8]) -> Option<usize>
     ensures within { IfSome result (λ at. at < length text.now) }
 {
     match text {
-        [b' ', ..] => Some(0),
-        [_, b' ', ..] => Some(1),
-        [_, _, b' ', ..] => Some(2),
+        [b' ', _, _, _, ..] => Some(0),
+        [_, b' ', _, _, ..] => Some(1),
+        [_, _, b' ', _, ..] => Some(2),
         [_, _, _, b' ', ..] => Some(3),
-        [_] | [_, _] => None,
+        [a, b] if *a != b' ' && *b != b' ' => None,
+        [a, b' ', _] if *a != b' ' => Some(1),
         _ => any_space_in(text),
     }
 }
