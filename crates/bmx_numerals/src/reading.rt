@@ -1,5 +1,5 @@
 //! Reading numbers from words.
-ghost use Rattle.std.specs.Prelude.{◌≡◌, ℕ, ◌+◌, ◌*◌, ◌^◌, ◌<◌, true, IsTrue, SomeIff};
+ghost use Rattle.std.specs.Prelude.{◌≡◌, ℕ, ◌+◌, ◌*◌, ◌^◌, ◌<◌, true, length, slice_index_or, IsTrue, SomeIff};
 ghost use Rattle.std.specs.Char.{digit_value};
 ghost use Rattle.bmx_types.specs.Integers.{is_i64};
 ghost use Rattle.bmx_numerals.specs.Numerals.{is_digit, is_numeral, negative_of};
@@ -28,6 +28,26 @@ fn with_digit(number: u64, byte: u8) -> Option<u64>
     number.checked_mul(10)?.checked_add(u64::from(byte - b'0'))
 }
 
+// The same of a number that has room.
+#[inline(always)]
+fn longer(number: u64, byte: u8) -> u64
+    requires digit { IsTrue (is_digit byte) }
+    requires room { number < 2 ^ 32 }
+    ensures { result ≡ number * 10 + digit_value byte }
+{
+    number * 10 + u64::from(byte - b'0')
+}
+
+// The value of a word's first digit.
+#[inline(always)]
+fn first_digit(word: &[u8]) -> u64
+    requires some { 0 < length word.now }
+    requires digit { IsTrue (is_digit (slice_index_or word.now 0 0)) }
+    ensures { result ≡ digit_value (slice_index_or word.now 0 0) }
+{
+    u64::from(word[0] - b'0')
+}
+
 /// What a word comes to as a number of 64 bits. Linear in the word's length.
 #[inline(always)]
 pub fn number(word: &[u8]) -> Result<u64, Misfit>
@@ -35,6 +55,12 @@ pub fn number(word: &[u8]) -> Result<u64, Misfit>
 {
     match word {
         [digit] if digit.is_ascii_digit() => Ok(u64::from(*digit - b'0')),
+        [b'1'..=b'9', a] if a.is_ascii_digit() => Ok(longer(first_digit(word), *a)),
+        [b'1'..=b'9', a, b] if a.is_ascii_digit() && b.is_ascii_digit() => {
+            Ok(longer(longer(first_digit(word), *a), *b))
+        }
+        [b'1'..=b'9', a, b, c] if a.is_ascii_digit() && b.is_ascii_digit() && c.is_ascii_digit() =>
+            { Ok(longer(longer(longer(first_digit(word), *a), *b), *c)) }
         _ if spells_a_number(word) => value_of(word),
         _ => Err(Misfit::Form),
     }

@@ -8,8 +8,8 @@ use Rattle.bmx_script.specs.declared.lines.LineKind.{LineKind}
 use Rattle.bmx_script.specs.declared.lines.Bad.{Bad}
 use Rattle.bmx_script.specs.declared.lines.BadCause.{BadCause}
 use Rattle.bmx_script.specs.declared.lines.BadCause.TheVariants as cause
-use Rattle.bmx_script.specs.declared.verdicts.Verdict.{Verdict}
-use Rattle.bmx_script.specs.declared.verdicts.Verdict.TheVariants as verdict
+use Rattle.bmx_script.specs.Inside.Verdicts.{Verdict}
+use Rattle.bmx_script.specs.Inside.Verdicts as verdict
 use Rattle.bmx_script.specs.Grammar.{nothing_known, known_after, is_long, is_skipped, lines_of, HasForm, IsGood, IsBad, is_far, has_no_form, is_out_of_range, Reads}
 use Rattle.bmx_script.specs.Inside.Distinct.{AreDistinct}
 use Rattle.bmx_script.specs.Laws.{ReadingIsDetermined}

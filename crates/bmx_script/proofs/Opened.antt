@@ -6,8 +6,8 @@ use Rattle.bmx_script.specs.declared.lines.LineKind.{LineKind}
 use Rattle.bmx_script.specs.declared.lines.Bad.{Bad}
 use Rattle.bmx_script.specs.declared.lines.BadCause.{BadCause}
 use Rattle.bmx_script.specs.declared.lines.BadCause.TheVariants as cause
-use Rattle.bmx_script.specs.declared.verdicts.Verdict.{Verdict}
-use Rattle.bmx_script.specs.declared.verdicts.Verdict.TheVariants as verdict
+use Rattle.bmx_script.specs.Inside.Verdicts.{Verdict}
+use Rattle.bmx_script.specs.Inside.Verdicts as verdict
 use Rattle.bmx_script.specs.Grammar.{known_after, Reads, ends, ends_early, skips, takes, stops}
 use Rattle.bmx_script.specs.Inside.Reader.{IsVerdict}
 

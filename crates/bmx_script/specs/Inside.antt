@@ -2,3 +2,4 @@
 pub mod Distinct
 pub mod Parsing
 pub mod Reader
+pub mod Verdicts

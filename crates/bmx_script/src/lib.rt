@@ -10,7 +10,6 @@ mod scripts;
 mod spelling;
 #[cfg(test)]
 mod tests;
-mod verdicts;
 
 pub use knowledge::Knowledge;
 pub use laws::{prefix_is_enough, reading_is_determined};

@@ -3,12 +3,11 @@ ghost use Rattle.std.specs.Prelude.{◌≡◌, ◌==◌, ◌≢◌, ◌+◌, ◌
 ghost use Rattle.std.specs.List.{position_from};
 ghost use Rattle.bmx_script.specs.Grammar.{AreScript, nodes_of, bunches_of, limit_of, lines_of, is_comment as is_comment_lem, is_long as is_long_lem, is_skipped as is_skipped_lem};
 ghost use Rattle.bmx_script.specs.Reading.{IsAnswer, ForBad};
-ghost use Rattle.bmx_script.specs.Inside.Reader.{IsVerdict, ReadsOn, IsSound, end_of, noted, verdict_of as verdict_of_lem};
+ghost use Rattle.bmx_script.specs.Inside.Reader.{ReadsOn, IsSound, end_of, noted, cause_of as cause_of_lem};
 
 use crate::knowledge::{Knowledge, Section};
 use crate::lines::{Bad, BadCause, BunchWords, Line, LineKind, Lines};
 use crate::reading::read_line;
-use crate::verdicts::Verdict;
 use bmx_numerals::Misfit;
 use bmx_types::{Items, NoMemory};
 use memchr::memchr;
@@ -147,12 +146,13 @@ impl Reader {
         ensures sound { OnOk result (IsSound self.new) }
         ensures bad { IfErr result (ForBad (λ why. (texts : _) → ReadsOn self.old (text.now ∷ texts) (Err why))) }
     {
-        match self.judge(alloc, text)? {
-            Verdict::Skipped => {}
-            Verdict::Is(what) => self.note(alloc, what)?,
-            Verdict::Wrong(cause) => {
-                let line = self.number;
-                return Err(ScriptError::Bad(Bad { line, cause }));
+        if self.is_long(text) {
+            return Err(self.bad(BadCause::Long));
+        }
+        if !self.is_skipped(text) {
+            match read_line(alloc, &self.known, text)? {
+                Ok(what) => self.note(alloc, what)?,
+                Err(why) => return Err(self.bad(cause_of(why))),
             }
         }
         self.number += 1;
@@ -170,20 +170,12 @@ impl Reader {
         self.lines.push(Line { number, what })
     }
 
-    /// What a line comes to here.
-    #[inline(always)]
-    fn judge(&self, alloc: Global, text: &[u8]) -> Result<Verdict, NoMemory>
-        requires { IsSound self.now }
-        ensures { IfOk result (λ v. IsVerdict self.now.known self.now.number (end_of self.now text.now) text.now v) }
+    /// Why the script is refused, where the next line is bad.
+    fn bad(&self, cause: BadCause) -> ScriptError
+        ensures { result ≡ ScriptError.Bad (record { line = self.now.number; cause = cause }) }
     {
-        if self.is_long(text) {
-            return Ok(Verdict::Wrong(BadCause::Long));
-        }
-        if self.is_skipped(text) {
-            return Ok(Verdict::Skipped);
-        }
-        let line = read_line(alloc, &self.known, text)?;
-        Ok(verdict_of(line))
+        let line = self.number;
+        ScriptError::Bad(Bad { line, cause })
     }
 
     /// Whether a line here is too far behind in the script.
@@ -211,10 +203,7 @@ impl Reader {
         ensures memory { result ≢ Err ScriptError.NoMemory }
     {
         if self.known.section < Section::Bunches as u8 {
-            return Err(ScriptError::Bad(Bad {
-                line: self.number,
-                cause: BadCause::End,
-            }));
+            return Err(self.bad(BadCause::End));
         }
         Ok(Script {
             lines: self.lines,
@@ -231,14 +220,12 @@ fn is_comment(text: &[u8]) -> bool
     matches!(text, [] | [b'#', ..])
 }
 
-/// What a line comes to that is neither too far behind nor skipped.
-#[inline(always)]
-fn verdict_of(line: Result<LineKind, Misfit>) -> Verdict
-    ensures { result ≡ verdict_of_lem line }
+/// What is wrong with a line of which no word is read, or one outside its range.
+fn cause_of(why: Misfit) -> BadCause
+    ensures { result ≡ cause_of_lem why }
 {
-    match line {
-        Err(Misfit::Form) => Verdict::Wrong(BadCause::Form),
-        Err(Misfit::Range) => Verdict::Wrong(BadCause::Range),
-        Ok(what) => Verdict::Is(what),
+    match why {
+        Misfit::Form => BadCause::Form,
+        Misfit::Range => BadCause::Range,
     }
 }

@@ -4,8 +4,9 @@ use Rattle.bmx_numerals.specs.declared.words.Misfit.{Misfit}
 use Rattle.bmx_numerals.specs.declared.words.Misfit.TheVariants.{Form, Range}
 use Rattle.bmx_script.specs.declared.lines.LineKind.{LineKind}
 use Rattle.bmx_script.specs.declared.lines.BadCause.TheVariants as cause
-use Rattle.bmx_script.specs.declared.verdicts.Verdict.{Verdict}
-use Rattle.bmx_script.specs.declared.verdicts.Verdict.TheVariants as verdict
+use Rattle.bmx_script.specs.declared.lines.BadCause.{BadCause}
+use Rattle.bmx_script.specs.Inside.Verdicts.{Verdict}
+use Rattle.bmx_script.specs.Inside.Verdicts as verdict
 use Rattle.bmx_script.specs.declared.knowledge.Knowledge.{Knowledge}
 use Rattle.bmx_script.specs.declared.lines.Line.{Line}
 use Rattle.bmx_script.specs.declared.lines.Bad.{Bad}
@@ -42,10 +43,14 @@ noted r what = record {
   start = r.start;
 }
 
+-- what is wrong with a line of which no word is read, or one outside its range
+abbrev pub cause_of : Misfit → BadCause
+cause_of Form = cause.Form
+cause_of Range = cause.Range
+
 -- what a line comes to that is neither too far behind nor skipped
 abbrev pub verdict_of : Result LineKind Misfit → Verdict
-verdict_of (Err Form) = verdict.Wrong cause.Form
-verdict_of (Err Range) = verdict.Wrong cause.Range
+verdict_of (Err why) = verdict.Wrong (cause_of why)
 verdict_of (Ok what) = verdict.Is what
 
 -- how many bytes lines print from a line number on to another, by what is known before each
