@@ -1,5 +1,5 @@
 -- The laws, over every legal history.
-use Rattle.std.proofs.Common.{◌≡◌, ◌≢◌, ◌⊎◌, inl, inr, ℕ, ◌<◌, arith, refl, ap, sym, subst, ◌∙◌, false, cond, List, [], ◌∷◌, ◌++◌, length, drop, zero, suc}
+use Rattle.std.proofs.Common.{◌≡◌, ◌≢◌, ℕ, ◌<◌, arith, refl, ap, sym, subst, ◌∙◌, false, cond, List, [], ◌∷◌, ◌++◌, length, drop, zero, suc}
 use Rattle.std.specs.Prelude.{◌||◌, Option, Some, None, IsSome, Contains}
 use Rattle.std.specs.Option.{option_map}
 use Rattle.std.proofs.lemmas.List.{append-nil}
@@ -8,7 +8,6 @@ use Rattle.bmx_types.specs.declared.addresses.Place.{Place}
 use Rattle.bmx_types.specs.declared.addresses.Info.{Info}
 use Rattle.bmx_types.specs.Updates.{put}
 use Rattle.bmx_msg.specs.declared.letters.Letter.{Letter}
-use Rattle.bmx_token_model.proofs.Readers.{one_or_more}
 use Rattle.bmx_protocol.specs.declared.inputs.NodeAnswer.TheVariants as answer
 use Rattle.bmx_protocol.specs.declared.inputs.Input.TheVariants as input
 use Rattle.bmx_protocol.specs.declared.inputs.Done.{Done}
@@ -57,11 +56,8 @@ kept_after st history nodes opening legal after = all_kept st opening history []
 
 every_there : {A : Type 0} (P : A → Type 0) (xs : List A) (x : A) → Every P xs → Contains xs x → P x
 every_there P [] x h c = absurd (omega (arith, c.1))
-every_there P (y ∷ xs) x h c = by_place (one_or_more y xs x c) (every_there P xs x h.1)
-  where
-    by_place : (y ≡ x) ⊎ Contains xs x → (Contains xs x → P x) → P x
-    by_place (inl e) rest = subst P e h.0
-    by_place (inr d) rest = rest d
+every_there P (y ∷ xs) x h (zero, below, is) = subst P is h.0
+every_there P (y ∷ xs) x h (suc k, below, is) = every_there P xs x h.1 (k, omega arith, is)
 
 every_drop : {A : Type 0} (P : A → Type 0) (k : ℕ) (xs : List A) → Every P xs → Every P (drop k xs)
 every_drop P zero [] h = tt

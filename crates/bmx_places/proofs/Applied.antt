@@ -66,6 +66,7 @@ fail = record {
   ledger = no_ledger;
   shapes = λ s. (let same : (0 ≡ 0) × (32 ≡ 31) = s.shapes 1 0 32 0 31 (KnownAt 0 the_known refl refl refl) (ToldIn 0 1 mistold_grant mistold_anchor there (0, omega arith, refl) refl refl refl) in absurd (omega (arith, same.1)));
   places = λ p. (let same : the_anchor.place.address ≡ mistold_anchor.place.address = p.one 1 the_anchor.place mistold_anchor.place (At 0 entry) (Between 0 1 mistold_grant mistold_anchor there (0, omega arith, refl) refl refl) refl in absurd (omega (arith, same)));
+  unplaced = λ p. (let both : false ≡ true = p.placed 1 2 _ refl in cc);
   clash = λ e. (let both : true ≡ false = e in cc);
   next = (
     done_of 4 (mistold.nodes 1).state (rule (one_bunch 2) 1 (mistold.nodes 1).state (told_at (one_bunch 2) 1 (mistold.nodes 1) (input.Take 0 mistold_grant)) (input.Take 0 mistold_grant)),

@@ -157,13 +157,23 @@ at_apart f x y v h = λ i. cond (h i) v (f y)
 pub at_same : {A : Type 0} (f : ℕ → A) (x y : ℕ) (v : A) → x ≡ y → put f x v y ≡ v
 at_same f x y v e = λ i. cond (eqb_of e i) v (f y)
 
+-- what holds of a number, and of each apart from it, holds of each
+at_each_number : (P : ℕ → Type 0) (x : ℕ) → P x → ((y : ℕ) → (x == y) ≡ false → P y) → (y : ℕ) → P y
+at_each_number P x here else y = by_two (two x y)
+  where
+    by_two : Two x y → P y
+    by_two (Same q) = subst P q here
+    by_two (Apart h d) = else y h
+
+-- what holds where a function changed, and of it elsewhere, holds after the change
+pub put_each : {A : Type 0} (P : ℕ → A → Type 0) (f : ℕ → A) (x : ℕ) (v : A) → P x v → ((y : ℕ) → (x == y) ≡ false → P y (f y)) → (y : ℕ) → P y (put f x v y)
+put_each P f x v here else = at_each_number (λ y. P y (put f x v y)) x (subst (P x) (sym (at_same f x x v refl)) here)
+    (λ y h. subst (P y) (sym (at_apart f x y v h)) (else y h))
+
 module _ (blocks : ℕ → Option Block) where
   put_head : (header : ℕ → Option Header) (at : ℕ) (new : Header) → AllHead blocks header → Heads blocks at new → AllHead blocks (put header at (Some new))
-  put_head header at new all here address h e = by_two (two at address)
-    where
-      by_two : Two at address → Heads blocks address h
-      by_two (Same s) = subst (λ (z : ℕ). Heads blocks z h) s (subst (Heads blocks at) (some_same (sym (at_same header at address (Some new) s) ∙ e)) here)
-      by_two (Apart f d) = all address h (sym (at_apart header at address (Some new) f) ∙ e)
+  put_head header at new all here = put_each (λ a o. (h : Header) → o ≡ Some h → Heads blocks a h) header at (Some new)
+      (λ h e. subst (Heads blocks at) (some_same e) here) (λ a _. all a)
 
   -- an old header that leads on
   went_some : (a : Places) (old new : ℕ) (g : Header) → a.header old ≡ Some g → (with_went a old new).header old ≡ Some (record g { standing = Went new })
@@ -194,42 +204,39 @@ module _ (blocks : ℕ → Option Block) where
       ((y : ℕ) → (name == y) ≡ false → after y ≡ known y) → ((fields : List ViewField) → k.copy ≡ Some fields → length fields ≡ k.size) →
       blocks place.address ≡ Some (block_at name k place) → Keeps blocks known a → Keeps blocks after (with_object a name k.size place)
   object_keeps known after a name k place is others full there keeps = record {
-    entries = λ x j e. lies x j e (two name x);
-    unplaced = λ x e. nothing x e (two name x);
+    entries = at_each_number (λ x. (j : Known) → after x ≡ Some j → LiesIn blocks (put a.place name (Some place) x) x j) name
+        (λ j e. record {
+          place = place;
+          lies = at_same a.place name name (Some place) refl;
+          block = there ∙ ap (λ (i : Known). Some (block_at name i place)) (some_same (sym is ∙ e));
+        })
+        (λ x f j e. (let old : LiesIn blocks (a.place x) x j = keeps.entries x j (sym (others x f) ∙ e) in
+        record { place = old.place; lies = at_apart a.place name x (Some place) f ∙ old.lies; block = old.block }));
+    unplaced = at_each_number (λ x. after x ≡ None → put a.place name (Some place) x ≡ None) name (λ e. none_some (sym e ∙ is))
+        (λ x f e. at_apart a.place name x (Some place) f ∙ keeps.unplaced x (sym (others x f) ∙ e));
     headers = put_head a.header place.address (record { name = name; size = k.size; standing = Lives place.moves }) keeps.headers
         (record { block = block_at name k place; there = there; named = refl; sized = refl });
-    full = λ x j fields e c. filled x j fields e c (two name x);
+    full = at_each_number (λ x. (j : Known) (fields : List ViewField) → after x ≡ Some j → j.copy ≡ Some fields → length fields ≡ j.size) name
+        (λ j fields e c. (let same : k ≡ j = some_same (sym is ∙ e) in full fields (ap (λ (i : Known). i.copy) same ∙ c) ∙ ap (λ (i : Known). i.size) same))
+        (λ x f j fields e c. keeps.full x j fields (sym (others x f) ∙ e) c);
   }
-    where
-      lies : (x : ℕ) (j : Known) → after x ≡ Some j → Two name x → LiesIn blocks (put a.place name (Some place) x) x j
-      lies x j e (Same s) =
-          let same : k ≡ j = some_same (sym is ∙ ap after s ∙ e) in
-          record { place = place; lies = at_same a.place name x (Some place) s; block = there ∙ (λ i. Some (block_at (s i) (same i) place)) }
-      lies x j e (Apart f d) =
-          let old : LiesIn blocks (a.place x) x j = keeps.entries x j (sym (others x f) ∙ e) in
-          record { place = old.place; lies = at_apart a.place name x (Some place) f ∙ old.lies; block = old.block }
 
-      nothing : (x : ℕ) → after x ≡ None → Two name x → put a.place name (Some place) x ≡ None
-      nothing x e (Same s) = none_some (sym e ∙ ap after (sym s) ∙ is)
-      nothing x e (Apart f d) = at_apart a.place name x (Some place) f ∙ keeps.unplaced x (sym (others x f) ∙ e)
-
-      filled : (x : ℕ) (j : Known) (fields : List ViewField) → after x ≡ Some j → j.copy ≡ Some fields → Two name x → length fields ≡ j.size
-      filled x j fields e c (Same s) =
-          let same : k ≡ j = some_same (sym is ∙ ap after s ∙ e) in
-          full fields (ap (λ (i : Known). i.copy) same ∙ c) ∙ ap (λ (i : Known). i.size) same
-      filled x j fields e c (Apart f d) = keeps.full x j fields (sym (others x f) ∙ e) c
-
--- learning hands nothing out
-pub learnt_handed : (a : Places) (info : Info) → (with_learnt a info).handed ≡ a.handed
-learnt_handed a info = by_place (a.place info.name)
+-- learning leaves places as they were, or lays the object at its place, with other headers
+pub learnt_either : (P : Places → Type 0) (a : Places) (info : Info) → P a →
+    ((header : ℕ → Option Header) → P (with_object (record a { header = header }) info.name info.size info.place)) → P (with_learnt a info)
+learnt_either P a info stays lies = by_place (a.place info.name)
   where
-    by_place : (p : Option Place) → (learn_at a info p).handed ≡ a.handed
-    by_place None = refl
-    by_place (Some old) = by_test (nat_lt old.moves info.place.moves)
-      where
-        by_test : (b : Bool) → (cond b (with_object (with_went a old.address info.place.address) info.name info.size info.place) a).handed ≡ a.handed
-        by_test true = refl
-        by_test false = refl
+    by_test : (b : Bool) (old : Place) → P (cond b (with_object (with_went a old.address info.place.address) info.name info.size info.place) a)
+    by_test true old = lies (with_went a old.address info.place.address).header
+    by_test false old = stays
+
+    by_place : (p : Option Place) → P (learn_at a info p)
+    by_place None = lies a.header
+    by_place (Some old) = by_test (nat_lt old.moves info.place.moves) old
+
+-- it hands nothing out
+pub learnt_handed : (a : Places) (info : Info) → (with_learnt a info).handed ≡ a.handed
+learnt_handed a info = learnt_either (λ b. b.handed ≡ a.handed) a info refl (λ header. refl)
 
 module _ (st : Setting) (w : World) (blocks : ℕ → Option Block) (are : AreBlocks st w blocks) (me from : ℕ) where
   heard_keeps : (known : ℕ → Option Known) (a : Places) (info : Info) → IsTold blocks info → Keeps blocks known a → Keeps blocks (heard from known info) (with_learnt a info)

@@ -20,7 +20,7 @@ use Rattle.bmx_msg.specs.declared.letters.Letter.{Letter}
 use Rattle.bmx_msg.specs.declared.letters.Msg.{Msg}
 use Rattle.bmx_msg.specs.declared.letters.Msg.TheVariants as msg
 use Rattle.bmx_token.specs.declared.parts.Role.TheVariants.{Owner}
-use Rattle.bmx_token.specs.Transitions.{Note, Asks, Grants, Recalls, Returns, Serves, note_transition}
+use Rattle.bmx_token.specs.Transitions.{Note, Grants, Serves, note_transition}
 use Rattle.bmx_token_model.proofs.Sound.{IsSoundIf}
 use Rattle.bmx_token_model.proofs.Shared.{IsShared, shared_run}
 use Rattle.bmx_protocol.specs.declared.inputs.Input.{Input}
@@ -33,8 +33,8 @@ use Rattle.bmx_protocol.specs.declared.events.Event.{Event}
 use Rattle.bmx_protocol.specs.declared.views.ViewField.{ViewField}
 use Rattle.bmx_protocol.specs.declared.views.ViewField.TheVariants as field
 use Rattle.bmx_protocol.specs.Nodes.{Setting, NodeState, Known, share_of}
-use Rattle.bmx_protocol.specs.Places.{Places, has_room, with_made, with_object, with_went, with_learnt, learn_at, with_all_learnt}
-use Rattle.bmx_protocol.specs.Changes.{Change, Sets, Makes, Knows, Hears, Gives, Gets, Issues, Takes, heard_of, after_change, after_changes}
+use Rattle.bmx_protocol.specs.Places.{Places, has_room, with_made, with_learnt, with_all_learnt}
+use Rattle.bmx_protocol.specs.Changes.{Change, Sets, Makes, Knows, Hears, Takes, heard_of, after_change, after_changes}
 use Rattle.bmx_protocol.specs.Rules.{Reaction, only, next_name, new_object, infos, name_in, note_in, heard_field, known_change, copy_after, got_change, took}
 use Rattle.bmx_protocol.specs.Strays.{some_clash}
 use Rattle.bmx_protocol.specs.Steps.{Node, letter_in, command_in, nowhere, finds_full, rule, letters_of, sent_changes, changes_of, closed, is_taken, is_nil, made_places, MovesTo, IsStep}
@@ -49,7 +49,7 @@ use Rattle.bmx_store_laws.proofs.Ruled.{FreeOf}
 use Rattle.bmx_store_laws.proofs.Channels.{slice_drop}
 use Rattle.bmx_store_laws.proofs.Histories.{Came, came_after, each_name}
 use Rattle.bmx_places.specs.Ledger.{Block, AreBlocks, block_of, LiesIn}
-use Rattle.bmx_places.proofs.Blocks.{at_same, at_apart, IsTold, Keeps, hears_all, learnt_handed, same_shape}
+use Rattle.bmx_places.proofs.Blocks.{at_same, IsTold, Keeps, hears_all, learnt_handed, same_shape, put_each, learnt_either}
 use Rattle.bmx_places.proofs.Making.{Grows, keeps_grown, IsLaterThan, blocks_later, IsHome, with_block, made_or_old, home_made, handed_more, made_grows, made_blocks, made_keeps}
 use Rattle.bmx_places.proofs.Plain.{AllOf, Belongs, Plain, changes_kept, IsRight, IsDraft, sent_plain, letters_sent, IsSent}
 use Rattle.bmx_places.proofs.Outcomes.{NotStray, IsPlain, Comes, Plainly, New, act_plain, command_comes, known_plain, silent_drafts}
@@ -136,13 +136,7 @@ made_more (c ∷ changes) s = omega (arith, one c, made_more changes (after_chan
   where
     one : (c : Change) → s.made ≤ (after_change s c).made
     one (Sets register v) = omega arith
-    one Makes = omega arith
-    one (Knows name k) = omega arith
-    one (Hears from info) = omega arith
-    one (Gives name to seq) = omega arith
-    one (Gets name from seq) = omega arith
-    one (Issues to) = omega arith
-    one (Takes from) = omega arith
+    one _ = omega arith
 
 -- hearing of objects writes no record, and what was known stays
 hears_entering : (from : ℕ) (more : List Info) (s : NodeState) → (after_changes s (map (Hears from) more)).entering ≡ s.entering
@@ -155,11 +149,7 @@ hears_stays from (info ∷ more) s x k e = hears_stays from more (after_change s
   where
     by_known : (j : Option Known) → s.known info.name ≡ j → cond (is_some j) s.known (put s.known info.name (Some (heard_of from info))) x ≡ Some k
     by_known (Some j) f = e
-    by_known None f = by_two (two info.name x)
-      where
-        by_two : Two info.name x → put s.known info.name (Some (heard_of from info)) x ≡ Some k
-        by_two (Same q) = none_some (sym f ∙ ap s.known q ∙ e)
-        by_two (Apart g d) = at_apart s.known info.name x (Some (heard_of from info)) g ∙ e
+    by_known None f = put_each (λ y j. s.known y ≡ Some k → j ≡ Some k) s.known info.name (Some (heard_of from info)) (λ h. none_some (sym f ∙ h)) (λ y _ h. h) x e
 
 -- without stray letters those that came were taken
 all_taken : (past : List Event) → Every (λ (e : Event). NotStray e.done.answer) past → filter (λ (e : Event). is_taken e.done.answer) past ≡ past
@@ -167,14 +157,8 @@ all_taken [] h = refl
 all_taken (e ∷ past) h = (λ i. cond (is e.done.answer h.0 i) (e ∷ filter (λ (f : Event). is_taken f.done.answer) past) (filter (λ (f : Event). is_taken f.done.answer) past)) ∙ ap (λ (l : List Event). e ∷ l) (all_taken past h.1)
   where
     is : (a : NodeAnswer) → NotStray a → is_taken a ≡ true
-    is answer.Nil n = refl
-    is (answer.Value v) n = refl
-    is answer.Yes n = refl
-    is answer.No n = refl
-    is answer.Wait n = refl
-    is (answer.Refused why) n = refl
-    is answer.Idle n = refl
     is answer.Stray n = absurd (n refl)
+    is _ n = refl
 
 module _ (st : Setting) (past : List Event) (nodes : ℕ → Node) (e : Event) (after : Node) (opening : IsOpening st.nodes st.limit st.births) (legal : IsLegal st past)
     (reached : AreAfter st past nodes) (step : IsStep st e.node (nodes e.node) e.stamp e.input e.done after) (fits : Fits st past e) (kept : Kept st past nodes) where
@@ -266,15 +250,10 @@ module _ (st : Setting) (past : List Event) (nodes : ℕ → Node) (e : Event) (
     not_less = omega (arith, made_more (changes_of e.stamp s o) s, ap (λ (t : NodeState). t.made) state_is)
 
     later : ((n : ℕ) → here.places.handed n ≤ after.places.handed n) → IsLaterThan w v
-    later handed = record { handed = λ n k. at n k (two me n); made = λ n. made n (two me n) }
-      where
-        at : (n k : ℕ) → Two me n → (nodes n).places.handed k ≤ (put nodes me after n).places.handed k
-        at n k (Same q) = omega (arith, handed k, ap (λ (z : ℕ). (nodes z).places.handed k) q, ap (λ (z : Node). z.places.handed k) (at_same nodes me n after q))
-        at n k (Apart f d) = omega (arith, ap (λ (z : Node). z.places.handed k) (at_apart nodes me n after f))
-
-        made : (n : ℕ) → Two me n → (nodes n).state.made ≤ (put nodes me after n).state.made
-        made n (Same q) = omega (arith, not_less, ap (λ (z : ℕ). (nodes z).state.made) q, ap (λ (z : Node). z.state.made) (at_same nodes me n after q))
-        made n (Apart f d) = omega (arith, ap (λ (z : Node). z.state.made) (at_apart nodes me n after f))
+    later handed = record {
+      handed = λ n k. put_each (λ j z. (nodes j).places.handed k ≤ z.places.handed k) nodes me after (handed k) (λ j _. omega arith) n;
+      made = put_each (λ j z. (nodes j).state.made ≤ z.state.made) nodes me after not_less (λ j _. omega arith);
+    }
 
     -- after changes that begin with hearing of objects, and then are plain
     module _ (a : Places) (places : after.places ≡ a) (handed : (n : ℕ) → a.handed n ≡ here.places.handed n) (home : IsHome a) (t : NodeState) (rest : List Change)
@@ -437,27 +416,12 @@ module _ (st : Setting) (past : List Event) (nodes : ℕ → Node) (e : Event) (
 
       not_nil : (y : NodeAnswer) → (y ≡ answer.Nil → ⊥) → is_nil y ≡ false
       not_nil answer.Nil n = absurd (n refl)
-      not_nil (answer.Value q) n = refl
-      not_nil answer.Yes n = refl
-      not_nil answer.No n = refl
-      not_nil answer.Wait n = refl
-      not_nil (answer.Refused why) n = refl
-      not_nil answer.Idle n = refl
-      not_nil answer.Stray n = refl
+      not_nil _ n = refl
 
       places : (d : Command) → ((register bunch size : ℕ) → d ≡ command.New register bunch size → (rule st me s step.told (input.Do c)).answer ≡ answer.Nil → ⊥) →
           e.done.answer ≡ (rule st me s step.told (input.Do c)).answer → cond (is_nil e.done.answer) (made_places me here d) here.places ≡ here.places
       places (command.New register bunch size) never q = λ j. cond (not_nil e.done.answer (λ nil. never register bunch size refl (sym q ∙ nil)) j) (made_places me here (command.New register bunch size)) here.places
-      places (command.Copy register value) never q = same (is_nil e.done.answer)
-      places (command.Drop register) never q = same (is_nil e.done.answer)
-      places (command.Read on) never q = same (is_nil e.done.answer)
-      places (command.Write on) never q = same (is_nil e.done.answer)
-      places (command.Done on) never q = same (is_nil e.done.answer)
-      places (command.Set on index value) never q = same (is_nil e.done.answer)
-      places (command.Add on index by) never q = same (is_nil e.done.answer)
-      places (command.Get register on index) never q = same (is_nil e.done.answer)
-      places (command.Show on index) never q = same (is_nil e.done.answer)
-      places (command.Same left right) never q = same (is_nil e.done.answer)
+      places _ never q = same (is_nil e.done.answer)
 
   -- ## a letter
 
@@ -533,12 +497,9 @@ module _ (st : Setting) (past : List Event) (nodes : ℕ → Node) (e : Event) (
     known_plainly (Some k) e = known_plain t.known (name_in m) k (copy_after m (Some k)) takeable.turn.after (hears_stays from (infos m) s (name_in m) k e) (copy_full m its.right k e)
 
     got_plainly : (n : Note) (k : Option Known) → s.known (name_in m) ≡ k → note_transition me from n (option_map share_of k) ≡ Some takeable.turn → Each (Plain t.known) (got_change from l.seq (name_in m) n)
-    got_plainly (Asks y asker) k e turns = tt
-    got_plainly (Grants mode.Read) k e turns = tt
     got_plainly (Grants mode.Write) None e turns = none_some turns
     got_plainly (Grants mode.Write) (Some k) e turns = ((k, hears_stays from (infos m) s (name_in m) k e), tt)
-    got_plainly Recalls k e turns = tt
-    got_plainly Returns k e turns = tt
+    got_plainly _ k e turns = tt
 
     silent : NoGrants takeable.turn.sends
     silent = subst GrantsNothing takeable.turns (note_grants me from (note_in m) (option_map share_of (s.known (name_in m))))
@@ -570,20 +531,10 @@ module _ (st : Setting) (past : List Event) (nodes : ℕ → Node) (e : Event) (
         home : IsHome learnt
         home = all (infos m) here.places (kept.homes me)
           where
-            one : (a : Places) (info : Info) → IsHome a → IsHome (with_learnt a info)
-            one a info h = by_place (a.place info.name)
-              where
-                by_place : (p : Option Place) → IsHome (learn_at a info p)
-                by_place None = record { opened = h.opened; above = h.above; within = h.within; few = h.few }
-                by_place (Some old) = by_test (nat_lt old.moves info.place.moves)
-                  where
-                    by_test : (b : Bool) → IsHome (cond b (with_object (with_went a old.address info.place.address) info.name info.size info.place) a)
-                    by_test true = record { opened = h.opened; above = h.above; within = h.within; few = h.few }
-                    by_test false = h
-
             all : (more : List Info) (a : Places) → IsHome a → IsHome (with_all_learnt a more)
             all [] a h = h
-            all (info ∷ more) a h = all more (with_learnt a info) (one a info h)
+            all (info ∷ more) a h = all more (with_learnt a info)
+                (learnt_either IsHome a info h (λ header. record { opened = h.opened; above = h.above; within = h.within; few = h.few }))
 
   by_input : (i : Input) → e.input ≡ i → Kept st (past ++ e ∷ []) (put nodes me after)
   by_input (input.Do c) is = by_command c is (command_comes kept.blocks me s here.places step.told.full step.told.lies (kept.keeps me) lies_at aware owners c)

@@ -10,10 +10,10 @@ use Rattle.bmx_protocol.specs.declared.views.ViewField.{ViewField}
 use Rattle.bmx_protocol.specs.Nodes.{Setting, Known}
 use Rattle.bmx_protocol.specs.Places.{Places, has_room, with_segment, with_room, with_placed, with_made, overlaps}
 use Rattle.bmx_protocol.specs.Worlds.{World}
-use Rattle.bmx_protocol.proofs.Basics.{Two, Same, Apart, two, some_same}
+use Rattle.bmx_protocol.proofs.Basics.{some_same}
 use Rattle.bmx_store_laws.specs.Laws.{IsCounted}
 use Rattle.bmx_places.specs.Ledger.{Block, IsBlock, AreBlocks, LiesIn, Heads}
-use Rattle.bmx_places.proofs.Blocks.{at_same, at_apart, home_again, segment_again, index_again, Keeps, object_keeps}
+use Rattle.bmx_places.proofs.Blocks.{at_same, at_apart, home_again, segment_again, index_again, Keeps, object_keeps, put_each}
 
 -- ## ledgers that grow
 
@@ -70,14 +70,8 @@ module _ (st : Setting) (w v : World) (blocks : ℕ → Option Block) (at : ℕ)
       omega (arith, within, same, behind)
 
   pub block_added : Grows blocks more
-  block_added a b e = by_two (two at a)
-    where
-      by_two : Two at a → more a ≡ Some b
-      by_two (Same s) =
-          let front : index_of a + (4 + b.size) ≤ index_of at = in_front a b e (ap home_of (sym s)) (ap segment_of (sym s)) in
-          let same : index_of a ≡ index_of at = ap index_of (sym s) in
-          absurd (omega arith)
-      by_two (Apart f d) = at_apart blocks at a (Some new) f ∙ e
+  block_added = put_each (λ a o. (b : Block) → blocks a ≡ Some b → o ≡ Some b) blocks at (Some new)
+      (λ b e. (let front : index_of at + (4 + b.size) ≤ index_of at = in_front at b e refl refl in absurd (omega (arith, front)))) (λ a _ b e. e)
 
   -- a block is the new one, or an old one
   data Which (a : ℕ) (b : Block) : Type 0 where
@@ -85,11 +79,7 @@ module _ (st : Setting) (w v : World) (blocks : ℕ → Option Block) (at : ℕ)
     Old : blocks a ≡ Some b → Which a b
 
   which : (a : ℕ) (b : Block) → more a ≡ Some b → Which a b
-  which a b e = by_two (two at a)
-    where
-      by_two : Two at a → Which a b
-      by_two (Same s) = New s (some_same (sym (at_same blocks at a (Some new) s) ∙ e))
-      by_two (Apart f d) = Old (sym (at_apart blocks at a (Some new) f) ∙ e)
+  which = put_each (λ a o. (b : Block) → o ≡ Some b → Which a b) blocks at (Some new) (λ b e. New refl (some_same e)) (λ a _ b e. Old e)
 
   overlaps_not : (i words j others : ℕ) → i + words ≤ j → (overlaps i words j others ≡ false) × (overlaps j others i words ≡ false)
   overlaps_not i words j others h = (grind (arith, nat_tests), grind (arith, nat_tests))
@@ -156,26 +146,20 @@ module _ (me : ℕ) (a : Places) (home : IsHome a) (bunch size : ℕ) where
     segment = a.made + 1;
     open_for = at_same a.opened bunch bunch (Some (a.made + 1)) refl;
     home = record {
-      opened = λ c s e. opened c s e (two bunch c);
-      above = λ s h. handed s (two (a.made + 1) s) ∙ home.above s (omega (arith, h));
-      within = λ s. (let same : put a.handed (a.made + 1) 0 s ≡ a.handed s = handed s (two (a.made + 1) s) in omega (arith, same, home.within s));
+      opened = put_each (λ c o. (s : ℕ) → o ≡ Some s → s ≤ a.made + 1) a.opened bunch (Some (a.made + 1))
+          (λ s e. (let same : a.made + 1 ≡ s = some_same e in omega arith)) (λ c _ s e. omega (arith, home.opened c s e));
+      above = λ s h. same s ∙ home.above s (omega (arith, h));
+      within = λ s. omega (arith, same s, home.within s);
       few = omega (arith, few);
     };
     fits = (let none : put a.handed (a.made + 1) 0 (a.made + 1) ≡ 0 = at_same a.handed (a.made + 1) (a.made + 1) 0 refl in omega (arith, none, small));
-    handed = λ s. handed s (two (a.made + 1) s);
+    handed = same;
     place = refl;
     header = refl;
   }
     where
-      opened : (c s : ℕ) → put a.opened bunch (Some (a.made + 1)) c ≡ Some s → Two bunch c → s ≤ a.made + 1
-      opened c s e (Same q) =
-          let same : a.made + 1 ≡ s = some_same (sym (at_same a.opened bunch c (Some (a.made + 1)) q) ∙ e) in
-          omega arith
-      opened c s e (Apart f d) = omega (arith, home.opened c s (sym (at_apart a.opened bunch c (Some (a.made + 1)) f) ∙ e))
-
-      handed : (s : ℕ) → Two (a.made + 1) s → put a.handed (a.made + 1) 0 s ≡ a.handed s
-      handed s (Same q) = at_same a.handed (a.made + 1) s 0 q ∙ sym (home.above s (omega (arith, q)))
-      handed s (Apart f d) = at_apart a.handed (a.made + 1) s 0 f
+      same : (s : ℕ) → put a.handed (a.made + 1) 0 s ≡ a.handed s
+      same = put_each (λ s n. n ≡ a.handed s) a.handed (a.made + 1) 0 (sym (home.above (a.made + 1) (omega arith))) (λ s _. refl)
 
   le_is : (m n : ℕ) → nat_le m n ≡ true → m ≤ n
   le_is m n h = grind (arith, nat_tests)
@@ -218,13 +202,8 @@ module _ (st : Setting) (w v : World) (blocks : ℕ → Option Block) (are : Are
 
   -- a block is the new one, or one that was there
   pub made_or_old : (c : ℕ) (b : Block) → with_block c ≡ Some b → ((b.name ≡ x) × (b.moves ≡ 0)) ⊎ (blocks c ≡ Some b)
-  made_or_old c b e = by_two (two word c)
-    where
-      by_two : Two word c → ((b.name ≡ x) × (b.moves ≡ 0)) ⊎ (blocks c ≡ Some b)
-      by_two (Same q) =
-          let same : its_block ≡ b = some_same (sym (at_same blocks word c (Some its_block) q) ∙ e) in
-          inl (sym (ap (λ (z : Block). z.name) same), sym (ap (λ (z : Block). z.moves) same))
-      by_two (Apart f d) = inr (sym (at_apart blocks word c (Some its_block) f) ∙ e)
+  made_or_old = put_each (λ c o. (b : Block) → o ≡ Some b → ((b.name ≡ x) × (b.moves ≡ 0)) ⊎ (blocks c ≡ Some b)) blocks word (Some its_block)
+      (λ b e. inl (sym (ap (λ (z : Block). z.name) (some_same e)), sym (ap (λ (z : Block). z.moves) (some_same e)))) (λ c _ b e. inr e)
 
   made_is : with_made me a x k.bunch k.size ≡ with_placed me roomy x k.size (Some r.segment)
   made_is = ap (with_placed me roomy x k.size) r.open_for
@@ -254,30 +233,15 @@ module _ (st : Setting) (w v : World) (blocks : ℕ → Option Block) (are : Are
   pub home_made : IsHome (with_made me a x k.bunch k.size)
   home_made = subst IsHome (sym made_is) (record {
     opened = r.home.opened;
-    above = λ s h. above s h (two r.segment s);
-    within = λ s. within s (two r.segment s);
+    above = put_each (λ s n. roomy.made < s → n ≡ 0) roomy.handed r.segment ends
+        (λ h. absurd (omega (arith, h, r.home.opened k.bunch r.segment r.open_for))) (λ s _. r.home.above s);
+    within = put_each (λ s n. n ≤ 1024) roomy.handed r.segment ends r.fits (λ s _. r.home.within s);
     few = r.home.few;
   })
-    where
-      above : (s : ℕ) → roomy.made < s → Two r.segment s → put roomy.handed r.segment ends s ≡ 0
-      above s h (Same e) = absurd (omega (arith, h, e, r.home.opened k.bunch r.segment r.open_for))
-      above s h (Apart f d) = at_apart roomy.handed r.segment s ends f ∙ r.home.above s h
-
-      within : (s : ℕ) → Two r.segment s → put roomy.handed r.segment ends s ≤ 1024
-      within s (Same e) = omega (arith, at_same roomy.handed r.segment s ends e, r.fits)
-      within s (Apart f d) = omega (arith, at_apart roomy.handed r.segment s ends f, r.home.within s)
 
   pub handed_more : (s : ℕ) → a.handed s ≤ (with_made me a x k.bunch k.size).handed s
-  handed_more s = by_two (two r.segment s)
-    where
-      by_two : Two r.segment s → a.handed s ≤ (with_made me a x k.bunch k.size).handed s
-      by_two (Same e) =
-          let there : put roomy.handed r.segment (roomy.handed r.segment + (4 + k.size)) s ≡ roomy.handed r.segment + (4 + k.size) = at_same roomy.handed r.segment s _ e in
-          let old : roomy.handed r.segment ≡ a.handed s = ap roomy.handed e ∙ r.handed s in
-          omega (arith, handed_is s, there, old)
-      by_two (Apart f d) =
-          let there : put roomy.handed r.segment (roomy.handed r.segment + (4 + k.size)) s ≡ roomy.handed s = at_apart roomy.handed r.segment s _ f in
-          omega (arith, handed_is s, there, r.handed s)
+  handed_more s = subst (λ (n : ℕ). a.handed s ≤ n) (sym (handed_is s))
+      (put_each (λ t n. a.handed t ≤ n) roomy.handed r.segment ends (omega (arith, r.handed r.segment)) (λ t _. omega (arith, r.handed t)) s)
 
   module _ (later : IsLaterThan w v) (real : me < st.nodes) (places : (v.places me).handed ≡ (with_made me a x k.bunch k.size).handed) (bunch : k.bunch < bunches_of st.births) (counted : IsCounted st v x)
       (unnamed : (c : ℕ) (b : Block) → blocks c ≡ Some b → b.name ≢ x) where

@@ -68,10 +68,10 @@ all_issued P n m (e ∷ past) h = by_test (e.node == n) (all_issued P n m past h
     by_test false rest = rest
 
 drop_get : {A : Type 0} (xs : List A) (i : ℕ) (x : A) (rest : List A) → drop i xs ≡ x ∷ rest → slice_get xs i ≡ Some x
-drop_get [] zero x rest e = absurd cc
-drop_get [] (suc i) x rest e = absurd cc
 drop_get (y ∷ xs) zero x rest e = (let same : y ≡ x = cc in ap (λ z. Some z) same)
 drop_get (y ∷ xs) (suc i) x rest e = drop_get xs i x rest e
+drop_get [] zero x rest e = absurd cc
+drop_get [] (suc i) x rest e = absurd cc
 
 first_there : {A : Type 0} (xs : List A) (x : A) (rest : List A) → xs ≡ x ∷ rest → Contains xs x
 first_there xs x rest e = subst (λ ys. Contains ys x) (sym e) (0, omega arith, refl)
@@ -199,10 +199,7 @@ module _ (st : Setting) (past : List Event) (nodes : ℕ → Node) (opening : Is
       by_msg : (m : Msg) → l.msg ≡ m → option_map_or (is_no_node st) (asker_in m) false ≡ false
       by_msg (msg.ReadReq name asker) e = asks_not mode.Read asker (ap note_in e)
       by_msg (msg.WriteReq name asker) e = asks_not mode.Write asker (ap note_in e)
-      by_msg (msg.ReadGrant info fields) e = refl
-      by_msg (msg.WriteGrant info fields) e = refl
-      by_msg (msg.Inval name) e = refl
-      by_msg (msg.InvAck name) e = refl
+      by_msg _ e = refl
 
   full_not : option_map_or (λ (g : Info × List Field). not (length g.1 == g.0.size)) (grant_in l.msg) false ≡ false
   full_not = by_grant (grant_in l.msg) refl

@@ -26,7 +26,7 @@ use Rattle.bmx_token.specs.declared.answers.Acquire.TheVariants as acquire_is
 use Rattle.bmx_token.specs.declared.answers.Release.{Release}
 use Rattle.bmx_token.specs.declared.answers.Release.TheVariants as release_is
 use Rattle.bmx_token.specs.Tokens.{acquire, release, serve_by}
-use Rattle.bmx_token.specs.Transitions.{Share, Note, Asks, Grants, Recalls, Returns, Send, Transition, Operation, Acquires, Releases, Serves, acquired, released, served, transition_of, can_serve}
+use Rattle.bmx_token.specs.Transitions.{Share, Note, Asks, Grants, Send, Transition, Operation, Acquires, Releases, Serves, acquired, released, served, transition_of, can_serve}
 use Rattle.bmx_token_model.specs.Machine.{is_grant}
 use Rattle.bmx_protocol.specs.declared.inputs.NodeAnswer.{NodeAnswer}
 use Rattle.bmx_protocol.specs.declared.inputs.NodeAnswer.TheVariants as answer
@@ -63,16 +63,13 @@ act_grants : (me : ℕ) (a : Operation) (h : Share) → (h.part.role ≡ Owner �
 act_grants me (Acquires m) h has = by_answer (acquire me h.part m h.copy).0 (acquire me h.part m h.copy).1
   where
     by_answer : (p : Part) (r : Acquire) → MayGrant h.copy (acquired me m h p r)
-    by_answer p acquire_is.Held = tt
     by_answer p (acquire_is.Asks parent) = (λ g. absurd cc, tt)
-    by_answer p acquire_is.Waits = tt
-    by_answer p acquire_is.Refused = tt
+    by_answer p _ = tt
 act_grants me Releases h has = by_answer (release h.part).0 (release h.part).1
   where
     by_answer : (p : Part) (r : Release) → MayGrant h.copy (released h p r)
-    by_answer p release_is.Free = tt
     by_answer p (release_is.Answers owner) = (λ g. absurd cc, tt)
-    by_answer p release_is.Refused = tt
+    by_answer p _ = tt
 act_grants me Serves h has = by_role h.part.role refl
   where
     by_role : (role : Role) → h.part.role ≡ role → MayGrant h.copy (served h (serve_by me h.part role h.part.queue).0 (serve_by me h.part role h.part.queue).1)
@@ -157,12 +154,10 @@ module _ (blocks : ℕ → Option Block) (s : NodeState) (a : Places) (lies : �
     grant_right has g e = subst (λ (h : Info × List Field). length h.1 ≡ h.0.size) (some_same e) (all_there has)
 
     note_draft : (to : ℕ) (n : Note) → (is_grant n ≡ true → is_some k.copy ≡ true) → IsDraft blocks s.known (record { to = to; msg = message (info_of s lies name) (told_fields s lies name) n })
-    note_draft to (Asks mode.Read asker) has = record { right = record { told = tt; full = no_grant }; gives = tt }
-    note_draft to (Asks mode.Write asker) has = record { right = record { told = tt; full = no_grant }; gives = tt }
     note_draft to (Grants mode.Read) has = record { right = record { told = (info_told name k is, all_told); full = grant_right (has refl) }; gives = ((k, is), all_known) }
     note_draft to (Grants mode.Write) has = record { right = record { told = (info_told name k is, all_told); full = grant_right (has refl) }; gives = all_known }
-    note_draft to Recalls has = record { right = record { told = tt; full = no_grant }; gives = tt }
-    note_draft to Returns has = record { right = record { told = tt; full = no_grant }; gives = tt }
+    note_draft to (Asks mode.Read asker) has = record { right = record { told = tt; full = no_grant }; gives = tt }
+    note_draft to _ has = record { right = record { told = tt; full = no_grant }; gives = tt }
 
     notes_drafts : (sends : List Send) → Every (λ (n : Send). is_grant n.note ≡ true → is_some k.copy ≡ true) sends → Every (IsDraft blocks s.known) (drafts_of s lies name sends)
     notes_drafts [] has = tt
@@ -175,12 +170,10 @@ silent_drafts blocks known s lies name [] none = tt
 silent_drafts blocks known s lies name (n ∷ sends) none = (silent n.note none.0, silent_drafts blocks known s lies name sends none.1)
   where
     silent : (m : Note) → is_grant m ≡ false → IsDraft blocks known (record { to = n.to; msg = message (info_of s lies name) (told_fields s lies name) m })
-    silent (Asks mode.Read asker) e = record { right = record { told = tt; full = no_grant }; gives = tt }
-    silent (Asks mode.Write asker) e = record { right = record { told = tt; full = no_grant }; gives = tt }
     silent (Grants mode.Read) e = absurd cc
     silent (Grants mode.Write) e = absurd cc
-    silent Recalls e = record { right = record { told = tt; full = no_grant }; gives = tt }
-    silent Returns e = record { right = record { told = tt; full = no_grant }; gives = tt }
+    silent (Asks mode.Read asker) e = record { right = record { told = tt; full = no_grant }; gives = tt }
+    silent _ e = record { right = record { told = tt; full = no_grant }; gives = tt }
 
 -- ## outcomes
 
@@ -208,14 +201,11 @@ known_plain known name k fields (Some h) is full = ((ap shape is, λ f e. by_cop
 
 acquire_answers : (r : Acquire) → NotStray (acquire_answer r)
 acquire_answers acquire_is.Held e = cc
-acquire_answers (acquire_is.Asks parent) e = cc
-acquire_answers acquire_is.Waits e = cc
-acquire_answers acquire_is.Refused e = cc
+acquire_answers _ e = cc
 
 release_answers : (r : Release) → NotStray (release_answer r)
 release_answers release_is.Free e = cc
-release_answers (release_is.Answers owner) e = cc
-release_answers release_is.Refused e = cc
+release_answers _ e = cc
 
 act_answers : (me : ℕ) (a : Operation) (h : Share) → NotStray (operation_answer me a h)
 act_answers me (Acquires m) h = acquire_answers (acquire me h.part m h.copy).1
@@ -264,18 +254,14 @@ module _ (blocks : ℕ → Option Block) (me : ℕ) (s : NodeState) (a : Places)
 
   -- an effect that makes nothing
   abbrev MakesNone : Effect → Type 0
-  MakesNone graph_effect.Nothing = Unit {0}
   MakesNone (graph_effect.Makes register bunch size) = ⊥
-  MakesNone (graph_effect.Sets register v) = Unit {0}
-  MakesNone (graph_effect.Stores name index v) = Unit {0}
-  MakesNone (graph_effect.Holds name hold) = Unit {0}
+  MakesNone _ = Unit {0}
 
   effect_plain : (e : Effect) → MakesNone e → Each (Plain s.known) (graph_changes me s e)
-  effect_plain graph_effect.Nothing none = tt
   effect_plain (graph_effect.Makes register bunch size) none = absurd none
   effect_plain (graph_effect.Sets register v) none = (tt, tt)
   effect_plain (graph_effect.Stores name index v) none = stored_plain name index v (s.known name) refl
-  effect_plain (graph_effect.Holds name hold) none = tt
+  effect_plain _ none = tt
 
   storing_none : (name : Option ℕ) (index : ℕ) (v : Option Val) → MakesNone (storing name index v)
   storing_none None index v = tt
@@ -287,12 +273,9 @@ module _ (blocks : ℕ → Option Block) (me : ℕ) (s : NodeState) (a : Places)
   setting_none register (Some v) = tt
 
   answered_plain : (changes : List Change) → Each (Plain s.known) changes → (g : Answer) → IsPlain blocks s.known (answered changes g)
-  answered_plain changes each graph.Nil = record { changes = each; drafts = tt; answer = λ e. cc }
-  answered_plain changes each (graph.Value v) = record { changes = each; drafts = tt; answer = λ e. cc }
-  answered_plain changes each graph.Yes = record { changes = each; drafts = tt; answer = λ e. cc }
-  answered_plain changes each graph.No = record { changes = each; drafts = tt; answer = λ e. cc }
   answered_plain changes each graph.Wait = nothing_plain blocks s.known _ (λ e. cc)
   answered_plain changes each (graph.Refused why) = nothing_plain blocks s.known _ (λ e. cc)
+  answered_plain changes each _ = record { changes = each; drafts = tt; answer = λ e. cc }
 
   graph_plain : (c : Command) → MakesNone (effect (seen_graph me s) me c) → IsPlain blocks s.known (graph_rule me s c)
   graph_plain c none = answered_plain (graph_changes me s (effect (seen_graph me s) me c)) (effect_plain (effect (seen_graph me s) me c) none) (answer_of (seen_graph me s) me c)

@@ -14,13 +14,13 @@ use Rattle.bmx_protocol.specs.declared.inputs.Sending.{Sending}
 use Rattle.bmx_protocol.specs.declared.views.ViewField.{ViewField}
 use Rattle.bmx_protocol.specs.Nodes.{NodeState, Known}
 use Rattle.bmx_protocol.specs.Places.{Places}
-use Rattle.bmx_protocol.specs.Changes.{Change, Sets, Makes, Knows, Hears, Gives, Gets, Issues, Takes, record_of, after_change, after_changes}
+use Rattle.bmx_protocol.specs.Changes.{Change, Knows, Hears, Gives, Gets, Issues, record_of, after_change, after_changes}
 use Rattle.bmx_protocol.specs.Rules.{Draft, infos, grant_in}
 use Rattle.bmx_protocol.specs.Steps.{numbered, sent_changes}
 use Rattle.bmx_protocol.proofs.Changing.{Each, each_append, kept_by_each}
-use Rattle.bmx_protocol.proofs.Basics.{Two, Same, Apart, two, put_at_row, put_at_else, Every, none_some, some_same}
+use Rattle.bmx_protocol.proofs.Basics.{Every, none_some, some_same}
 use Rattle.bmx_places.specs.Ledger.{Block, block_at, LiesIn, IsOf}
-use Rattle.bmx_places.proofs.Blocks.{at_same, at_apart, IsTold, Keeps}
+use Rattle.bmx_places.proofs.Blocks.{IsTold, Keeps, put_each}
 
 -- ## shapes
 
@@ -59,14 +59,11 @@ pub record Belongs (blocks : ℕ → Option Block) (a : Places) (known : ℕ →
 
 -- a change makes nothing known and keeps bunches and sizes; what it gives is known
 abbrev pub Plain : (ℕ → Option Known) → Change → Type 0
-Plain known (Sets register v) = Unit {0}
-Plain known Makes = Unit {0}
 Plain known (Knows name k) = (shape (known name) ≡ Some (k.bunch, k.size)) × ((fields : List ViewField) → k.copy ≡ Some fields → length fields ≡ k.size)
 Plain known (Hears from info) = ⊥
 Plain known (Gives name to seq) = IsKnown known name
 Plain known (Gets name from seq) = IsKnown known name
-Plain known (Issues to) = Unit {0}
-Plain known (Takes from) = Unit {0}
+Plain known _ = Unit {0}
 
 module _ (blocks : ℕ → Option Block) (a : Places) (known : ℕ → Option Known) where
   -- what is known is of another token, or has other fields
@@ -74,42 +71,27 @@ module _ (blocks : ℕ → Option Block) (a : Places) (known : ℕ → Option Kn
       Belongs blocks a known s → Belongs blocks a known (record s { known = put s.known name (Some k) })
   known_again s name k of full b = record {
     keeps = record {
-      entries = λ x j e. lies x j e (two name x);
-      unplaced = λ x e. nothing x e (two name x);
+      entries = put_each (λ x o. (j : Known) → o ≡ Some j → LiesIn blocks (a.place x) x j) s.known name (Some k) (λ j e. lies j (some_same e)) (λ x _. b.keeps.entries x);
+      unplaced = put_each (λ x o. o ≡ None → a.place x ≡ None) s.known name (Some k) (λ e. none_some (sym e)) (λ x _. b.keeps.unplaced x);
       headers = b.keeps.headers;
-      full = λ x j fields e c. filled x j fields e c (two name x);
+      full = put_each (λ x o. (j : Known) (fields : List ViewField) → o ≡ Some j → j.copy ≡ Some fields → length fields ≡ j.size) s.known name (Some k)
+          (λ j fields e c. full fields (ap (λ (i : Known). i.copy) (some_same e) ∙ c) ∙ ap (λ (i : Known). i.size) (some_same e)) (λ x _. b.keeps.full x);
     };
     records = b.records;
-    shapes = λ x. same x (two name x);
+    shapes = put_each (λ x o. shape o ≡ shape (known x)) s.known name (Some k) (sym of) (λ x _. b.shapes x);
   }
     where
       old : HasShape (s.known name) k.bunch k.size
       old = has_shape (s.known name) k.bunch k.size (b.shapes name ∙ of)
 
-      lies : (x : ℕ) (j : Known) → put s.known name (Some k) x ≡ Some j → Two name x → LiesIn blocks (a.place x) x j
-      lies x j e (Apart f d) = b.keeps.entries x j (sym (at_apart s.known name x (Some k) f) ∙ e)
-      lies x j e (Same q) =
+      lies : (j : Known) → k ≡ j → LiesIn blocks (a.place name) name j
+      lies j is =
           let l : LiesIn blocks (a.place name) name old.known = b.keeps.entries name old.known old.is in
-          let is : k ≡ j = some_same (sym (at_same s.known name x (Some k) q) ∙ e) in
-          subst (λ (z : ℕ). LiesIn blocks (a.place z) z j) q (subst (LiesIn blocks (a.place name) name) is (record {
+          subst (LiesIn blocks (a.place name) name) is (record {
             place = l.place;
             lies = l.lies;
             block = l.block ∙ (λ i. Some (record { name = name; bunch = old.bunch_is i; size = old.size_is i; moves = l.place.moves }));
-          }))
-
-      nothing : (x : ℕ) → put s.known name (Some k) x ≡ None → Two name x → a.place x ≡ None
-      nothing x e (Same q) = none_some (sym e ∙ at_same s.known name x (Some k) q)
-      nothing x e (Apart f d) = b.keeps.unplaced x (sym (at_apart s.known name x (Some k) f) ∙ e)
-
-      filled : (x : ℕ) (j : Known) (fields : List ViewField) → put s.known name (Some k) x ≡ Some j → j.copy ≡ Some fields → Two name x → length fields ≡ j.size
-      filled x j fields e c (Same q) =
-          let is : k ≡ j = some_same (sym (at_same s.known name x (Some k) q) ∙ e) in
-          full fields (ap (λ (i : Known). i.copy) is ∙ c) ∙ ap (λ (i : Known). i.size) is
-      filled x j fields e c (Apart f d) = b.keeps.full x j fields (sym (at_apart s.known name x (Some k) f) ∙ e) c
-
-      same : (x : ℕ) → Two name x → shape (put s.known name (Some k) x) ≡ shape (known x)
-      same x (Same q) = ap shape (at_same s.known name x (Some k) q) ∙ sym of ∙ ap (λ (z : ℕ). shape (known z)) q
-      same x (Apart f d) = ap shape (at_apart s.known name x (Some k) f) ∙ b.shapes x
+          })
 
   -- the record of a known name is of its bunch
   record_is_of : (s : NodeState) (name m : ℕ) → IsKnown known name → Belongs blocks a known s → IsOf blocks name (record_of s name m).bunch
@@ -127,30 +109,22 @@ module _ (blocks : ℕ → Option Block) (a : Places) (known : ℕ → Option Kn
 
   record_again : (s : NodeState) (name m : ℕ) (r : Record) → r.bunch ≡ (record_of s name m).bunch → IsKnown known name →
       Belongs blocks a known s → Belongs blocks a known (record s { entering = put_at s.entering name m (Some r) })
-  record_again s name m r bunch is b = record { keeps = b.keeps; records = λ x n q e. of x n q e (two name x) (two m n); shapes = b.shapes }
+  record_again s name m r bunch is b = record { keeps = b.keeps; records = of; shapes = b.shapes }
     where
       here : IsOf blocks name r.bunch
       here = subst (IsOf blocks name) (sym bunch) (record_is_of s name m is b)
 
-      of : (x n : ℕ) (q : Record) → put_at s.entering name m (Some r) x n ≡ Some q → Two name x → Two m n → IsOf blocks x q.bunch
-      of x n q e (Apart f d) other = b.records x n q (sym (put_at_else s.entering name m x n (Some r) f) ∙ e)
-      of x n q e (Same p) other =
-          let row : put (s.entering name) m (Some r) n ≡ Some q = sym (put_at_row s.entering name m n (Some r)) ∙ subst (λ (z : ℕ). put_at s.entering name m (Some r) z n ≡ Some q) (sym p) e in
-          subst (λ (z : ℕ). IsOf blocks z q.bunch) p (by_two other row)
-        where
-          by_two : Two m n → put (s.entering name) m (Some r) n ≡ Some q → IsOf blocks name q.bunch
-          by_two (Same t) row = subst (λ (z : Record). IsOf blocks name z.bunch) (some_same (sym (at_same (s.entering name) m n (Some r) t) ∙ row)) here
-          by_two (Apart g h) row = b.records name n q (sym (at_apart (s.entering name) m n (Some r) g) ∙ row)
+      of : AllOf blocks (put_at s.entering name m (Some r))
+      of = put_each (λ x row. (n : ℕ) (q : Record) → row n ≡ Some q → IsOf blocks x q.bunch) s.entering name (put (s.entering name) m (Some r))
+          (put_each (λ n o. (q : Record) → o ≡ Some q → IsOf blocks name q.bunch) (s.entering name) m (Some r)
+          (λ q e. subst (λ (z : Record). IsOf blocks name z.bunch) (some_same e) here) (λ n _. b.records name n)) (λ x _. b.records x)
 
   change_kept : (s : NodeState) (c : Change) → Plain known c → Belongs blocks a known s → Belongs blocks a known (after_change s c)
-  change_kept s (Sets register v) plain b = record { keeps = b.keeps; records = b.records; shapes = b.shapes }
-  change_kept s Makes plain b = record { keeps = b.keeps; records = b.records; shapes = b.shapes }
   change_kept s (Knows name k) plain b = known_again s name k plain.0 plain.1 b
   change_kept s (Hears from info) plain b = absurd plain
   change_kept s (Gives name to seq) plain b = record_again s name to (sent_by seq (record_of s name to)) refl plain b
   change_kept s (Gets name from seq) plain b = record_again s name from (got_by seq (record_of s name from)) refl plain b
-  change_kept s (Issues to) plain b = record { keeps = b.keeps; records = b.records; shapes = b.shapes }
-  change_kept s (Takes from) plain b = record { keeps = b.keeps; records = b.records; shapes = b.shapes }
+  change_kept s _ plain b = record { keeps = b.keeps; records = b.records; shapes = b.shapes }
 
   pub changes_kept : (changes : List Change) → Each (Plain known) changes → (s : NodeState) → Belongs blocks a known s → Belongs blocks a known (after_changes s changes)
   changes_kept changes each s b = kept_by_each (Belongs blocks a known) (Plain known) (λ t c plain h. change_kept t c plain h) changes each s b

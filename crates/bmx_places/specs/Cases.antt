@@ -2,6 +2,7 @@
 -- them fails.
 use Rattle.std.specs.Prelude.{◌≡◌, ◌≢◌, false, [], ◌∷◌, replicate, Contains, Some, refl}
 use Rattle.bmx_types.specs.Openings.{IsOpening}
+use Rattle.bmx_types.specs.Updates.{put}
 use Rattle.bmx_types.specs.declared.addresses.Info.{Info}
 use Rattle.bmx_types.specs.declared.commands.Command.TheVariants as command
 use Rattle.bmx_msg.specs.declared.letters.Field.TheVariants as told
@@ -45,6 +46,14 @@ pub record LawsApply : Type 0 where
   pub longer : IsLegal (one_bunch 2) told_of_the_object.past
   pub takes : (e : Event) × Contains told_of_the_object.past e × (letter_in e.input ≡ Some (0, the_grant))
 
+-- ## one by a wrong rule
+
+-- node 1 takes the grant, but learns no places from it
+abbrev pub unlearnt : Play
+unlearnt = record (told_of_the_object) {
+  nodes = put told_of_the_object.nodes 1 (record { state = (told_of_the_object.nodes 1).state; places = (granted.nodes 1).places });
+}
+
 -- ## one with an outcome changed
 
 -- node 1 asks for the anchor to write it
@@ -73,13 +82,14 @@ strayed = with_input (one_bunch 2) mistold 1 (input_of mistold.past (Next 0 1))
 mistold_is_in_flight : in_flight 0 1 mistold.past ≡ mistold_grant ∷ []
 mistold_is_in_flight = refl
 
--- and each statement fails there, so the history isn't legal
+-- and each statement fails there, so the history isn't legal; and where no places are learnt, one is without its place
 pub record LawsFail : Type 0 where
   pub illegal : IsLegal (one_bunch 2) strayed.past → ⊥
   pub stray : (e : Event) × Contains strayed.past e × (e.done.answer ≡ answer.Stray)
   pub ledger : HasLedger (one_bunch 2) (world_in mistold) → ⊥
   pub shapes : ShapesAgree (world_in mistold) → ⊥
   pub places : PlacesAgree (world_in mistold) → ⊥
+  pub unplaced : PlacesAgree (world_in unlearnt) → ⊥
   pub clash : some_clash 0 1 ((world_in mistold).state 1).known ((world_in mistold).places 1) (infos mistold_grant.msg) ≢ false
   pub next : (done : Done) × (after : Node) × IsStep (one_bunch 2) 1 (mistold.nodes 1) 4 (input.Take 0 mistold_grant) done after × (done.answer ≡ answer.Stray)
 
