@@ -2,18 +2,18 @@
 use Rattle.std.proofs.Common.{◌≡◌, ℕ, ◌+◌, ◌^◌, ◌<◌, ◌≤◌, arith, refl, ap, sym, subst, ◌∙◌, Bool, true, false, cond, List, [], ◌∷◌, map, length, zero, suc}
 use Rattle.std.specs.Prelude.{◌==◌, ◌&&◌, ◌||◌, not, nat_lt, Option, Some, None, is_some}
 use Rattle.std.specs.Option.{option_map_or}
-use Rattle.std.proofs.lemmas.Bool.Decides.{nat_tests}
+use Rattle.std.proofs.lemmas.Bool.{ltb-true, le-ltb}
 use Rattle.bmx_types.specs.Words.{address_word, home_of, segment_of, index_of}
 use Rattle.bmx_types.specs.declared.addresses.Place.{Place}
 use Rattle.bmx_types.specs.declared.addresses.Info.{Info}
 use Rattle.bmx_types.specs.Updates.{put}
 use Rattle.bmx_protocol.specs.declared.views.ViewField.{ViewField}
 use Rattle.bmx_protocol.specs.Nodes.{Setting, Known, NodeState}
-use Rattle.bmx_protocol.specs.Places.{Lives, Went, Header, Places, with_object, overlaps, any_below, is_another, is_across, is_in_the_way, is_barred, with_went, with_learnt, learn_at, with_all_learnt, differs, clashes_at}
+use Rattle.bmx_protocol.specs.Places.{Lives, Header, Places, with_object, overlaps, any_below, is_another, is_across, is_in_the_way, is_barred, with_went, with_learnt, learn_at, with_all_learnt, differs, clashes_at}
 use Rattle.bmx_protocol.specs.Changes.{Hears, heard_of, heard, after_change, after_changes}
 use Rattle.bmx_protocol.specs.Strays.{clashes, some_clash}
 use Rattle.bmx_protocol.specs.Worlds.{World}
-use Rattle.bmx_protocol.proofs.Basics.{eqb_is, eqb_of, eqb_same, Two, Same, Apart, two, Every, none_some, some_same}
+use Rattle.bmx_protocol.proofs.Basics.{eqb_is, eqb_of, Two, Same, Apart, two, put_same, put_apart, Every, none_some, some_same}
 use Rattle.bmx_places.specs.Ledger.{Block, IsBlock, AreBlocks, block_at, block_of, LiesIn, Heads}
 
 -- ## addresses
@@ -21,17 +21,10 @@ use Rattle.bmx_places.specs.Ledger.{Block, IsBlock, AreBlocks, block_at, block_o
 pub same_word : (a : ℕ) → address_word (home_of a) (segment_of a) (index_of a) ≡ a
 same_word a = omega arith
 
-pub home_again : (h s i : ℕ) → s < 2 ^ 24 → i < 2 ^ 32 → home_of (address_word h s i) ≡ h
-home_again h s i p q = omega arith
-
-pub segment_again : (h s i : ℕ) → s < 2 ^ 24 → i < 2 ^ 32 → segment_of (address_word h s i) ≡ s
-segment_again h s i p q = omega arith
-
-pub index_again : (h s i : ℕ) → i < 2 ^ 32 → index_of (address_word h s i) ≡ i
-index_again h s i q = omega arith
-
-segment_small : (a : ℕ) → segment_of a < 2 ^ 24
-segment_small a = omega arith
+-- an address has the parts that it is made of
+pub parts_again : (h s i : ℕ) → s < 2 ^ 24 → i < 2 ^ 32 →
+    (home_of (address_word h s i) ≡ h) × (segment_of (address_word h s i) ≡ s) × (index_of (address_word h s i) ≡ i)
+parts_again h s i p q = (omega arith, omega arith, omega arith)
 
 -- ## a node
 
@@ -44,26 +37,20 @@ AllHead blocks header = (address : ℕ) (h : Header) → header address ≡ Some
 
 -- each entry of a node lies in its block, each header stands in front of one, and each copy has as many fields as
 -- its object
-pub record Keeps (blocks : ℕ → Option Block) (known : ℕ → Option Known) (a : Places) : Type 0 where
-  pub entries : (x : ℕ) (k : Known) → known x ≡ Some k → LiesIn blocks (a.place x) x k
-  pub unplaced : (x : ℕ) → known x ≡ None → a.place x ≡ None
-  pub headers : AllHead blocks a.header
+pub record KeepsAt (blocks : ℕ → Option Block) (known : ℕ → Option Known) (place : ℕ → Option Place) (header : ℕ → Option Header) : Type 0 where
+  pub entries : (x : ℕ) (k : Known) → known x ≡ Some k → LiesIn blocks (place x) x k
+  pub unplaced : (x : ℕ) → known x ≡ None → place x ≡ None
+  pub headers : AllHead blocks header
   pub full : (x : ℕ) (k : Known) (fields : List ViewField) → known x ≡ Some k → k.copy ≡ Some fields → length fields ≡ k.size
+
+abbrev pub Keeps : (ℕ → Option Block) → (ℕ → Option Known) → Places → Type 0
+Keeps blocks known a = KeepsAt blocks known a.place a.header
 
 -- ## nothing clashes
 
 none_below : (n : ℕ) (test : ℕ → Bool) → ((j : ℕ) → j < n → test j ≡ false) → any_below n test ≡ false
 none_below zero test h = refl
-none_below (suc n) test h =
-    let here : test n ≡ false = h n (omega arith) in
-    let rest : any_below n test ≡ false = none_below n test (λ j p. h j (omega (arith, p))) in
-    (λ i. here i || rest i)
-
-not_below : (a b : ℕ) → b ≤ a → nat_lt a b ≡ false
-not_below a b h = grind (arith, nat_tests)
-
-below_is : (a b : ℕ) → nat_lt a b ≡ true → a < b
-below_is a b h = grind (arith, nat_tests)
+none_below (suc n) test h = λ i. h n (omega arith) i || none_below n test (λ j p. h j (omega (arith, p))) i
 
 module _ (st : Setting) (w : World) (blocks : ℕ → Option Block) (are : AreBlocks st w blocks) (me : ℕ) where
   module _ (info : Info) (told : IsTold blocks info) where
@@ -96,18 +83,15 @@ module _ (st : Setting) (w : World) (blocks : ℕ → Option Block) (are : AreBl
                 (λ i. cond (eqb_of s i) (is_another info.name info.size h) (is_across info.size (index_of at) j h))
                 ∙ (λ i. not (eqb_of named i && eqb_of sized i))
             by_two (Apart f d) =
-                let small : j < 2 ^ 32 = omega (arith, below) in
-                let home : home_of (address_word (home_of at) (segment_of at) j) ≡ home_of at = home_again (home_of at) (segment_of at) j (segment_small at) small in
-                let segment : segment_of (address_word (home_of at) (segment_of at) j) ≡ segment_of at = segment_again (home_of at) (segment_of at) j (segment_small at) small in
-                let index : index_of (address_word (home_of at) (segment_of at) j) ≡ j = index_again (home_of at) (segment_of at) j small in
+                let parts = parts_again (home_of at) (segment_of at) j (omega arith) (omega (arith, below)) in
                 (λ i. cond (f i) (is_another info.name info.size h) (is_across info.size (index_of at) j h))
-                ∙ (λ i. overlaps (index_of at) (4 + info.size) (sym index i) (4 + sym of.sized i))
-                ∙ are.apart at (address_word (home_of at) (segment_of at) j) (block_of info) of.block told of.there (sym home) (sym segment)
-                (λ e. d (sym index ∙ ap index_of (sym e)))
+                ∙ (λ i. overlaps (index_of at) (4 + info.size) (sym parts.2 i) (4 + sym of.sized i))
+                ∙ are.apart at (address_word (home_of at) (segment_of at) j) (block_of info) of.block told of.there (sym parts.0) (sym parts.1)
+                (λ e. d (sym parts.2 ∙ ap index_of (sym e)))
 
     not_barred : (a : Places) → AllHead blocks a.header → ((s : ℕ) → a.handed s ≡ (w.places me).handed s) → is_barred me a info.name info.size at ≡ false
     not_barred a heads handed =
-        let inside : nat_lt 1024 (index_of at + (4 + info.size)) ≡ false = not_below 1024 (index_of at + (4 + info.size)) its.inside in
+        let inside : nat_lt 1024 (index_of at + (4 + info.size)) ≡ false = le-ltb 1024 (index_of at + (4 + info.size)) its.inside in
         let free : any_below 1024 (λ j. option_map_or (is_in_the_way info.name info.size (index_of at) j) (a.header (address_word (home_of at) (segment_of at) j)) false) ≡ false =
         none_below 1024 (λ j. option_map_or (is_in_the_way info.name info.size (index_of at) j) (a.header (address_word (home_of at) (segment_of at) j)) false) (no_way a.header heads) in
         (λ i. inside i || own (two (home_of at) me) i || free i)
@@ -117,7 +101,7 @@ module _ (st : Setting) (w : World) (blocks : ℕ → Option Block) (are : AreBl
             let within : index_of at + (4 + info.size) ≤ (w.places me).handed (segment_of at) =
             subst (λ (h : ℕ). index_of at + (4 + info.size) ≤ (w.places h).handed (segment_of at)) e its.handed in
             let here : index_of at + (4 + info.size) ≤ a.handed (segment_of at) = omega (arith, within, handed (segment_of at)) in
-            (λ i. eqb_of e i && not_below (a.handed (segment_of at)) (index_of at + (4 + info.size)) here i)
+            (λ i. eqb_of e i && le-ltb (a.handed (segment_of at)) (index_of at + (4 + info.size)) here i)
         own (Apart f d) = λ i. f i && nat_lt (a.handed (segment_of at)) (index_of at + (4 + info.size))
 
     -- what is known of it is told alike
@@ -146,16 +130,10 @@ module _ (st : Setting) (w : World) (blocks : ℕ → Option Block) (are : AreBl
                 by_tests true true n s =
                     let one : block_at info.name k old ≡ block_of info = some_same (sym there ∙ ap blocks (eqb_is old.address at s) ∙ told) in
                     let moves : old.moves ≡ info.place.moves = ap (λ (b : Block). b.moves) one in
-                    let more : old.moves < info.place.moves = below_is old.moves info.place.moves n in
+                    let more : old.moves < info.place.moves = ltb-true old.moves info.place.moves n in
                     absurd (omega arith)
 
 -- ## learning
-
-pub at_apart : {A : Type 0} (f : ℕ → A) (x y : ℕ) (v : A) → (x == y) ≡ false → put f x v y ≡ f y
-at_apart f x y v h = λ i. cond (h i) v (f y)
-
-pub at_same : {A : Type 0} (f : ℕ → A) (x y : ℕ) (v : A) → x ≡ y → put f x v y ≡ v
-at_same f x y v e = λ i. cond (eqb_of e i) v (f y)
 
 -- what holds of a number, and of each apart from it, holds of each
 at_each_number : (P : ℕ → Type 0) (x : ℕ) → P x → ((y : ℕ) → (x == y) ≡ false → P y) → (y : ℕ) → P y
@@ -167,34 +145,21 @@ at_each_number P x here else y = by_two (two x y)
 
 -- what holds where a function changed, and of it elsewhere, holds after the change
 pub put_each : {A : Type 0} (P : ℕ → A → Type 0) (f : ℕ → A) (x : ℕ) (v : A) → P x v → ((y : ℕ) → (x == y) ≡ false → P y (f y)) → (y : ℕ) → P y (put f x v y)
-put_each P f x v here else = at_each_number (λ y. P y (put f x v y)) x (subst (P x) (sym (at_same f x x v refl)) here)
-    (λ y h. subst (P y) (sym (at_apart f x y v h)) (else y h))
+put_each P f x v here else = at_each_number (λ y. P y (put f x v y)) x (subst (P x) (sym (put_same f x v)) here)
+    (λ y h. subst (P y) (sym (put_apart f x y v h)) (else y h))
 
 module _ (blocks : ℕ → Option Block) where
   put_head : (header : ℕ → Option Header) (at : ℕ) (new : Header) → AllHead blocks header → Heads blocks at new → AllHead blocks (put header at (Some new))
   put_head header at new all here = put_each (λ a o. (h : Header) → o ≡ Some h → Heads blocks a h) header at (Some new)
       (λ h e. subst (Heads blocks at) (some_same e) here) (λ a _. all a)
 
-  -- an old header that leads on
-  went_some : (a : Places) (old new : ℕ) (g : Header) → a.header old ≡ Some g → (with_went a old new).header old ≡ Some (record g { standing = Went new })
-  went_some a old new g is = rw (is, eqb_same old) refl
-
-  went_none : (a : Places) (old new : ℕ) → a.header old ≡ None → (with_went a old new).header old ≡ None
-  went_none a old new is = rw (is, eqb_same old) refl
-
+  -- an old header leads on
   went_head : (a : Places) (old new : ℕ) → AllHead blocks a.header → AllHead blocks (with_went a old new).header
-  went_head a old new all address h e = by_two (two old address)
+  went_head a old new all = put_each (λ address o. (h : Header) → o ≡ Some h → Heads blocks address h) a.header old _ (by_old (a.header old) refl) (λ address _. all address)
     where
-      by_two : Two old address → Heads blocks address h
-      by_two (Apart f d) = all address h (rw f at e)
-      by_two (Same s) = subst (λ (z : ℕ). Heads blocks z h) s (by_old (a.header old) refl (subst (λ (z : ℕ). (with_went a old new).header z ≡ Some h) (sym s) e))
-        where
-          by_old : (o : Option Header) → a.header old ≡ o → (with_went a old new).header old ≡ Some h → Heads blocks old h
-          by_old None is f = none_some (sym (went_none a old new is) ∙ f)
-          by_old (Some g) is f =
-              let of : Heads blocks old g = all old g is in
-              let same : record g { standing = Went new } ≡ h = some_same (sym (went_some a old new g is) ∙ f) in
-              record { block = of.block; there = of.there; named = of.named ∙ ap (λ (k : Header). k.name) same; sized = of.sized ∙ ap (λ (k : Header). k.size) same }
+      by_old : (o : Option Header) → a.header old ≡ o → (h : Header) → (with_went (record a { header = λ z. o }) 0 new).header 0 ≡ Some h → Heads blocks old h
+      by_old None is h f = none_some f
+      by_old (Some g) is h f = (let of : Heads blocks old g = all old g is in subst (Heads blocks old) (some_same f) (record { block = of.block; there = of.there; named = of.named; sized = of.sized }))
 
   went_keeps : (known : ℕ → Option Known) (a : Places) (old new : ℕ) → Keeps blocks known a → Keeps blocks known (with_went a old new)
   went_keeps known a old new keeps = record { entries = keeps.entries; unplaced = keeps.unplaced; headers = went_head a old new keeps.headers; full = keeps.full }
@@ -207,13 +172,13 @@ module _ (blocks : ℕ → Option Block) where
     entries = at_each_number (λ x. (j : Known) → after x ≡ Some j → LiesIn blocks (put a.place name (Some place) x) x j) name
         (λ j e. record {
           place = place;
-          lies = at_same a.place name name (Some place) refl;
+          lies = put_same a.place name (Some place);
           block = there ∙ ap (λ (i : Known). Some (block_at name i place)) (some_same (sym is ∙ e));
         })
         (λ x f j e. (let old : LiesIn blocks (a.place x) x j = keeps.entries x j (sym (others x f) ∙ e) in
-        record { place = old.place; lies = at_apart a.place name x (Some place) f ∙ old.lies; block = old.block }));
+        record { place = old.place; lies = put_apart a.place name x (Some place) f ∙ old.lies; block = old.block }));
     unplaced = at_each_number (λ x. after x ≡ None → put a.place name (Some place) x ≡ None) name (λ e. none_some (sym e ∙ is))
-        (λ x f e. at_apart a.place name x (Some place) f ∙ keeps.unplaced x (sym (others x f) ∙ e));
+        (λ x f e. put_apart a.place name x (Some place) f ∙ keeps.unplaced x (sym (others x f) ∙ e));
     headers = put_head a.header place.address (record { name = name; size = k.size; standing = Lives place.moves }) keeps.headers
         (record { block = block_at name k place; there = there; named = refl; sized = refl });
     full = at_each_number (λ x. (j : Known) (fields : List ViewField) → after x ≡ Some j → j.copy ≡ Some fields → length fields ≡ j.size) name
@@ -246,7 +211,7 @@ module _ (st : Setting) (w : World) (blocks : ℕ → Option Block) (are : AreBl
           Keeps blocks (cond (is_some k) known (put known info.name (Some (heard_of from info)))) (learn_at a info (a.place info.name))
       by_known None e = subst (λ (p : Option Place). Keeps blocks (put known info.name (Some (heard_of from info))) (learn_at a info p)) (sym (keeps.unplaced info.name e))
           (object_keeps blocks known (put known info.name (Some (heard_of from info))) a info.name (heard_of from info) info.place
-          (at_same known info.name info.name (Some (heard_of from info)) refl) (λ y f. at_apart known info.name y (Some (heard_of from info)) f)
+          (put_same known info.name (Some (heard_of from info))) (λ y f. put_apart known info.name y (Some (heard_of from info)) f)
           (λ fields c. none_some c) told keeps)
       by_known (Some k) e =
           let l : LiesIn blocks (a.place info.name) info.name k = keeps.entries info.name k e in
@@ -267,9 +232,6 @@ module _ (st : Setting) (w : World) (blocks : ℕ → Option Block) (are : AreBl
       (some_clash me from s.known a more ≡ false) × Keeps blocks (after_changes s (map (Hears from) more)).known (with_all_learnt a more)
   hears_all [] s a told keeps handed = (refl, keeps)
   hears_all (info ∷ more) s a told keeps handed =
-      let here : clashes me s.known a info ≡ false = no_clash st w blocks are me info told.0 s.known a keeps handed in
-      let rest : (some_clash me from (heard from s.known info) (with_learnt a info) more ≡ false)
-      × Keeps blocks (after_changes (after_change s (Hears from info)) (map (Hears from) more)).known (with_all_learnt (with_learnt a info) more) =
-      hears_all more (after_change s (Hears from info)) (with_learnt a info) told.1 (heard_keeps s.known a info told.0 keeps)
+      let rest = hears_all more (after_change s (Hears from info)) (with_learnt a info) told.1 (heard_keeps s.known a info told.0 keeps)
       (λ n. ap (λ (f : ℕ → ℕ). f n) (learnt_handed a info) ∙ handed n) in
-      ((λ i. here i || rest.0 i), rest.1)
+      ((λ i. no_clash st w blocks are me info told.0 s.known a keeps handed i || rest.0 i), rest.1)

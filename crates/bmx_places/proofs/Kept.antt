@@ -43,13 +43,13 @@ use Rattle.bmx_protocol.specs.Worlds.{World, world_of}
 use Rattle.bmx_protocol.proofs.Changing.{Each, each_append, after_append}
 use Rattle.bmx_store_laws.specs.Inside.Seen.{seen, seen_known, first_world}
 use Rattle.bmx_store_laws.specs.Laws.{IsCounted}
-use Rattle.bmx_protocol.proofs.Basics.{eqb_of, Two, Same, Apart, two, at_each, Every, every_append, none_some, some_same}
+use Rattle.bmx_protocol.proofs.Basics.{eqb_of, Two, Same, Apart, two, put_same, at_each, Every, every_append, none_some, some_same}
 use Rattle.bmx_store_laws.proofs.Copies.{NoGrants, GrantsNothing, note_grants}
 use Rattle.bmx_store_laws.proofs.Ruled.{FreeOf}
 use Rattle.bmx_store_laws.proofs.Channels.{slice_drop}
 use Rattle.bmx_store_laws.proofs.Histories.{Came, came_after, each_name}
 use Rattle.bmx_places.specs.Ledger.{Block, AreBlocks, block_of, LiesIn}
-use Rattle.bmx_places.proofs.Blocks.{at_same, IsTold, Keeps, hears_all, learnt_handed, same_shape, put_each, learnt_either}
+use Rattle.bmx_places.proofs.Blocks.{IsTold, Keeps, hears_all, learnt_handed, same_shape, put_each, learnt_either}
 use Rattle.bmx_places.proofs.Making.{Grows, keeps_grown, IsLaterThan, blocks_later, IsHome, with_block, made_or_old, home_made, handed_more, made_grows, made_blocks, made_keeps}
 use Rattle.bmx_places.proofs.Plain.{AllOf, Belongs, Plain, changes_kept, IsRight, IsDraft, sent_plain, letters_sent, IsSent}
 use Rattle.bmx_places.proofs.Outcomes.{NotStray, IsPlain, Comes, Plainly, New, act_plain, command_comes, known_plain, silent_drafts}
@@ -346,7 +346,7 @@ module _ (st : Setting) (past : List Event) (nodes : ℕ → Node) (e : Event) (
     counted = record {
       by_a_node = omega (arith, maker_is, fits.a_node);
       from_one = omega (arith, count_is);
-      made = (let now : (put nodes me after (maker x)).state.made ≡ s.made + 1 = ap (λ (z : Node). z.state.made) (at_same nodes me (maker x) after (sym maker_is)) ∙ made_then in omega (arith, now, count_is));
+      made = (let now : (put nodes me after (maker x)).state.made ≡ s.made + 1 = ap (λ (z : Node). z.state.made) (λ i. cond (eqb_of (sym maker_is) i) after (nodes (maker x))) ∙ made_then in omega (arith, now, count_is));
     }
 
     unnamed : (c : ℕ) (b : Block) → kept.blocks c ≡ Some b → b.name ≢ x
@@ -366,7 +366,7 @@ module _ (st : Setting) (past : List Event) (nodes : ℕ → Node) (e : Event) (
     more = with_block st w v kept.blocks kept.are me s.known x k (kept.homes me) of_store.2 room
 
     handed_is : (v.places me).handed ≡ (with_made me here.places x bunch size).handed
-    handed_is = ap (λ (z : Node). z.places.handed) (at_same nodes me me after refl) ∙ ap (λ (p : Places). p.handed) places_are
+    handed_is = ap (λ (z : Node). z.places.handed) (put_same nodes me after) ∙ ap (λ (p : Places). p.handed) places_are
 
     replicate_full : (fields : List ViewField) → k.copy ≡ Some fields → length fields ≡ size
     replicate_full fields c = ap length (sym (some_same c)) ∙ as_many size

@@ -1,6 +1,7 @@
 -- An object that is made lies in a new block: words that were never handed out before.
-use Rattle.std.proofs.Common.{◌≡◌, ◌≢◌, ◌⊎◌, inl, inr, ℕ, ◌+◌, ◌^◌, ◌<◌, ◌≤◌, arith, refl, ap, sym, subst, ◌∙◌, Bool, true, false, cond, List, length}
+use Rattle.std.proofs.Common.{◌≡◌, ◌≢◌, ◌⊎◌, inl, inr, ℕ, ◌+◌, ◌<◌, ◌≤◌, arith, refl, ap, sym, subst, ◌∙◌, Bool, true, false, cond, List, length}
 use Rattle.std.specs.Prelude.{nat_le, Option, Some, None}
+use Rattle.std.proofs.lemmas.Bool.{leb-true}
 use Rattle.std.proofs.lemmas.Bool.Decides.{nat_tests}
 use Rattle.bmx_types.specs.Words.{maker, address_word, home_of, segment_of, index_of}
 use Rattle.bmx_types.specs.Openings.{bunches_of}
@@ -8,12 +9,12 @@ use Rattle.bmx_types.specs.declared.addresses.Place.{Place}
 use Rattle.bmx_types.specs.Updates.{put}
 use Rattle.bmx_protocol.specs.declared.views.ViewField.{ViewField}
 use Rattle.bmx_protocol.specs.Nodes.{Setting, Known}
-use Rattle.bmx_protocol.specs.Places.{Places, has_room, with_segment, with_room, with_placed, with_made, overlaps}
+use Rattle.bmx_protocol.specs.Places.{Header, Places, has_room, with_segment, with_room, with_placed, with_made, overlaps}
 use Rattle.bmx_protocol.specs.Worlds.{World}
-use Rattle.bmx_protocol.proofs.Basics.{some_same}
+use Rattle.bmx_protocol.proofs.Basics.{put_same, put_apart, some_same}
 use Rattle.bmx_store_laws.specs.Laws.{IsCounted}
 use Rattle.bmx_places.specs.Ledger.{Block, IsBlock, AreBlocks, LiesIn, Heads}
-use Rattle.bmx_places.proofs.Blocks.{at_same, at_apart, home_again, segment_again, index_again, Keeps, object_keeps, put_each}
+use Rattle.bmx_places.proofs.Blocks.{parts_again, KeepsAt, Keeps, object_keeps, put_each}
 
 -- ## ledgers that grow
 
@@ -144,7 +145,7 @@ module _ (me : ℕ) (a : Places) (home : IsHome a) (bunch size : ℕ) where
   with_segment_room : size ≤ 32 → a.made < 6000000 → HasRoom a (with_segment me a bunch) bunch (4 + size)
   with_segment_room small few = record {
     segment = a.made + 1;
-    open_for = at_same a.opened bunch bunch (Some (a.made + 1)) refl;
+    open_for = put_same a.opened bunch (Some (a.made + 1));
     home = record {
       opened = put_each (λ c o. (s : ℕ) → o ≡ Some s → s ≤ a.made + 1) a.opened bunch (Some (a.made + 1))
           (λ s e. (let same : a.made + 1 ≡ s = some_same e in omega arith)) (λ c _ s e. omega (arith, home.opened c s e));
@@ -152,7 +153,7 @@ module _ (me : ℕ) (a : Places) (home : IsHome a) (bunch size : ℕ) where
       within = λ s. omega (arith, same s, home.within s);
       few = omega (arith, few);
     };
-    fits = (let none : put a.handed (a.made + 1) 0 (a.made + 1) ≡ 0 = at_same a.handed (a.made + 1) (a.made + 1) 0 refl in omega (arith, none, small));
+    fits = (let none : put a.handed (a.made + 1) 0 (a.made + 1) ≡ 0 = put_same a.handed (a.made + 1) 0 in omega (arith, none, small));
     handed = same;
     place = refl;
     header = refl;
@@ -160,9 +161,6 @@ module _ (me : ℕ) (a : Places) (home : IsHome a) (bunch size : ℕ) where
     where
       same : (s : ℕ) → put a.handed (a.made + 1) 0 s ≡ a.handed s
       same = put_each (λ s n. n ≡ a.handed s) a.handed (a.made + 1) 0 (sym (home.above (a.made + 1) (omega arith))) (λ s _. refl)
-
-  le_is : (m n : ℕ) → nat_le m n ≡ true → m ≤ n
-  le_is m n h = grind (arith, nat_tests)
 
   finds_room : size ≤ 32 → (has_room a (a.opened bunch) (4 + size) ≡ false → a.made < 6000000) → HasRoom a (with_room me a bunch size) bunch (4 + size)
   finds_room small few = by_opened (a.opened bunch) refl few
@@ -174,7 +172,7 @@ module _ (me : ℕ) (a : Places) (home : IsHome a) (bunch size : ℕ) where
         where
           by_test : (b : Bool) → nat_le (a.handed segment + (4 + size)) 1024 ≡ b → (b ≡ false → a.made < 6000000) → HasRoom a (cond b a (with_segment me a bunch)) bunch (4 + size)
           by_test false is few = with_segment_room small (few refl)
-          by_test true is few = record { segment = segment; open_for = e; home = home; fits = le_is _ _ is; handed = λ s. refl; place = refl; header = refl }
+          by_test true is few = record { segment = segment; open_for = e; home = home; fits = leb-true _ _ is; handed = λ s. refl; place = refl; header = refl }
 
 -- ## making
 
@@ -208,20 +206,8 @@ module _ (st : Setting) (w v : World) (blocks : ℕ → Option Block) (are : Are
   made_is : with_made me a x k.bunch k.size ≡ with_placed me roomy x k.size (Some r.segment)
   made_is = ap (with_placed me roomy x k.size) r.open_for
 
-  seg_small : r.segment < 2 ^ 24
-  seg_small = omega (arith, r.home.opened k.bunch r.segment r.open_for, r.home.few)
-
-  index_small : roomy.handed r.segment < 2 ^ 32
-  index_small = omega (arith, r.fits)
-
-  home_is : home_of word ≡ me
-  home_is = home_again me r.segment (roomy.handed r.segment) seg_small index_small
-
-  segment_is : segment_of word ≡ r.segment
-  segment_is = segment_again me r.segment (roomy.handed r.segment) seg_small index_small
-
-  index_is : index_of word ≡ roomy.handed r.segment
-  index_is = index_again me r.segment (roomy.handed r.segment) index_small
+  word_is : (home_of word ≡ me) × (segment_of word ≡ r.segment) × (index_of word ≡ roomy.handed r.segment)
+  word_is = parts_again me r.segment (roomy.handed r.segment) (omega (arith, r.home.opened k.bunch r.segment r.open_for, r.home.few)) (omega (arith, r.fits))
 
   abbrev ends : ℕ
   ends = roomy.handed r.segment + (4 + k.size)
@@ -247,11 +233,11 @@ module _ (st : Setting) (w v : World) (blocks : ℕ → Option Block) (are : Are
       (unnamed : (c : ℕ) (b : Block) → blocks c ≡ Some b → b.name ≢ x) where
     in_its_segment : IsBlock st v word its_block
     in_its_segment = record {
-      home = omega (arith, home_is, real);
+      home = omega (arith, word_is.0, real);
       handed = (let now : (v.places (home_of word)).handed (segment_of word) ≡ roomy.handed r.segment + (4 + k.size) =
-          (λ i. (v.places (home_is i)).handed (segment_is i)) ∙ ap (λ (f : ℕ → ℕ). f r.segment) places ∙ handed_is r.segment ∙ at_same roomy.handed r.segment r.segment _ refl in
-          omega (arith, now, index_is));
-      inside = omega (arith, index_is, r.fits);
+          (λ i. (v.places (word_is.0 i)).handed (word_is.1 i)) ∙ ap (λ (f : ℕ → ℕ). f r.segment) places ∙ handed_is r.segment ∙ put_same roomy.handed r.segment _ in
+          omega (arith, now, word_is.2));
+      inside = omega (arith, word_is.2, r.fits);
       counted = counted;
       bunch = bunch;
       size = small;
@@ -259,8 +245,8 @@ module _ (st : Setting) (w v : World) (blocks : ℕ → Option Block) (are : Are
 
     behind : (w.places (home_of word)).handed (segment_of word) ≤ index_of word
     behind =
-        let now : (w.places (home_of word)).handed (segment_of word) ≡ roomy.handed r.segment = (λ i. (w.places (home_is i)).handed (segment_is i)) ∙ sym (r.handed r.segment) in
-        omega (arith, now, index_is)
+        let now : (w.places (home_of word)).handed (segment_of word) ≡ roomy.handed r.segment = (λ i. (w.places (word_is.0 i)).handed (word_is.1 i)) ∙ sym (r.handed r.segment) in
+        omega (arith, now, word_is.2)
 
     pub made_grows : Grows blocks with_block
     made_grows = block_added st w v blocks word its_block later are in_its_segment behind unnamed
@@ -270,14 +256,7 @@ module _ (st : Setting) (w v : World) (blocks : ℕ → Option Block) (are : Are
 
     pub made_keeps : Keeps blocks known a → ((fields : List ViewField) → k.copy ≡ Some fields → length fields ≡ k.size) → Keeps with_block (put known x (Some k)) (with_made me a x k.bunch k.size)
     made_keeps keeps full = subst (Keeps with_block (put known x (Some k))) (sym made_is)
-        (object_keeps with_block known (put known x (Some k)) (record roomy { handed = put roomy.handed r.segment (roomy.handed r.segment + (4 + k.size)) }) x k
-        (record { address = word; moves = 0 }) (at_same known x x (Some k) refl) (λ y f. at_apart known x y (Some k) f) full
-        (at_same blocks word word (Some its_block) refl) (moved (keeps_grown blocks with_block made_grows known a keeps)))
-      where
-        moved : Keeps with_block known a → Keeps with_block known (record roomy { handed = put roomy.handed r.segment (roomy.handed r.segment + (4 + k.size)) })
-        moved keeps = record {
-          entries = λ y j e. subst (λ (p : Option Place). LiesIn with_block p y j) (λ i. sym r.place i y) (keeps.entries y j e);
-          unplaced = λ y e. (λ i. r.place i y) ∙ keeps.unplaced y e;
-          headers = λ address h e. keeps.headers address h ((λ i. sym r.header i address) ∙ e);
-          full = keeps.full;
-        }
+        (object_keeps with_block known (put known x (Some k)) (record roomy { handed = put roomy.handed r.segment ends }) x k
+        (record { address = word; moves = 0 }) (put_same known x (Some k)) (λ y f. put_apart known x y (Some k) f) full
+        (put_same blocks word (Some its_block))
+        (subst (λ (p : (ℕ → Option Place) × (ℕ → Option Header)). KeepsAt with_block known p.0 p.1) (λ i. (sym r.place i, sym r.header i)) (keeps_grown blocks with_block made_grows known a keeps)))

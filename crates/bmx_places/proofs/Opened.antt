@@ -18,20 +18,12 @@ use Rattle.bmx_protocol.specs.Steps.{first_node, nowhere}
 use Rattle.bmx_protocol.specs.Worlds.{World, world_of}
 use Rattle.bmx_protocol.proofs.Births.{In, Distinct, every_in, every_of, in_contains, found, numbered_above, in_bunches, of_bunches, all_bunches, distinct_bunches, learns, learns_in, distinct, ordered, known_first, anchors, anchors_of, known_told}
 use Rattle.bmx_store_laws.specs.Laws.{IsCounted}
-use Rattle.bmx_protocol.proofs.Basics.{Every, none_some, some_same, eqb_apart}
+use Rattle.bmx_protocol.proofs.Basics.{Every, none_some, some_same, eqb_apart, put_same, put_apart}
 use Rattle.bmx_places.specs.Ledger.{Block, AreBlocks, block_at, LiesIn, IsOf, block_of}
-use Rattle.bmx_places.proofs.Blocks.{at_same, at_apart, Keeps, object_keeps, no_clash}
+use Rattle.bmx_places.proofs.Blocks.{Keeps, object_keeps, no_clash}
 use Rattle.bmx_places.proofs.Making.{IsLaterThan, blocks_later, IsHome, with_block, made_or_old, home_made, handed_more, made_blocks, made_keeps}
 use Rattle.bmx_places.proofs.Plain.{AllOf}
 use Rattle.bmx_places.proofs.Kept.{Kept, none_yet}
-
-keeps_same : (blocks : ℕ → Option Block) (known after : ℕ → Option Known) (a : Places) → ((x : ℕ) → after x ≡ known x) → Keeps blocks known a → Keeps blocks after a
-keeps_same blocks known after a same keeps = record {
-  entries = λ x k e. keeps.entries x k (sym (same x) ∙ e);
-  unplaced = λ x e. keeps.unplaced x (sym (same x) ∙ e);
-  headers = keeps.headers;
-  full = λ x k fields e c. keeps.full x k fields (sym (same x) ∙ e) c;
-}
 
 no_home : IsHome no_places
 no_home = record { opened = λ b s e. none_some e; above = λ s h. refl; within = λ s. omega arith; few = omega arith }
@@ -186,7 +178,7 @@ module _ (st : Setting) (opening : IsOpening st.nodes st.limit st.births) where
       (distinct_bunches st.births (distinct st opening) (bunches_of st.births)) (omega (arith, few_ordered)) nobody
 
   owner_keeps : Keeps placed.blocks (first_known st 0) owned
-  owner_keeps = keeps_same placed.blocks (learns owned_birth (λ x. None) (ordered st opening)) (first_known st 0) owned (known_first st opening owned_birth) placed.keeps
+  owner_keeps = subst (λ (known : ℕ → Option Known). Keeps placed.blocks known owned) (λ i x. sym (known_first st opening owned_birth x) i) placed.keeps
 
   -- ## other nodes
 
@@ -207,8 +199,8 @@ module _ (st : Setting) (opening : IsOpening st.nodes st.limit st.births) where
       let l : LiesIn placed.blocks (owned.place b.name) b.name (owned_birth b) = lies_there b of.0 in
       told_keeps bs (put known b.name (Some (heard_birth b))) (told_place a (owned.place b.name) b) of.1
       (subst (λ (p : Option Place). Keeps placed.blocks (put known b.name (Some (heard_birth b))) (told_place a p b)) (sym l.lies)
-      (object_keeps placed.blocks known (put known b.name (Some (heard_birth b))) a b.name (heard_birth b) l.place (at_same known b.name b.name (Some (heard_birth b)) refl)
-      (λ y f. at_apart known b.name y (Some (heard_birth b)) f) (λ fields c. none_some c) l.block keeps))
+      (object_keeps placed.blocks known (put known b.name (Some (heard_birth b))) a b.name (heard_birth b) l.place (put_same known b.name (Some (heard_birth b)))
+      (λ y f. put_apart known b.name y (Some (heard_birth b)) f) (λ fields c. none_some c) l.block keeps))
 
   told_home : (bs : List Birth) (a : Places) → IsHome a → IsHome (with_told owned a bs)
   told_home [] a h = h
@@ -250,7 +242,8 @@ module _ (st : Setting) (opening : IsOpening st.nodes st.limit st.births) where
       Keeps placed.blocks (λ x. cond t (option_map owned_birth (birth_of st x)) (cond (u && is_anchor st x) (option_map heard_birth (birth_of st x)) None))
       (cond t owned (cond u (with_told owned no_places (anchors st opening)) no_places))
   node_keeps n true u e f = owner_keeps
-  node_keeps n false true e f = keeps_same placed.blocks (learns heard_birth (λ x. None) (anchors st opening)) _ (with_told owned no_places (anchors st opening)) (known_told st opening heard_birth)
+  node_keeps n false true e f = subst (λ (known : ℕ → Option Known). Keeps placed.blocks known (with_told owned no_places (anchors st opening)))
+      (λ i x. sym (known_told st opening heard_birth x) i)
       (told_keeps (anchors st opening) (λ x. None) no_places (anchors_of st opening) (no_keeps placed.blocks (λ x. None) (λ x. refl)))
   node_keeps n false false e f = no_keeps placed.blocks _ (λ x. refl)
 

@@ -1,5 +1,0 @@
-use Rattle.bmx_places.proofs.Always.{blocks_are_kept}
-use Rattle.bmx_places.proofs.laws.blocks_are_kept.Goals as goal
-
-pub returns : goal.returns
-returns c = blocks_are_kept
