@@ -49,10 +49,10 @@ use Rattle.bmx_store_laws.proofs.Shares.{shares_changed, all_spared}
 use Rattle.bmx_store_laws.proofs.Lifted.{write_excludes}
 use Rattle.bmx_coherence.specs.Graphs.{graph_answer, act_of, acts_of, graph_after}
 use Rattle.bmx_coherence.proofs.Flight.{flight_more, taken_flies}
-use Rattle.bmx_coherence.proofs.Parts.{held_of, want_of, IsPart, Leaves, parts_left, fields_kept, object_kept, part_else, HasKept}
-use Rattle.bmx_coherence.proofs.Answers.{Ungranting, IsOwnStore, IsShown, IsSteady, IsAbout, notes_ungranting, NamesIt, takes, target_same, IsUncrossed, command_shown}
+use Rattle.bmx_coherence.proofs.Parts.{held_of, want_of, known_of, IsPart, Leaves, parts_left, fields_kept, object_kept, part_else, HasKept}
+use Rattle.bmx_coherence.proofs.Answers.{Ungranting, IsOwnStore, IsShown, IsSteady, notes_ungranting, NamesIt, command_shown}
 use Rattle.bmx_coherence.proofs.Transitions.{LeavesIt, served_each, took_each, BringsFields, EachBrings, heard_values, served_brings}
-use Rattle.bmx_coherence.proofs.Waits.{taken_by, wanted_at, waited, IsWaitingWith, alike_waits, command_waits}
+use Rattle.bmx_coherence.proofs.Waits.{wanted_at, waited, IsWaitingWith, alike_waits, Before, Fresh, Again}
 use Rattle.bmx_coherence.proofs.Moments.{IsMoment, came, sound, real, aware, new_unknown, IsAlonePer, alone_per, beside_copy, beside_grant, knows_it}
 
 -- what stands after events
@@ -335,37 +335,21 @@ module _ (st : Setting) (past : List Event) (nodes : ℕ → Node) (e : Event) (
 
   -- ## commands
 
-  steady : IsSteady me s g
+  steady : IsSteady st me s g
   steady = record {
     part = ev.stands.parts me;
     copied = λ x k m is held. (sound st past nodes ev.stands.now me x k is).holder_has m held;
     new = new_unknown st past nodes ev.stands.now me ev.fits.few me;
+    aware = λ on x of means. aware st past nodes ev.stands.now me x on g ev.fits.a_node (ev.stands.parts me) of means;
   }
 
   -- the command is the one that the node waits with, if it waits
-  again : (c : Command) → e.input ≡ input.Do c → (waiting ≡ None) ⊎ (waiting ≡ Some c)
-  again c is = by_waiting waiting refl
+  before : (c : Command) → e.input ≡ input.Do c → Before me s c
+  before c is = by_waiting waiting refl
     where
-      by_waiting : (w : Option Command) → waiting ≡ w → (waiting ≡ None) ⊎ (waiting ≡ Some c)
-      by_waiting None at = inl at
-      by_waiting (Some d) at = inr (at ∙ ap (λ (f : Command). Some f) (sym (subst (λ (w : Option Command). IsAgain w (input.Do c)) at (subst (IsAgain waiting) is ev.fits.again))))
-
-  -- what it wants of what the operand means is what the command takes
-  uncrossed : (c : Command) → e.input ≡ input.Do c → (m : Mode) (on : Operand) → c ≡ takes me s g steady m on → IsUncrossed me s g steady m on
-  uncrossed c is m on same x means n wants = by_again (again c is)
-    where
-      taken : taken_by me s c ≡ Some (m, x)
-      taken = ap (taken_by me s) same ∙ by_mode m ∙ (λ i. option_map (λ (y : ℕ). (m, y)) (target_same me s g steady on i)) ∙ (λ i. option_map (λ (y : ℕ). (m, y)) (means i))
-        where
-          by_mode : (k : Mode) → taken_by me s (takes me s g steady k on) ≡ option_map (λ y. (k, y)) (target_of (seen_graph me s) me on)
-          by_mode mode.Read = refl
-          by_mode mode.Write = refl
-
-      by_again : (waiting ≡ None) ⊎ (waiting ≡ Some c) → n ≡ m
-      by_again (inl none) =
-          (let both : Some n ≡ None = sym wants ∙ (ev.stands.waits me).wants x ∙ ap (λ (w : Option Command). wanted_at (waited me s w) x) none in absurd cc)
-      by_again (inr at) = some_same (sym wants ∙ (ev.stands.waits me).wants x ∙ ap (λ (w : Option Command). wanted_at (waited me s w) x) at
-          ∙ ap (λ (t : Option (Mode × ℕ)). wanted_at t x) taken ∙ (λ i. cond (eqb_of {a = x} refl i) (Some m) None))
+      by_waiting : (w : Option Command) → waiting ≡ w → Before me s c
+      by_waiting None at = Fresh (λ y. (ev.stands.waits me).wants y ∙ ap (λ (w : Option Command). wanted_at (waited me s w) y) at)
+      by_waiting (Some d) at = Again (subst (IsWaitingWith me s) (at ∙ ap (λ (f : Command). Some f) (sym (subst (λ (w : Option Command). IsAgain w (input.Do c)) at (subst (IsAgain waiting) is ev.fits.again)))) (ev.stands.waits me))
 
   -- where it then holds an object, no other node keeps it from it
   free : (o : Reaction) → o ≡ rule st me s ev.step.told e.input → (m : Mode) (x : ℕ) → held_of ((after_changes s o.changes).known x) ≡ Some m → is_excluded m g me x ≡ false
@@ -377,18 +361,14 @@ module _ (st : Setting) (past : List Event) (nodes : ℕ → Node) (e : Event) (
       here : held_of ((nodes_after me).state.known x) ≡ Some m
       here = (λ i. held_of ((cond (eqb_of {a = me} refl i) after (nodes me)).state.known x)) ∙ ap (λ (f : ℕ → Option Known). held_of (f x)) (known_after o is) ∙ held
 
-      held_known : (k : Option Known) (n : Mode) → held_of k ≡ Some n → (j : Known) × (k ≡ Some j) × (j.part.held ≡ Some n)
-      held_known None n h = absurd cc
-      held_known (Some j) n h = (j, refl, h)
-
       some_held : (j : Known) (n : Mode) → j.part.held ≡ Some n → IsSome j.part.held
       some_held j n h = subst (λ (o : Option Mode). IsSome o) (sym h) refl
 
       -- both hold it, and one of them for writing
       both : (n k : ℕ) (b : Mode) → held_of ((nodes_after n).state.known x) ≡ Some mode.Write → held_of ((nodes_after k).state.known x) ≡ Some b → k ≡ n
       both n k b writes holds =
-          let i : (j : Known) × ((nodes_after n).state.known x ≡ Some j) × (j.part.held ≡ Some mode.Write) = held_known _ mode.Write writes in
-          let j : (j : Known) × ((nodes_after k).state.known x ≡ Some j) × (j.part.held ≡ Some b) = held_known _ b holds in
+          let i : (j : Known) × ((nodes_after n).state.known x ≡ Some j) × (j.part.held ≡ Some mode.Write) = known_of (λ l. l.part.held) _ mode.Write writes in
+          let j : (j : Known) × ((nodes_after k).state.known x ≡ Some j) × (j.part.held ≡ Some b) = known_of (λ l. l.part.held) _ b holds in
           write_excludes st (past ++ e ∷ []) nodes_after ev.next.opening ev.next.legal ev.next.after n k x i.0 j.0
           (real st (past ++ e ∷ []) nodes_after ev.next n x i.0 i.1) (real st (past ++ e ∷ []) nodes_after ev.next k x j.0 j.1) i.1 j.1 i.2 (some_held j.0 b j.2)
 
@@ -408,17 +388,6 @@ module _ (st : Setting) (past : List Event) (nodes : ℕ → Node) (e : Event) (
           let d : k ≡ me → ⊥ = eqb_not k me q in
           excluded k (eqb_apart me k (λ same. d (sym same))) d m here (g.held k x) ((ev.stands.parts k).held x)
 
-  -- the operand that a command is about is of the store
-  about_of : (c : Command) (on : Operand) → IsAbout c on → IsCommandOf st c → IsOperandOf st on
-  about_of (command.Read f) on is of = subst (IsOperandOf st) (some_same is) of
-  about_of (command.Write f) on is of = subst (IsOperandOf st) (some_same is) of
-  about_of (command.Done f) on is of = subst (IsOperandOf st) (some_same is) of
-  about_of (command.Set f index value) on is of = subst (IsOperandOf st) (some_same is) of.0
-  about_of (command.Add f index by) on is of = subst (IsOperandOf st) (some_same is) of
-  about_of (command.Get register f index) on is of = subst (IsOperandOf st) (some_same is) of.1
-  about_of (command.Show f index) on is of = subst (IsOperandOf st) (some_same is) of
-  about_of _ on is of = absurd cc
-
   command_seen : (c : Command) → e.input ≡ input.Do c → (o : Reaction) → o ≡ command_rule me s ev.step.told.full ev.step.told.lies c (about c) → IsSeen st past nodes e after o
   command_seen c is o same = record {
     effect_is = shown.effect_is;
@@ -430,9 +399,7 @@ module _ (st : Setting) (past : List Event) (nodes : ℕ → Node) (e : Event) (
     own = shown.own;
     names = shown.names;
     waits = subst (IsWaitingWith me (after_changes s o.changes))
-        ((λ i. cond (is_wait (sym answered i)) (Some c) None) ∙ ap (λ (j : Input). waits_after waiting j e.done.answer) (sym is))
-        (subst (λ (p : Reaction). IsWaitingWith me (after_changes s p.changes) (cond (is_wait p.answer) (Some c) None)) (sym same)
-        (command_waits me s waiting ev.step.told.full ev.step.told.lies c (ev.stands.waits me) (again c is)));
+        ((λ i. cond (is_wait (sym answered i)) (Some c) None) ∙ ap (λ (j : Input). waits_after waiting j e.done.answer) (sym is)) shown.waits;
   }
     where
       ruled : o ≡ rule st me s ev.step.told e.input
@@ -442,11 +409,8 @@ module _ (st : Setting) (past : List Event) (nodes : ℕ → Node) (e : Event) (
       answered = answer_same o ruled
 
       shown : IsShown me s g c o
-      shown = subst (IsShown me s g c) (sym same) (command_shown me s g steady ev.step.told.full ev.step.told.lies c (record {
-        aware = λ on x on_it means. aware st past nodes ev.stands.now me x on g ev.fits.a_node (ev.stands.parts me) (about_of c on on_it (subst (IsInputOf st) is ev.fits.an_input)) means;
-        free = λ m on taken x means held. free o ruled m x (ap (λ (p : Reaction). held_of ((after_changes s p.changes).known x)) same ∙ held);
-        uncrossed = uncrossed c is;
-      }))
+      shown = subst (IsShown me s g c) (sym same) (command_shown st me s g steady ev.step.told.full ev.step.told.lies c (subst (IsInputOf st) is ev.fits.an_input) (before c is)
+          (λ m x held. free o ruled m x (ap (λ (p : Reaction). held_of ((after_changes s p.changes).known x)) same ∙ held)))
 
       act : Act
       act = record { node = me; command = c; answer = shown.answer_is }

@@ -29,6 +29,16 @@ held_of k = option_map_or (λ j. j.part.held) k None
 abbrev pub want_of : Option Known → Option Mode
 want_of k = option_map_or (λ j. j.part.want) k None
 
+-- what is there is something
+pub some_is : {A : Type 0} (o : Option A) → is_some o ≡ true → (a : A) × (o ≡ Some a)
+some_is None e = absurd cc
+some_is (Some a) e = (a, refl)
+
+-- what is held or wanted in a mode is known
+pub known_of : (of : Known → Option Mode) (k : Option Known) (m : Mode) → option_map_or of k None ≡ Some m → (j : Known) × (k ≡ Some j) × (of j ≡ Some m)
+known_of of None m e = none_some e
+known_of of (Some j) m e = (j, refl, e)
+
 -- a node's state is its part of the graph
 pub record IsPart (me : ℕ) (s : NodeState) (g : State) : Type 0 where
   pub register : (r : ℕ) → s.register r ≡ g.register me r
@@ -170,17 +180,17 @@ IsReadyFor me s _ = Unit {0}
 pub effect_part : (me : ℕ) (s : NodeState) (g : State) (e : Effect) → IsReadyFor me s e → IsPart me s g → IsPart me (after_changes s (graph_changes me s e)) (changed g me e)
 effect_part me s g Nothing ready p = p
 effect_part me s g (SetsOne register v) ready p = record { register = register_put me s g register v p; held = p.held; made = p.made; copies = p.copies }
-effect_part me s g (Stores name index v) ready p = by_known (s.known name) refl ready
+effect_part me s g (Stores name index v) ready p = subst (λ (o : Option Known). IsPart me (after_changes s (stored name o index v)) (changed g me (Stores name index v))) (sym k.1)
+    (part_knows me s g (changed g me (Stores name index v)) name (with_field index v k.0)
+    (record { register = λ r. refl; held = λ x h. refl; made = refl; objects = λ x h. sym (put_apart g.object name x (Some (slice_set (fields_of g name) index v)) h) })
+    (record {
+      held = sym (ap held_of k.1) ∙ p.held name;
+      fields = λ fields h. put_same g.object name (Some (slice_set (fields_of g name) index v))
+          ∙ stored_fields g name index v k.0.copy (λ old e. p.copies name old (ap fields_known k.1 ∙ e)) fields h;
+    }) p)
   where
-    by_known : (k : Option Known) → s.known name ≡ k → is_some k ≡ true → IsPart me (after_changes s (stored name k index v)) (changed g me (Stores name index v))
-    by_known None is some = absurd cc
-    by_known (Some k) is some = part_knows me s g (changed g me (Stores name index v)) name (with_field index v k)
-        (record { register = λ r. refl; held = λ x h. refl; made = refl; objects = λ x h. sym (put_apart g.object name x (Some (slice_set (fields_of g name) index v)) h) })
-        (record {
-          held = sym (ap held_of is) ∙ p.held name;
-          fields = λ fields h. put_same g.object name (Some (slice_set (fields_of g name) index v))
-              ∙ stored_fields g name index v k.copy (λ old e. p.copies name old (ap fields_known is ∙ e)) fields h;
-        }) p
+    k : (j : Known) × (s.known name ≡ Some j)
+    k = some_is (s.known name) ready
 effect_part me s g (MakesOne register bunch size) ready p = record {
   register = λ r. register_put me s g register (val.Ref name) p r ∙ (λ i. put_at g.register me register (val.Ref (named i)) me r);
   held = put_each (λ x k. held_of k ≡ g.held me x) s.known name new (sym (ap held_of ready) ∙ p.held name) (λ x h. p.held x);
