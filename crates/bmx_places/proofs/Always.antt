@@ -92,36 +92,24 @@ module _ (st : Setting) (history : List Event) (nodes : ℕ → Node) (opening :
   }
 
   -- a shape is that of a block
-  record Shaped (x bunch size : ℕ) : Type 0 where
-    address : ℕ
-    block : Block
-    there : k.blocks address ≡ Some block
-    named : block.name ≡ x
-    bunch_is : block.bunch ≡ bunch
-    size_is : block.size ≡ size
-
-  shaped : (x bunch size : ℕ) → HasShape w x bunch size → Shaped x bunch size
+  shaped : (x bunch size : ℕ) → HasShape w x bunch size → (a : ℕ) × (b : Block) × (k.blocks a ≡ Some b) × (b.name ≡ x) × (b.bunch ≡ bunch) × (b.size ≡ size)
   shaped x bunch size (KnownAt n j e b s) =
       let l : LiesIn k.blocks ((nodes n).places.place x) x j = (k.keeps n).entries x j e in
-      record { address = l.place.address; block = block_at x j l.place; there = l.block; named = refl; bunch_is = b; size_is = s }
-  shaped x bunch size (ToldIn n m l info there within named b s) =
-      record { address = info.place.address; block = block_of info; there = info_told n m l info there within; named = named; bunch_is = b; size_is = s }
+      (l.place.address, block_at x j l.place, l.block, refl, b, s)
+  shaped x bunch size (ToldIn n m l info there within named b s) = (info.place.address, block_of info, info_told n m l info there within, named, b, s)
 
   shapes : law.ShapesAgree w
   shapes = record {
     shapes = λ x bunch size ob os h g. (let a = shaped x bunch size h in let c = shaped x ob os g in
-        let same : (a.block.bunch ≡ c.block.bunch) × (a.block.size ≡ c.block.size) = k.are.one_shape a.address c.address a.block c.block a.there c.there (a.named ∙ sym c.named) in
-        (sym a.bunch_is ∙ same.0 ∙ c.bunch_is, sym a.size_is ∙ same.1 ∙ c.size_is));
+        let same : (a.1.bunch ≡ c.1.bunch) × (a.1.size ≡ c.1.size) = k.are.one_shape a.0 c.0 a.1 c.1 a.2 c.2 (a.3 ∙ sym c.3) in
+        (sym a.4 ∙ same.0 ∙ c.4, sym a.5 ∙ same.1 ∙ c.5));
     records = λ n m x bunch size r e h. (let a = shaped x bunch size h in let of : IsOf k.blocks x r.bunch = k.records n x m r e in
-        sym of.of ∙ (k.are.one_shape of.address a.address of.block a.block of.there a.there (of.named ∙ sym a.named)).0 ∙ a.bunch_is);
+        sym of.of ∙ (k.are.one_shape of.address a.0 of.block a.1 of.there a.2 (of.named ∙ sym a.3)).0 ∙ a.4);
   }
 
   -- a place is that of a block
-  record Lying (x : ℕ) (p : Place) : Type 0 where
-    block : Block
-    there : k.blocks p.address ≡ Some block
-    named : block.name ≡ x
-    moves : block.moves ≡ p.moves
+  abbrev Lying : ℕ → Place → Type 0
+  Lying x p = (b : Block) × (k.blocks p.address ≡ Some b) × (b.name ≡ x) × (b.moves ≡ p.moves)
 
   lying : (x : ℕ) (p : Place) → HasPlace w x p → Lying x p
   lying x p (At n e) = by_known ((nodes n).state.known x) refl
@@ -130,16 +118,14 @@ module _ (st : Setting) (history : List Event) (nodes : ℕ → Node) (opening :
       by_known None f = none_some (sym ((k.keeps n).unplaced x f) ∙ e)
       by_known (Some j) f =
           let l : LiesIn k.blocks ((nodes n).places.place x) x j = (k.keeps n).entries x j f in
-          let same : l.place ≡ p = some_same (sym l.lies ∙ e) in
-          subst (Lying x) same (record { block = block_at x j l.place; there = l.block; named = refl; moves = refl })
-  lying x p (Between n m l info there within named at) =
-      subst (Lying x) at (record { block = block_of info; there = info_told n m l info there within; named = named; moves = refl })
+          subst (Lying x) (some_same (sym l.lies ∙ e)) (block_at x j l.place, l.block, refl, refl)
+  lying x p (Between n m l info there within named at) = subst (Lying x) at (block_of info, info_told n m l info there within, named, refl)
 
   places : law.PlacesAgree w
   places = record {
     one = λ x p q h g moves. (let a = lying x p h in let c = lying x q g in
-        k.are.one_address p.address q.address a.block c.block a.there c.there (a.named ∙ sym c.named) (a.moves ∙ moves ∙ sym c.moves));
-    newest = λ x p q h g. (let a = lying x p h in omega (arith, a.moves, k.still p.address a.block a.there));
+        k.are.one_address p.address q.address a.0 c.0 a.1 c.1 (a.2 ∙ sym c.2) (a.3 ∙ moves ∙ sym c.3));
+    newest = λ x p q h g. (let a = lying x p h in omega (arith, a.3, k.still p.address a.0 a.1));
     placed = λ n x j e. subst IsSome (sym ((k.keeps n).entries x j e).lies) refl;
   }
 
@@ -149,7 +135,7 @@ module _ (st : Setting) (history : List Event) (nodes : ℕ → Node) (opening :
   next_taken : (from me stamp : ℕ) (l : Letter) (rest : List Letter) (done : Done) (then : Node) → from < st.nodes → me < st.nodes → in_flight from me history ≡ l ∷ rest →
       IsStep st me (nodes me) stamp (input.Take from l) done then → done.answer ≡ answer.Nil
   next_taken from me stamp l rest done then real real_me first step =
-      let t : IsTakeable st me from (nodes me) l = next_is_takeable st history nodes opening legal after k.blocks k.are k.still me from (k.keeps me) k.letters l rest first real_me real in
+      let t : IsTakeable st k.blocks me from (nodes me) l = next_is_takeable st history nodes opening legal after k.blocks k.are k.still me from (k.keeps me) k.letters l rest first real_me real in
       ap (λ (d : Done). d.answer) step.outcome
       ∙ (λ i. (cond (t.good i || (step.is_told.clash ∙ t.calm) i) (only answer.Stray) (took s step.told.lies from l.seq l.msg (s.known (name_in l.msg)) (note_transition me from (note_in l.msg) (option_map share_of (s.known (name_in l.msg)))))).answer)
       ∙ ap (λ (o : Option Transition). (took s step.told.lies from l.seq l.msg (s.known (name_in l.msg)) o).answer) t.turns

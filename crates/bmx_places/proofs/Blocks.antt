@@ -26,6 +26,11 @@ pub parts_again : (h s i : ℕ) → s < 2 ^ 24 → i < 2 ^ 32 →
     (home_of (address_word h s i) ≡ h) × (segment_of (address_word h s i) ≡ s) × (index_of (address_word h s i) ≡ i)
 parts_again h s i p q = (omega arith, omega arith, omega arith)
 
+-- what follows for one follows for each of a list
+pub every_map : {A : Type 0} (P Q : A → Type 0) → ((x : A) → P x → Q x) → (xs : List A) → Every P xs → Every Q xs
+every_map P Q f [] h = tt
+every_map P Q f (x ∷ xs) h = (f x h.0, every_map P Q f xs h.1)
+
 -- ## a node
 
 -- what an Info tells is of a block

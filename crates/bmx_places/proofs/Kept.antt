@@ -4,6 +4,7 @@ use Rattle.std.specs.Prelude.{◌==◌, ◌&&◌, ◌||◌, not, nat_lt, nat_le,
 use Rattle.std.specs.Option.{option_map, option_map_or}
 use Rattle.std.specs.List.{flat_map}
 use Rattle.std.proofs.lemmas.Bool.Decides.{nat_tests}
+use Rattle.std.proofs.lemmas.List.{length-map, length-replicate}
 use Rattle.std.proofs.lemmas.List.Sums.{sum_by-append}
 use Rattle.std.proofs.lemmas.Nat.{div-mul-add, mod-mul-add}
 use Rattle.bmx_types.specs.Words.{maker, count_of}
@@ -49,11 +50,11 @@ use Rattle.bmx_store_laws.proofs.Ruled.{FreeOf}
 use Rattle.bmx_store_laws.proofs.Channels.{slice_drop}
 use Rattle.bmx_store_laws.proofs.Histories.{Came, came_after, each_name}
 use Rattle.bmx_places.specs.Ledger.{Block, AreBlocks, block_of, LiesIn}
-use Rattle.bmx_places.proofs.Blocks.{IsTold, Keeps, hears_all, learnt_handed, same_shape, put_each, learnt_either}
+use Rattle.bmx_places.proofs.Blocks.{every_map, IsTold, Keeps, hears_all, learnt_handed, same_shape, put_each, learnt_either}
 use Rattle.bmx_places.proofs.Making.{Grows, keeps_grown, IsLaterThan, blocks_later, IsHome, with_block, made_or_old, home_made, handed_more, made_grows, made_blocks, made_keeps}
 use Rattle.bmx_places.proofs.Plain.{AllOf, Belongs, Plain, changes_kept, IsRight, IsDraft, sent_plain, letters_sent, IsSent}
 use Rattle.bmx_places.proofs.Outcomes.{NotStray, IsPlain, Comes, Plainly, New, act_plain, command_comes, known_plain, silent_drafts}
-use Rattle.bmx_places.proofs.Next.{IsIssued, EachIssued, every_at, all_issued, IsTakeable, next_is_takeable}
+use Rattle.bmx_places.proofs.Next.{Goes, IssuesRight, EachIssued, IsTakeable, next_is_takeable}
 
 -- ## how many events there are
 
@@ -108,26 +109,18 @@ none_yet (suc k) = omega (arith, none_yet k)
 -- ## one more event
 
 right_grown : (blocks more : ℕ → Option Block) → Grows blocks more → (m : Msg) → IsRight blocks m → IsRight more m
-right_grown blocks more grows m r = record { told = each (infos m) r.told; full = r.full }
-  where
-    each : (list : List Info) → Every (IsTold blocks) list → Every (IsTold more) list
-    each [] h = tt
-    each (info ∷ list) h = (grows info.place.address (block_of info) h.0, each list h.1)
-
-sent_grown : (blocks more : ℕ → Option Block) → Grows blocks more → (letters : List Sending) → Every (λ (l : Sending). IsIssued blocks l.letter) letters → Every (λ (l : Sending). IsIssued more l.letter) letters
-sent_grown blocks more grows [] h = tt
-sent_grown blocks more grows (l ∷ letters) h = (record { right = right_grown blocks more grows l.letter.msg h.0.right; stamp = h.0.stamp }, sent_grown blocks more grows letters h.1)
+right_grown blocks more grows m r =
+    record { told = every_map (IsTold blocks) (IsTold more) (λ info h. grows info.place.address (block_of info) h) (infos m) r.told; full = r.full }
 
 issued_grown : (blocks more : ℕ → Option Block) → Grows blocks more → (past : List Event) → EachIssued blocks past → EachIssued more past
-issued_grown blocks more grows [] h = tt
-issued_grown blocks more grows (e ∷ past) h = (sent_grown blocks more grows e.done.letters h.0, issued_grown blocks more grows past h.1)
+issued_grown blocks more grows = every_map (IssuesRight blocks) (IssuesRight more) (λ e.
+    every_map (Goes blocks) (Goes more) (λ l h. record { right = right_grown blocks more grows l.letter.msg h.right; stamp = h.stamp }) e.done.letters)
 
 records_grown : (blocks more : ℕ → Option Block) → Grows blocks more → (entering : _) → AllOf blocks entering → AllOf more entering
 records_grown blocks more grows entering all x m r e = (let of = all x m r e in record { address = of.address; block = of.block; there = grows of.address of.block of.there; named = of.named; of = of.of })
 
-stamped : (blocks : ℕ → Option Block) (stamp : ℕ) → stamp < 2 ^ 62 → (letters : List Sending) → Every (IsSent blocks stamp) letters → Every (λ (l : Sending). IsIssued blocks l.letter) letters
-stamped blocks stamp small [] h = tt
-stamped blocks stamp small (l ∷ letters) h = (record { right = h.0.right; stamp = omega (arith, h.0.stamped, small) }, stamped blocks stamp small letters h.1)
+stamped : (blocks : ℕ → Option Block) (stamp : ℕ) → stamp < 2 ^ 62 → (letters : List Sending) → Every (IsSent blocks stamp) letters → Every (Goes blocks) letters
+stamped blocks stamp small = every_map (IsSent blocks stamp) (Goes blocks) (λ l h. record { right = h.right; stamp = omega (arith, h.stamped, small) })
 
 -- changes only add to the names made
 made_more : (changes : List Change) (s : NodeState) → s.made ≤ (after_changes s changes).made
@@ -222,7 +215,7 @@ module _ (st : Setting) (past : List Event) (nodes : ℕ → Node) (e : Event) (
     homes = λ n. at_each (λ (z : Node). IsHome z.places) nodes me after k.home n (kept.homes n);
     keeps = λ n. at_each (λ (z : Node). Keeps more z.state.known z.places) nodes me after k.keeps n (keeps_grown kept.blocks more k.grows (nodes n).state.known (nodes n).places (kept.keeps n));
     records = λ n. at_each (λ (z : Node). AllOf more z.state.entering) nodes me after k.records n (records_grown kept.blocks more k.grows (nodes n).state.entering (kept.records n));
-    letters = every_append (λ (f : Event). Every (λ (l : Sending). IsIssued more l.letter) f.done.letters) past (e ∷ []) (issued_grown kept.blocks more k.grows past kept.letters) (stamped more e.stamp small_stamp e.done.letters k.letters, tt);
+    letters = every_append (IssuesRight more) past (e ∷ []) (issued_grown kept.blocks more k.grows past kept.letters) (stamped more e.stamp small_stamp e.done.letters k.letters, tt);
     answers = every_append (λ (f : Event). NotStray f.done.answer) past (e ∷ []) kept.answers (k.answer, tt);
     few = few_after;
     all = all_after;
@@ -369,11 +362,7 @@ module _ (st : Setting) (past : List Event) (nodes : ℕ → Node) (e : Event) (
     handed_is = ap (λ (z : Node). z.places.handed) (put_same nodes me after) ∙ ap (λ (p : Places). p.handed) places_are
 
     replicate_full : (fields : List ViewField) → k.copy ≡ Some fields → length fields ≡ size
-    replicate_full fields c = ap length (sym (some_same c)) ∙ as_many size
-      where
-        as_many : (n : ℕ) → length (replicate n field.Null) ≡ n
-        as_many zero = refl
-        as_many (suc n) = ap suc (as_many n)
+    replicate_full fields c = ap length (sym (some_same c)) ∙ length-replicate size field.Null
 
     grown : Grows kept.blocks more
     grown = made_grows st w v kept.blocks kept.are me s.known x k (kept.homes me) of_store.2 room then_later fits.a_node handed_is of_store.1 counted unnamed
@@ -388,12 +377,9 @@ module _ (st : Setting) (past : List Event) (nodes : ℕ → Node) (e : Event) (
           (made_keeps st w v kept.blocks kept.are me s.known x k (kept.homes me) of_store.2 room then_later fits.a_node handed_is of_store.1 counted unnamed (kept.keeps me) replicate_full));
       records = subst (AllOf more) (sym (ap (λ (t : NodeState). t.entering) state_then)) (records_grown kept.blocks more grown s.entering (kept.records me));
       letters = subst (Every (IsSent more e.stamp)) (sym (letters_are o from_rule ∙ ap (letters_of e.stamp s) makes)) tt;
-      answer = λ stray. nil_is_not (sym (ap (λ (p : Reaction). p.answer) makes) ∙ sym (answer_is o from_rule) ∙ stray);
+      answer = λ stray. (let both : answer.Nil ≡ answer.Stray = sym (ap (λ (p : Reaction). p.answer) makes) ∙ sym (answer_is o from_rule) ∙ stray in cc);
     })
       where
-        nil_is_not : answer.Nil ≡ answer.Stray → ⊥
-        nil_is_not h = cc
-
         still : (c : ℕ) (b : Block) → more c ≡ Some b → b.moves ≡ 0
         still c b there = by_which (made_or_old st w v kept.blocks kept.are me s.known x k (kept.homes me) of_store.2 room c b there)
           where
@@ -436,7 +422,7 @@ module _ (st : Setting) (past : List Event) (nodes : ℕ → Node) (e : Event) (
     first = slice_drop (issued from me past) (length (taken from me past)) l
         (subst (λ (p : List Event). slice_get (issued from me past) (length (arrived from me p)) ≡ Some l) (sym (all_taken past kept.answers)) (subst (IsNext past me) is fits.next))
 
-    takeable : IsTakeable st me from here l
+    takeable : IsTakeable st kept.blocks me from here l
     takeable = next_is_takeable st past nodes opening legal reached kept.blocks kept.are kept.still me from (kept.keeps me) kept.letters l rest first fits.a_node (subst (IsInputOf st) is fits.an_input)
 
     abbrev o : Reaction
@@ -451,10 +437,6 @@ module _ (st : Setting) (past : List Event) (nodes : ℕ → Node) (e : Event) (
         ∙ (λ i. cond (sym takeable.good i || sym calm i) (only answer.Stray) (took s step.told.lies from l.seq m (s.known (name_in m)) (note_transition me from (note_in m) (option_map share_of (s.known (name_in m))))))
         ∙ ap (rule st me s step.told) (sym is)
 
-    its : IsIssued kept.blocks l
-    its = every_at (IsIssued kept.blocks) (issued from me past) (length (taken from me past)) l (all_issued (IsIssued kept.blocks) from me past kept.letters)
-        (subst (λ (p : List Event). slice_get (issued from me past) (length (arrived from me p)) ≡ Some l) (sym (all_taken past kept.answers)) (subst (IsNext past me) is fits.next))
-
     -- once its Infos were heard
     abbrev t : NodeState
     t = after_changes s (map (Hears from) (infos m))
@@ -463,7 +445,7 @@ module _ (st : Setting) (past : List Event) (nodes : ℕ → Node) (e : Event) (
     learnt = with_all_learnt here.places (infos m)
 
     heard : (some_clash me from s.known here.places (infos m) ≡ false) × Keeps kept.blocks t.known learnt
-    heard = hears_all st w kept.blocks kept.are me from (infos m) s here.places its.right.told (kept.keeps me) (λ n. refl)
+    heard = hears_all st w kept.blocks kept.are me from (infos m) s here.places takeable.issued.right.told (kept.keeps me) (λ n. refl)
 
     abbrev known_changes : List Change
     known_changes = known_change (name_in m) (s.known (name_in m)) (copy_after m (s.known (name_in m))) takeable.turn.after
@@ -472,29 +454,20 @@ module _ (st : Setting) (past : List Event) (nodes : ℕ → Node) (e : Event) (
     got_changes = got_change from l.seq (name_in m) (note_in m)
 
     -- the copy that it brings, or that there was, is whole
+    brought : (info : Info) (told : List Field) → IsTold kept.blocks info → length told ≡ info.size → (k : Known) → s.known info.name ≡ Some k →
+        (fields : List ViewField) → Some (map heard_field told) ≡ Some fields → length fields ≡ k.size
+    brought info told of size k known fields e =
+        let at : LiesIn kept.blocks (here.places.place info.name) info.name k = (kept.keeps me).entries info.name k known in
+        ap length (sym (some_same e)) ∙ length-map told heard_field ∙ size ∙ sym (same_shape st w kept.blocks kept.are me info of at.place k at.block).1
+
     copy_full : (m : Msg) → IsRight kept.blocks m → (k : Known) → s.known (name_in m) ≡ Some k → (fields : List ViewField) → copy_after m (Some k) ≡ Some fields → length fields ≡ k.size
-    copy_full m right k known fields c = by_msg m right known c
-      where
-        as_many : (told : List Field) → length (map heard_field told) ≡ length told
-        as_many [] = refl
-        as_many (f ∷ told) = ap suc (as_many told)
-
-        brought : (info : Info) (told : List Field) → IsTold kept.blocks info → length told ≡ info.size → s.known info.name ≡ Some k → Some (map heard_field told) ≡ Some fields → length fields ≡ k.size
-        brought info told of size known e =
-            let at : LiesIn kept.blocks (here.places.place info.name) info.name k = (kept.keeps me).entries info.name k known in
-            ap length (sym (some_same e)) ∙ as_many told ∙ size ∙ sym (same_shape st w kept.blocks kept.are me info of at.place k at.block).1
-
-        by_msg : (m : Msg) → IsRight kept.blocks m → s.known (name_in m) ≡ Some k → copy_after m (Some k) ≡ Some fields → length fields ≡ k.size
-        by_msg (msg.ReadReq name asker) right known c = (kept.keeps me).full name k fields known c
-        by_msg (msg.WriteReq name asker) right known c = (kept.keeps me).full name k fields known c
-        by_msg (msg.ReadGrant info told) right known c = brought info told right.told.0 (right.full (info, told) refl) known c
-        by_msg (msg.WriteGrant info told) right known c = brought info told right.told.0 (right.full (info, told) refl) known c
-        by_msg (msg.Inval name) right known c = (kept.keeps me).full name k fields known c
-        by_msg (msg.InvAck name) right known c = (kept.keeps me).full name k fields known c
+    copy_full (msg.ReadGrant info told) right k known fields c = brought info told right.told.0 (right.full (info, told) refl) k known fields c
+    copy_full (msg.WriteGrant info told) right k known fields c = brought info told right.told.0 (right.full (info, told) refl) k known fields c
+    copy_full m right k known fields c = (kept.keeps me).full (name_in m) k fields known c
 
     known_plainly : (k : Option Known) → s.known (name_in m) ≡ k → Each (Plain t.known) (known_change (name_in m) k (copy_after m k) takeable.turn.after)
     known_plainly None e = tt
-    known_plainly (Some k) e = known_plain t.known (name_in m) k (copy_after m (Some k)) takeable.turn.after (hears_stays from (infos m) s (name_in m) k e) (copy_full m its.right k e)
+    known_plainly (Some k) e = known_plain t.known (name_in m) k (copy_after m (Some k)) takeable.turn.after (hears_stays from (infos m) s (name_in m) k e) (copy_full m takeable.issued.right k e)
 
     got_plainly : (n : Note) (k : Option Known) → s.known (name_in m) ≡ k → note_transition me from n (option_map share_of k) ≡ Some takeable.turn → Each (Plain t.known) (got_change from l.seq (name_in m) n)
     got_plainly (Grants mode.Write) None e turns = none_some turns

@@ -3,6 +3,7 @@ use Rattle.std.proofs.Common.{◌≡◌, ◌≢◌, ℕ, ◌+◌, ◌^◌, ◌<�
 use Rattle.std.specs.Prelude.{◌==◌, ◌&&◌, ◌||◌, not, nat_lt, nat_le, Option, Some, None, IsSome, slice_get, Contains}
 use Rattle.std.specs.Option.{option_map, option_map_or}
 use Rattle.std.specs.List.{list_any}
+use Rattle.std.proofs.lemmas.Bool.{ltb-true, ltb-false, le-ltb, lt-leb}
 use Rattle.std.proofs.lemmas.Bool.Decides.{nat_tests}
 use Rattle.std.proofs.lemmas.List.Sums.{sum_by-cons}
 use Rattle.bmx_types.specs.Words.{maker, count_of, home_of}
@@ -43,8 +44,15 @@ pub record IsIssued (blocks : ℕ → Option Block) (l : Letter) : Type 0 where
   pub right : IsRight blocks l.msg
   pub stamp : l.stamp < 2 ^ 62
 
+-- letters that go out, and those that an event issues, are so
+abbrev pub Goes : (ℕ → Option Block) → Sending → Type 0
+Goes blocks l = IsIssued blocks l.letter
+
+abbrev pub IssuesRight : (ℕ → Option Block) → Event → Type 0
+IssuesRight blocks e = Every (Goes blocks) e.done.letters
+
 abbrev pub EachIssued : (ℕ → Option Block) → List Event → Type 0
-EachIssued blocks past = Every (λ (e : Event). Every (λ (l : Sending). IsIssued blocks l.letter) e.done.letters) past
+EachIssued blocks past = Every (IssuesRight blocks) past
 
 pub every_at : {A : Type 0} (P : A → Type 0) (a : List A) (i : ℕ) (x : A) → Every P a → slice_get a i ≡ Some x → P x
 every_at P [] i x h e = none_some e
@@ -81,22 +89,11 @@ first_there xs x rest e = subst (λ ys. Contains ys x) (sym e) (0, omega arith, 
 no_node : (st : Setting) (n : ℕ) → n < st.nodes → is_no_node st n ≡ false
 no_node st n h = grind (arith, nat_tests)
 
-lt_not : (a b : ℕ) → b ≤ a → nat_lt a b ≡ false
-lt_not a b h = grind (arith, nat_tests)
-
-le_not : (a b : ℕ) → b < a → nat_le a b ≡ false
-le_not a b h = grind (arith, nat_tests)
-
-lt_is : (a b : ℕ) → nat_lt a b ≡ true → a < b
-lt_is a b h = grind (arith, nat_tests)
-
-lt_else : (a b : ℕ) → nat_lt a b ≡ false → a < b → ⊥
-lt_else a b h less = (let both : true ≡ false = sym (grind (arith, nat_tests)) ∙ h in cc)
-
 -- ## the letter
 
 -- what taking a letter needs: another sender, nothing bad, no clash, and a transition
-pub record IsTakeable (st : Setting) (me from : ℕ) (n : Node) (l : Letter) : Type 0 where
+pub record IsTakeable (st : Setting) (blocks : ℕ → Option Block) (me from : ℕ) (n : Node) (l : Letter) : Type 0 where
+  pub issued : IsIssued blocks l
   pub good : is_bad_letter st me n.state from l ≡ false
   pub calm : some_clash me from n.state.known n.places (infos l.msg) ≡ false
   pub turn : Transition
@@ -147,7 +144,7 @@ module _ (st : Setting) (past : List Event) (nodes : ℕ → Node) (opening : Is
       own : Two (maker y) me → (maker y == me && nat_lt s.made (count_of y)) ≡ false
       own (Same e) =
           let made : count_of y ≤ s.made = subst (λ (n : ℕ). count_of y ≤ (nodes n).state.made) e c.made in
-          (λ i. eqb_of e i && lt_not s.made (count_of y) made i)
+          (λ i. eqb_of e i && le-ltb s.made (count_of y) made i)
       own (Apart f d) = λ i. f i && nat_lt s.made (count_of y)
 
   its_name : is_no_name st me s x ≡ false
@@ -159,10 +156,10 @@ module _ (st : Setting) (past : List Event) (nodes : ℕ → Node) (opening : Is
       let b : IsBlock st w info.place.address (block_of info) = are.each info.place.address (block_of info) told in
       let moves : info.place.moves ≡ 0 = still info.place.address (block_of info) told in
       let name : is_no_name st me s info.name ≡ false = name_not info.name b.counted in
-      let bunch : nat_le (bunches_of st.births) info.bunch ≡ false = le_not (bunches_of st.births) info.bunch b.bunch in
+      let bunch : nat_le (bunches_of st.births) info.bunch ≡ false = lt-leb (bunches_of st.births) info.bunch b.bunch in
       let home : is_no_node st (home_of info.place.address) ≡ false = no_node st (home_of info.place.address) b.home in
-      let size : nat_lt 32 info.size ≡ false = lt_not 32 info.size b.size in
-      let few : nat_le too_large info.place.moves ≡ false = le_not too_large info.place.moves (omega (arith, moves)) in
+      let size : nat_lt 32 info.size ≡ false = le-ltb 32 info.size b.size in
+      let few : nat_le too_large info.place.moves ≡ false = lt-leb too_large info.place.moves (omega (arith, moves)) in
       (λ i. name i || bunch i || home i || size i || few i)
 
   infos_not : (more : List Info) → Every (IsTold blocks) more → list_any (is_bad_info st me s) more ≡ false
@@ -187,10 +184,10 @@ module _ (st : Setting) (past : List Event) (nodes : ℕ → Node) (opening : Is
           ∙ (λ i. cond {A = ℕ} (eqb_same x i && (ap (is_request_of m a) e ∙ self m) i) 1 0 + letters_about x (is_request_of m a) rest)
 
       by_test : (b : Bool) → nat_lt a st.nodes ≡ b → is_no_node st a ≡ false
-      by_test true h = no_node st a (lt_is a st.nodes h)
+      by_test true h = no_node st a (ltb-true a st.nodes h)
       by_test false h =
           let none : times_at w x m a (Asked from me) ≡ 0 = (wants_stand_once st past nodes opening legal after x).others m a
-          (λ waits. none_some (sym (came.beyond a (lt_else a st.nodes h)) ∙ ap seen_known waits.knows)) (Asked from me) in
+          (λ waits. none_some (sym (came.beyond a (λ less. omega (arith, less, ltb-false a st.nodes h))) ∙ ap seen_known waits.knows)) (Asked from me) in
           absurd (omega (arith, none, counted))
 
   asker_not : option_map_or (is_no_node st) (asker_in l.msg) false ≡ false
@@ -214,7 +211,7 @@ module _ (st : Setting) (past : List Event) (nodes : ℕ → Node) (opening : Is
   letter_not : is_bad_letter st me s from l ≡ false
   letter_not =
       let sender : (from == me) ≡ false = eqb_apart from me apart in
-      let stamp : nat_le too_large l.stamp ≡ false = le_not too_large l.stamp its.stamp in
+      let stamp : nat_le too_large l.stamp ≡ false = lt-leb too_large l.stamp its.stamp in
       (λ i. sender i || no_node st from real i || not (eqb_of its_number i) || stamp i || msg_not i)
 
   -- it has its transition
@@ -232,8 +229,9 @@ module _ (st : Setting) (past : List Event) (nodes : ℕ → Node) (opening : Is
       by_turn None e h = absurd cc
       by_turn (Some t) e h = (t, e)
 
-  pub next_is_takeable : IsTakeable st me from (nodes me) l
+  pub next_is_takeable : IsTakeable st blocks me from (nodes me) l
   next_is_takeable = record {
+    issued = its;
     good = letter_not;
     calm = (hears_all st w blocks are me from (infos l.msg) s (nodes me).places its.right.told keeps (λ n. refl)).0;
     turn = its_turn.0;

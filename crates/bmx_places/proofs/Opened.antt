@@ -1,7 +1,9 @@
 -- The ledger that a store opens with: the blocks of its births, in the order in which they are placed.
 use Rattle.std.proofs.Common.{◌≡◌, ◌≢◌, ◌⊎◌, inl, inr, ℕ, ◌+◌, ◌*◌, ◌^◌, ◌<◌, ◌≤◌, arith, refl, ap, sym, subst, ◌∙◌, Bool, true, false, cond, List, [], ◌∷◌, map, length, zero, suc, length-append}
-use Rattle.std.specs.Prelude.{◌==◌, ◌&&◌, nat_lt, Option, Some, None, filter, slice_get, unwrap_or}
+use Rattle.std.specs.Prelude.{not, ◌==◌, ◌&&◌, nat_lt, Option, Some, None, filter, slice_get, unwrap_or}
 use Rattle.std.specs.Option.{option_map}
+use Rattle.std.proofs.lemmas.List.{length-map}
+use Rattle.std.proofs.lemmas.List.Filters.{length-filter_both}
 use Rattle.bmx_types.specs.Words.{maker, count_of}
 use Rattle.bmx_types.specs.Openings.{IsOpening, bunches_of}
 use Rattle.bmx_types.specs.declared.openings.Birth.{Birth}
@@ -37,10 +39,6 @@ no_keeps blocks known none = record {
 }
 
 -- ## node 0
-
-fields_long : (fields : List Val) → length (map field_of fields) ≡ length fields
-fields_long [] = refl
-fields_long (f ∷ fields) = ap suc (fields_long fields)
 
 most_made : (a : Places) (x bunch size : ℕ) → (with_made 0 a x bunch size).made ≤ a.made + 1
 most_made a x bunch size = by_room (has_room a (a.opened bunch) (4 + size))
@@ -118,7 +116,7 @@ module _ (st : Setting) (opening : IsOpening st.nodes st.limit st.births) where
       still = λ c d e. still c d (which c d e);
       home = home_made st (world_at a) v p.blocks p.are 0 known b.name (owned_birth b) p.home small (λ h. few);
       keeps = made_keeps st (world_at a) v p.blocks p.are 0 known b.name (owned_birth b) p.home small (λ h. few) later opening.a_node refl (in_bunches st.births b there) (counted b there (with_made 0 a b.name b.bunch (length b.fields))) unnamed p.keeps
-          (λ fields c. ap length (sym (some_same c)) ∙ fields_long b.fields);
+          (λ fields c. ap length (sym (some_same c)) ∙ length-map b.fields field_of);
       fresh = λ c d e. fresh c d (which c d e);
     }
       where
@@ -143,17 +141,9 @@ module _ (st : Setting) (opening : IsOpening st.nodes st.limit st.births) where
   few_ordered : length (ordered st opening) ≤ 5120000
   few_ordered = omega (arith, all (bunches_of st.births), opening.born.few, opening.born.bunches)
     where
-      kept_few : (t : Birth → Bool) (bs : List Birth) → length (filter t bs) ≤ length bs
-      kept_few t [] = omega arith
-      kept_few t (c ∷ bs) = by_test (t c) (kept_few t bs)
-        where
-          by_test : (z : Bool) → length (filter t bs) ≤ length bs → length (cond z (c ∷ filter t bs) (filter t bs)) ≤ length (c ∷ bs)
-          by_test true h = omega (arith, h)
-          by_test false h = omega (arith, h)
-
       all : (n : ℕ) → length (by_bunch st.births n) ≤ n * 320000
       all zero = omega arith
-      all (suc n) = omega (arith, all n, kept_few (λ b. b.bunch == n) st.births, opening.born.few, length-append (by_bunch st.births n) (filter (λ b. b.bunch == n) st.births))
+      all (suc n) = omega (arith, all n, length-filter_both (λ (b : Birth). b.bunch == n) (λ b. not (b.bunch == n)) (λ b. refl) st.births, opening.born.few, length-append (by_bunch st.births n) (filter (λ b. b.bunch == n) st.births))
 
   abbrev owned : Places
   owned = owner_places st

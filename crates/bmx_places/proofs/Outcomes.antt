@@ -1,8 +1,9 @@
 -- What a rule comes to for blocks: plain changes and messages of known objects, or a new object; and that no rule
 -- but that of a letter answers that it is stray.
-use Rattle.std.proofs.Common.{◌≡◌, ◌≢◌, ℕ, refl, ap, sym, subst, ◌∙◌, Bool, true, false, cond, List, [], ◌∷◌, map, length, zero, suc}
+use Rattle.std.proofs.Common.{◌≡◌, ◌≢◌, ℕ, refl, ap, sym, subst, ◌∙◌, Bool, true, false, cond, List, [], ◌∷◌, map, length, length-set}
 use Rattle.std.specs.Prelude.{Option, Some, None, is_some, unwrap_or, slice_set, filter_map}
 use Rattle.std.specs.Option.{option_map, option_map_or}
+use Rattle.std.proofs.lemmas.List.{length-map}
 use Rattle.bmx_types.specs.declared.values.Val.{Val}
 use Rattle.bmx_types.specs.declared.values.Val.TheVariants as val
 use Rattle.bmx_types.specs.declared.commands.Command.{Command}
@@ -106,23 +107,14 @@ module _ (blocks : ℕ → Option Block) (s : NodeState) (a : Places) (lies : �
       by_known None e = absurd ((refers y e).0 refl)
       by_known (Some k) e = (k, e)
 
-  fields_told : (fields : List ViewField) → Refers fields → Every (IsTold blocks) (filter_map info_in (map (told_field s lies) fields))
-  fields_told [] refers = tt
-  fields_told (field.Null ∷ fields) refers = fields_told fields (λ x e. (refers x e).1)
-  fields_told (field.Int k ∷ fields) refers = fields_told fields (λ x e. (refers x e).1)
+  fields_told : (fields : List ViewField) → Refers fields →
+      Every (IsTold blocks) (filter_map info_in (map (told_field s lies) fields)) × Every (IsKnown s.known) (targets (map (told_field s lies) fields))
+  fields_told [] refers = (tt, tt)
   fields_told (field.Ref y ∷ fields) refers =
       let k : IsKnown s.known y = ref_known y fields refers in
-      (info_told y k.0 k.1, fields_told fields (λ x e. (refers x e).1))
-
-  targets_known : (fields : List ViewField) → Refers fields → Every (IsKnown s.known) (targets (map (told_field s lies) fields))
-  targets_known [] refers = tt
-  targets_known (field.Null ∷ fields) refers = targets_known fields (λ x e. (refers x e).1)
-  targets_known (field.Int k ∷ fields) refers = targets_known fields (λ x e. (refers x e).1)
-  targets_known (field.Ref y ∷ fields) refers = (ref_known y fields refers, targets_known fields (λ x e. (refers x e).1))
-
-  length_told : (fields : List ViewField) → length (map (told_field s lies) fields) ≡ length fields
-  length_told [] = refl
-  length_told (f ∷ fields) = ap suc (length_told fields)
+      let rest = fields_told fields (λ x e. (refers x e).1) in
+      ((info_told y k.0 k.1, rest.0), (k, rest.1))
+  fields_told (f ∷ fields) refers = fields_told fields (λ x e. (refers x e).1)
 
   module _ (name : ℕ) (k : Known) (is : s.known name ≡ Some k) where
     fields_are : told_fields s lies name ≡ map (told_field s lies) (unwrap_or k.copy [])
@@ -131,11 +123,8 @@ module _ (blocks : ℕ → Option Block) (s : NodeState) (a : Places) (lies : �
     its_fields : Refers (unwrap_or k.copy [])
     its_fields x none = aware x none name k is
 
-    all_told : Every (IsTold blocks) (filter_map info_in (told_fields s lies name))
-    all_told = subst (λ (f : List Field). Every (IsTold blocks) (filter_map info_in f)) (sym fields_are) (fields_told (unwrap_or k.copy []) its_fields)
-
-    all_known : Every (IsKnown s.known) (targets (told_fields s lies name))
-    all_known = subst (λ (f : List Field). Every (IsKnown s.known) (targets f)) (sym fields_are) (targets_known (unwrap_or k.copy []) its_fields)
+    all_told : Every (IsTold blocks) (filter_map info_in (told_fields s lies name)) × Every (IsKnown s.known) (targets (told_fields s lies name))
+    all_told = subst (λ (f : List Field). Every (IsTold blocks) (filter_map info_in f) × Every (IsKnown s.known) (targets f)) (sym fields_are) (fields_told (unwrap_or k.copy []) its_fields)
 
     all_there : is_some k.copy ≡ true → length (told_fields s lies name) ≡ (info_of s lies name).size
     all_there has = by_copy k.copy refl has
@@ -143,7 +132,7 @@ module _ (blocks : ℕ → Option Block) (s : NodeState) (a : Places) (lies : �
         by_copy : (c : Option (List ViewField)) → k.copy ≡ c → is_some c ≡ true → length (told_fields s lies name) ≡ (info_of s lies name).size
         by_copy None e h = absurd cc
         by_copy (Some fields) e h =
-            ap length fields_are ∙ (λ i. length (map (told_field s lies) (unwrap_or (e i) []))) ∙ length_told fields
+            ap length fields_are ∙ (λ i. length (map (told_field s lies) (unwrap_or (e i) []))) ∙ length-map fields (told_field s lies)
             ∙ keeps.full name k fields is e ∙ (λ i. option_map_or (λ (j : Known). j.size) (sym is i) 0)
 
     -- a grant
@@ -154,8 +143,8 @@ module _ (blocks : ℕ → Option Block) (s : NodeState) (a : Places) (lies : �
     grant_right has g e = subst (λ (h : Info × List Field). length h.1 ≡ h.0.size) (some_same e) (all_there has)
 
     note_draft : (to : ℕ) (n : Note) → (is_grant n ≡ true → is_some k.copy ≡ true) → IsDraft blocks s.known (record { to = to; msg = message (info_of s lies name) (told_fields s lies name) n })
-    note_draft to (Grants mode.Read) has = record { right = record { told = (info_told name k is, all_told); full = grant_right (has refl) }; gives = ((k, is), all_known) }
-    note_draft to (Grants mode.Write) has = record { right = record { told = (info_told name k is, all_told); full = grant_right (has refl) }; gives = all_known }
+    note_draft to (Grants mode.Read) has = record { right = record { told = (info_told name k is, all_told.0); full = grant_right (has refl) }; gives = ((k, is), all_told.1) }
+    note_draft to (Grants mode.Write) has = record { right = record { told = (info_told name k is, all_told.0); full = grant_right (has refl) }; gives = all_told.1 }
     note_draft to (Asks mode.Read asker) has = record { right = record { told = tt; full = no_grant }; gives = tt }
     note_draft to _ has = record { right = record { told = tt; full = no_grant }; gives = tt }
 
@@ -216,11 +205,6 @@ act_answers me Serves h = by_test (can_serve me h.part)
     by_test true e = cc
     by_test false e = cc
 
-slice_length : (fields : List ViewField) (index : ℕ) (f : ViewField) → length (slice_set fields index f) ≡ length fields
-slice_length [] index f = refl
-slice_length (g ∷ fields) zero f = refl
-slice_length (g ∷ fields) (suc index) f = ap suc (slice_length fields index f)
-
 -- what a command comes to: plain changes, or the making of a new object in a bunch
 pub data Comes (blocks : ℕ → Option Block) (me : ℕ) (s : NodeState) (full : Bool) (c : Command) (o : Reaction) : Type 0 where
   Plainly : IsPlain blocks s.known o → ((register bunch size : ℕ) → c ≡ command.New register bunch size → o.answer ≡ answer.Nil → ⊥) → Comes blocks me s full c o
@@ -250,7 +234,7 @@ module _ (blocks : ℕ → Option Block) (me : ℕ) (s : NodeState) (a : Places)
     where
       by_copy : (c : Option (List ViewField)) → k.copy ≡ c → (f : List ViewField) → option_map (λ fields. slice_set fields index (field_of v)) c ≡ Some f → length f ≡ k.size
       by_copy None e f g = none_some g
-      by_copy (Some fields) e f g = ap length (sym (some_same g)) ∙ slice_length fields index (field_of v) ∙ keeps.full name k fields is e
+      by_copy (Some fields) e f g = ap length (sym (some_same g)) ∙ length-set fields index (field_of v) ∙ keeps.full name k fields is e
 
   -- an effect that makes nothing
   abbrev MakesNone : Effect → Type 0
