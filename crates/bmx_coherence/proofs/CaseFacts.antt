@@ -35,7 +35,7 @@ use Rattle.bmx_coherence.specs.Cases.{store, old_fields, read_while_written, nev
 use Rattle.bmx_coherence.specs.Telling.{LawsTell, WrongRulesBreak}
 use Rattle.bmx_coherence.proofs.Parts.{held_of, put_each}
 use Rattle.bmx_coherence.specs.Wrong.{three, hastily_granted, deafly_taken, rashly_dropped}
-use Rattle.bmx_coherence.proofs.Histories.{held_first}
+use Rattle.bmx_coherence.proofs.Histories.{free_first}
 
 no_run : IsGraphRun store read_while_written → ⊥
 no_run r = (let both : graph.Nil ≡ graph.Wait = r.run.1.1.0 in cc)
@@ -155,7 +155,7 @@ no_holder named = unheld (named (record { no_letter = none; no_serve = idle; not
 
     held_by : (n : ℕ) → is_some (held_of ((waiting.nodes n).state.known 1)) ≡ false
     held_by = put_each (λ n node. is_some (held_of (node.state.known 1)) ≡ false) (first_node store) 1 (waiting.nodes 1) refl
-        (λ n _. ap (λ (m : Option Mode). is_some m) (held_first (birth_of store 1) (n == 0) (nat_lt n 2 && is_anchor store 1)))
+        (λ n _. ap (λ (m : Option Mode). is_some m) (free_first (birth_of store 1) (n == 0) (nat_lt n 2 && is_anchor store 1)).0)
 
     unheld : IsHeldElsewhere (world_of waiting.nodes never_asked) 1 1 → ⊥
     unheld h = (let both : false ≡ true = sym (held_by h.holder) ∙ ap (λ (k : Option Known). is_some (held_of k)) h.knows ∙ h.holds in cc)

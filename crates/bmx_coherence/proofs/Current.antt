@@ -36,6 +36,7 @@ use Rattle.bmx_store_laws.proofs.Owners.{HandsAmong, among}
 use Rattle.bmx_store_laws.proofs.Lifted.{one_seat}
 use Rattle.bmx_coherence.specs.Graphs.{graph_after}
 use Rattle.bmx_coherence.specs.Copies.{HasRecord}
+use Rattle.bmx_coherence.proofs.Parts.{some_is}
 use Rattle.bmx_coherence.proofs.Moments.{came, sound, knows_it}
 use Rattle.bmx_coherence.proofs.Transitions.{values_told}
 use Rattle.bmx_coherence.proofs.Events.{Stands}
@@ -97,11 +98,7 @@ module _ (st : Setting) (past : List Event) (nodes : ℕ → Node) (stands : Sta
     targets_stand : (y : ℕ) → Contains current.fields (val.Ref y) → IsSomewhere st w y
 
   known_there : (n y : ℕ) → n < st.nodes → is_some ((nodes n).state.known y) ≡ true → IsSomewhere st w y
-  known_there n y below knows = by_known ((nodes n).state.known y) refl knows
-    where
-      by_known : (k : Option Known) → (nodes n).state.known y ≡ k → is_some k ≡ true → IsSomewhere st w y
-      by_known None is some = absurd cc
-      by_known (Some k) is some = At n k below is
+  known_there n y below knows = (let k = some_is ((nodes n).state.known y) knows in At n k.0 below k.1)
 
   -- what a copy refers to is known
   pub target_known : (n x y : ℕ) (k : Known) (fields : List ViewField) → n < st.nodes → (nodes n).state.known x ≡ Some k → k.copy ≡ Some fields →
@@ -117,20 +114,17 @@ module _ (st : Setting) (past : List Event) (nodes : ℕ → Node) (stands : Sta
   whole x somewhere = by_seat (one_seat st past nodes stands.now.opening stands.now.legal stands.now.after x somewhere)
     where
       by_seat : IsSeated st w x → IsWhole x
-      by_seat (seated.At n k below has others none) = by_copy k.copy refl ((sound st past nodes stands.now n x k has.known).owner_has has.owns)
-        where
-          by_copy : (c : Option (List ViewField)) → k.copy ≡ c → is_some c ≡ true → IsWhole x
-          by_copy None is some = absurd cc
-          by_copy (Some l) is some =
-              let shown : fields_known (Some k) ≡ Some (map value_in l) = ap (option_map (map value_in)) is in
-              record {
-                current = record {
-                  fields = map value_in l;
-                  in_graph = (stands.parts n).copies x (map value_in l) (ap fields_known has.known ∙ shown);
-                  at_owner = Kept n k has shown;
-                };
-                targets_stand = λ y refers. known_there n y below (target_known n x y k l below has.known is (λ none. refers_in l y none refers));
-              }
+      by_seat (seated.At n k below has others none) =
+          let c = some_is k.copy ((sound st past nodes stands.now n x k has.known).owner_has has.owns) in
+          let shown : fields_known (Some k) ≡ Some (map value_in c.0) = ap (option_map (map value_in)) c.1 in
+          record {
+            current = record {
+              fields = map value_in c.0;
+              in_graph = (stands.parts n).copies x (map value_in c.0) (ap fields_known has.known ∙ shown);
+              at_owner = Kept n k has shown;
+            };
+            targets_stand = λ y refers. known_there n y below (target_known n x y k c.0 below has.known c.1 (λ none. refers_in c.0 y none refers));
+          }
       by_seat (seated.Moving from to below above one elsewhere nobody) = record {
         current = record {
           fields = values_told h.fields;

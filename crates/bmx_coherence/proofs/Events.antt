@@ -53,7 +53,7 @@ use Rattle.bmx_coherence.proofs.Parts.{held_of, want_of, known_of, IsPart, Leave
 use Rattle.bmx_coherence.proofs.Answers.{Ungranting, IsOwnStore, IsShown, IsSteady, notes_ungranting, NamesIt, command_shown}
 use Rattle.bmx_coherence.proofs.Transitions.{LeavesIt, served_each, took_each, BringsFields, EachBrings, heard_values, served_brings}
 use Rattle.bmx_coherence.proofs.Waits.{wanted_at, waited, IsWaitingWith, alike_waits, Before, Fresh, Again}
-use Rattle.bmx_coherence.proofs.Moments.{IsMoment, came, sound, real, aware, new_unknown, IsAlonePer, alone_per, beside_copy, beside_grant, knows_it}
+use Rattle.bmx_coherence.proofs.Moments.{IsMoment, came, sound, real, aware, new_unknown, IsAlonePer, alone_per, beside, knows_it}
 
 -- what stands after events
 pub record Stands (st : Setting) (past : List Event) (nodes : ℕ → Node) : Type 0 where
@@ -199,11 +199,11 @@ module _ (st : Setting) (past : List Event) (nodes : ℕ → Node) (e : Event) (
         part : (n : ℕ) (b : Bool) → (me == n) ≡ b → IsPart n (cond b after (nodes n)).state h
         part n true q = subst (λ (k : ℕ). IsPart k after.state h) (eqb_is me n q) (part_after h seen.part)
         part n false q = part_else me n (nodes n).state g seen.effect_is q
-            (λ x fields has. beside_copy st past nodes ev.stands.now me g seen.effect_is alone n x fields (λ same. eqb_not me n q (sym same)) has) (ev.stands.parts n)
+            (λ x fields has. beside st past nodes ev.stands.now me g seen.effect_is alone x (λ a. a.copies n (λ same. eqb_not me n q (sym same)) fields has)) (ev.stands.parts n)
 
         by_letter : (n m : ℕ) (l : Letter) → Contains (in_flight n m past) l ⊎ ((me ≡ n) × Contains (letters_to m e.done.letters) l) → BringsFields h l.msg
         by_letter n m l (inl there) info fields grants =
-            object_kept g me info.name seen.effect_is (beside_grant st past nodes ev.stands.now me g seen.effect_is alone n m l info fields there grants)
+            object_kept g me info.name seen.effect_is (beside st past nodes ev.stands.now me g seen.effect_is alone info.name (λ a. a.grants n m l info fields there grants refl))
             ∙ ev.stands.grants n m l there info fields grants
         by_letter n m l (inr new) info fields grants = drafts_brought h s.issued e.stamp o.drafts m l seen.brings (subst (λ (k : List Sending). Contains (letters_to m k) l) letters_are new.1) info fields grants
 

@@ -26,19 +26,12 @@ use Rattle.bmx_coherence.proofs.Events.{Stands, one_more}
 abbrev known_first : Option Birth → Bool → Bool → Option Known
 known_first b first told = cond first (option_map owned_birth b) (cond told (option_map heard_birth b) None)
 
-pub held_first : (b : Option Birth) (z t : Bool) → held_of (known_first b z t) ≡ None
-held_first None true t = refl
-held_first (Some b) true t = refl
-held_first None false true = refl
-held_first (Some b) false true = refl
-held_first b false false = refl
-
-want_first : (b : Option Birth) (z t : Bool) → want_of (known_first b z t) ≡ None
-want_first None true t = refl
-want_first (Some b) true t = refl
-want_first None false true = refl
-want_first (Some b) false true = refl
-want_first b false false = refl
+pub free_first : (b : Option Birth) (z t : Bool) → (held_of (known_first b z t) ≡ None) × (want_of (known_first b z t) ≡ None)
+free_first None true t = (refl, refl)
+free_first (Some b) true t = (refl, refl)
+free_first None false true = (refl, refl)
+free_first (Some b) false true = (refl, refl)
+free_first b false false = (refl, refl)
 
 copy_first : (b : Option Birth) (z t : Bool) (fields : List Val) → fields_known (known_first b z t) ≡ Some fields → option_map (λ (c : Birth). c.fields) b ≡ Some fields
 copy_first None true t fields h = absurd cc
@@ -50,7 +43,7 @@ copy_first b false false fields h = absurd cc
 part_first : (st : Setting) (n : ℕ) → IsPart n (first_node st n).state (opening_state st.births)
 part_first st n = record {
   register = λ r. refl;
-  held = λ x. held_first (birth_of st x) (n == 0) (nat_lt n st.nodes && is_anchor st x);
+  held = λ x. (free_first (birth_of st x) (n == 0) (nat_lt n st.nodes && is_anchor st x)).0;
   made = refl;
   copies = λ x fields h. copy_first (birth_of st x) (n == 0) (nat_lt n st.nodes && is_anchor st x) fields h;
 }
@@ -96,7 +89,7 @@ first_stands st opening = record {
   now = record { opening = opening; legal = empty_is_legal st; after = refl };
   parts = part_first st;
   grants = λ n m l there. absurd (omega (arith, there.1));
-  waits = λ n. nothing_waits n (first_node st n).state (λ x. want_first (birth_of st x) (n == 0) (nat_lt n st.nodes && is_anchor st x));
+  waits = λ n. nothing_waits n (first_node st n).state (λ x. (free_first (birth_of st x) (n == 0) (nat_lt n st.nodes && is_anchor st x)).1);
   each = λ e there. absurd (omega (arith, there.1));
   run = tt;
   makers = λ n count one most. maker_first st opening n count one most;

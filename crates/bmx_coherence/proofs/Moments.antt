@@ -43,7 +43,7 @@ use Rattle.bmx_store_laws.proofs.Histories.{Came, came_after, each_name}
 use Rattle.bmx_store_laws.proofs.Owners.{moving_counted}
 use Rattle.bmx_store_laws.proofs.Chains.{nodes_of}
 use Rattle.bmx_store_laws.proofs.Lifted.{one_seat, readers_are_listed_always}
-use Rattle.bmx_coherence.proofs.Parts.{held_of, IsPart, IsBeside}
+use Rattle.bmx_coherence.proofs.Parts.{known_of, IsPart, IsBeside}
 use Rattle.bmx_coherence.proofs.Answers.{IsOwnStore}
 
 -- a legal history of a store, and the nodes after it
@@ -238,20 +238,12 @@ module _ (st : Setting) (past : List Event) (nodes : ℕ → Node) (now : IsMome
 
   pub alone_per : (me : ℕ) (g : State) (e : Effect) → count_by (λ (f : Event). f.node == me) past + 1 < 2 ^ 55 → IsPart me (nodes me).state g → IsOwnStore me g e → IsAlonePer me g e
   alone_per me g (Makes register bunch size) few part own = subst (IsAlone past nodes me) (ap (λ (n : ℕ). name_word me (n + 1)) part.made) (new_alone me few)
-  alone_per me g (Stores name index v) few part own = by_known ((nodes me).state.known name) refl (part.held name ∙ own)
-    where
-      by_known : (k : Option Known) → (nodes me).state.known name ≡ k → held_of ((nodes me).state.known name) ≡ Some mode.Write → IsAlone past nodes me name
-      by_known None is held = (let both : None ≡ Some mode.Write = sym (ap held_of is) ∙ held in absurd cc)
-      by_known (Some k) is held = writer_alone me name k is (sym (ap held_of is) ∙ held)
+  alone_per me g (Stores name index v) few part own =
+      (let k = known_of (λ j. j.part.held) ((nodes me).state.known name) mode.Write (part.held name ∙ own) in writer_alone me name k.0 k.1 k.2)
   alone_per me g _ few part own = tt
 
-  pub beside_copy : (me : ℕ) (g : State) (e : Effect) → IsAlonePer me g e → (n x : ℕ) (fields : List Val) → n ≢ me → fields_known ((nodes n).state.known x) ≡ Some fields → IsBeside g me x e
-  beside_copy me g (Makes register bunch size) alone n x fields apart has = λ same. alone.copies n apart fields (ap (λ (z : ℕ). fields_known ((nodes n).state.known z)) same ∙ has)
-  beside_copy me g (Stores name index v) alone n x fields apart has = λ same. alone.copies n apart fields (ap (λ (z : ℕ). fields_known ((nodes n).state.known z)) same ∙ has)
-  beside_copy me g _ alone n x fields apart has = tt
-
-  pub beside_grant : (me : ℕ) (g : State) (e : Effect) → IsAlonePer me g e → (n m : ℕ) (l : Letter) (info : Info) (fields : List Field) → Contains (in_flight n m past) l →
-      grant_in l.msg ≡ Some (info, fields) → IsBeside g me info.name e
-  beside_grant me g (Makes register bunch size) alone n m l info fields there grants = λ same. alone.grants n m l info fields there grants (sym same)
-  beside_grant me g (Stores name index v) alone n m l info fields there grants = λ same. alone.grants n m l info fields there grants (sym same)
-  beside_grant me g _ alone n m l info fields there grants = tt
+  -- of what isn't alone
+  pub beside : (me : ℕ) (g : State) (e : Effect) → IsAlonePer me g e → (x : ℕ) → (IsAlone past nodes me x → ⊥) → IsBeside g me x e
+  beside me g (Makes register bunch size) alone x other = λ same. other (subst (IsAlone past nodes me) same alone)
+  beside me g (Stores name index v) alone x other = λ same. other (subst (IsAlone past nodes me) same alone)
+  beside me g _ alone x other = tt

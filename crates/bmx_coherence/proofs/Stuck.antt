@@ -34,7 +34,7 @@ use Rattle.bmx_store_laws.proofs.Owners.{one_if}
 use Rattle.bmx_store_laws.proofs.Lifted.{wants_stand_once}
 use Rattle.bmx_coherence.specs.Waits.{taking, WaitsFor, Wants, WantsAreWaitedFor}
 use Rattle.bmx_coherence.specs.Stuck.{IsStuck, IsHeldElsewhere, StuckNamesHolders}
-use Rattle.bmx_coherence.proofs.Parts.{held_of, want_of}
+use Rattle.bmx_coherence.proofs.Parts.{held_of, want_of, some_is, known_of}
 use Rattle.bmx_coherence.proofs.Waits.{taken_at, taken_by, wanted_at, waited}
 use Rattle.bmx_coherence.proofs.Moments.{sound, real}
 use Rattle.bmx_coherence.proofs.Events.{Stands}
@@ -91,11 +91,7 @@ module _ (st : Setting) (past : List Event) (nodes : ℕ → Node) (stands : Sta
           record { command = c; operand = t.operand; waits = is; takes = t.takes; means = t.means }
 
   known_wants : (n x : ℕ) (m : Mode) → want_of ((nodes n).state.known x) ≡ Some m → Wants w n m x
-  known_wants n x m want = by_known ((nodes n).state.known x) refl want
-    where
-      by_known : (k : Option Known) → (nodes n).state.known x ≡ k → want_of k ≡ Some m → Wants w n m x
-      by_known None is want = absurd cc
-      by_known (Some k) is want = record { known = k; knows = is; want = want }
+  known_wants n x m want = (let k = known_of (λ j. j.part.want) ((nodes n).state.known x) m want in record { known = k.0; knows = k.1; want = k.2 })
 
   -- who waits for a token wants it
   waiting_wants : (n x : ℕ) (m : Mode) → WaitsFor w past n m x → want_of ((nodes n).state.known x) ≡ Some m
@@ -106,18 +102,14 @@ module _ (st : Setting) (past : List Event) (nodes : ℕ → Node) (stands : Sta
   pub wants_waited_for : WantsAreWaitedFor st w past
   wants_waited_for = record {
     wanted = λ n m x below wants. waits_for_it n x m (ap want_of wants.knows ∙ wants.want);
-    waited = λ n c below is. waited_wants n c is (taken_by n (nodes n).state c) refl ((stands.waits n).takes c is);
+    waited = λ n c below is.
+        (let t = some_is (taken_by n (nodes n).state c) ((stands.waits n).takes c is) in
+        let i : IsTaking n (nodes n).state c t.0.0 t.0.1 = taking_it n c t.0.0 t.0.1 t.1 in
+        let waits : WaitsFor w past n t.0.0 t.0.1 = record { command = c; operand = i.operand; waits = is; takes = i.takes; means = i.means } in
+        (t.0.0, t.0.1, waits, known_wants n t.0.1 t.0.0 (waiting_wants n t.0.1 t.0.0 waits)));
     one = λ n m k x y below a b. one n m k x y (waits_for_it n x m (ap want_of a.knows ∙ a.want)) (ap want_of a.knows ∙ a.want) (ap want_of b.knows ∙ b.want);
   }
     where
-      waited_wants : (n : ℕ) (c : Command) → waits_with n None past ≡ Some c → (o : Option (Mode × ℕ)) → taken_by n (nodes n).state c ≡ o → is_some o ≡ true →
-          (m : Mode) × (x : ℕ) × WaitsFor w past n m x × Wants w n m x
-      waited_wants n c is None at some = absurd cc
-      waited_wants n c is (Some t) at some =
-          let i : IsTaking n (nodes n).state c t.0 t.1 = taking_it n c t.0 t.1 at in
-          let waits : WaitsFor w past n t.0 t.1 = record { command = c; operand = i.operand; waits = is; takes = i.takes; means = i.means } in
-          (t.0, t.1, waits, known_wants n t.1 t.0 (waiting_wants n t.1 t.0 waits))
-
       one : (n : ℕ) (m k : Mode) (x y : ℕ) → WaitsFor w past n m x → want_of ((nodes n).state.known x) ≡ Some m → want_of ((nodes n).state.known y) ≡ Some k → (x ≡ y) × (m ≡ k)
       one n m k x y i a b =
           let both : Some (m, x) ≡ Some (k, y) = sym (wanted_taken n x m i.command i.waits a) ∙ wanted_taken n y k i.command i.waits b in
@@ -129,25 +121,16 @@ module _ (st : Setting) (past : List Event) (nodes : ℕ → Node) (stands : Sta
   module _ (stuck : IsStuck st w past) where
     -- no token that is wanted is ready
     unready : (n x : ℕ) (k : Known) (m : Mode) → (nodes n).state.known x ≡ Some k → k.part.want ≡ Some m → k.part.ready ≡ false
-    unready n x k m is want = sym (by_mode m i.takes) ∙ stuck.not_ready n i.command (real st past nodes stands.now n x k is) i.waits
+    unready n x k m is want = sym (taken_ready i.command (m, i.operand) i.takes ∙ ap (ready_at (nodes n).state) i.means ∙ ap (λ (j : Option Known). option_map_or (λ (l : Known). l.part.ready) j false) is)
+        ∙ stuck.not_ready n i.command (real st past nodes stands.now n x k is) i.waits
       where
         i : WaitsFor w past n m x
         i = waits_for_it n x m (ap want_of is ∙ want)
 
-        ready_is : is_ready n (nodes n).state (command.Read i.operand) ≡ k.part.ready
-        ready_is = ap (ready_at (nodes n).state) i.means ∙ ap (λ (j : Option Known). option_map_or (λ (l : Known). l.part.ready) j false) is
-
-        command_is : (c : Command) (t : Mode × Operand) → taking c ≡ Some t → (c ≡ command.Read t.1) ⊎ (c ≡ command.Write t.1)
-        command_is (command.Read on) t e = inl (ap (λ (p : Mode × Operand). command.Read p.1) (some_same e))
-        command_is (command.Write on) t e = inr (ap (λ (p : Mode × Operand). command.Write p.1) (some_same e))
-        command_is _ t e = absurd cc
-
-        by_command : (i.command ≡ command.Read i.operand) ⊎ (i.command ≡ command.Write i.operand) → is_ready n (nodes n).state i.command ≡ k.part.ready
-        by_command (inl e) = ap (is_ready n (nodes n).state) e ∙ ready_is
-        by_command (inr e) = ap (is_ready n (nodes n).state) e ∙ ready_is
-
-        by_mode : (m : Mode) → taking i.command ≡ Some (m, i.operand) → is_ready n (nodes n).state i.command ≡ k.part.ready
-        by_mode m e = by_command (command_is i.command (m, i.operand) e)
+        taken_ready : (c : Command) (t : Mode × Operand) → taking c ≡ Some t → is_ready n (nodes n).state c ≡ ready_at (nodes n).state (target_of (seen_graph n (nodes n).state) n t.1)
+        taken_ready (command.Read on) t e = ap (λ (p : Mode × Operand). ready_at (nodes n).state (target_of (seen_graph n (nodes n).state) n p.1)) (some_same e)
+        taken_ready (command.Write on) t e = ap (λ (p : Mode × Operand). ready_at (nodes n).state (target_of (seen_graph n (nodes n).state) n p.1)) (some_same e)
+        taken_ready _ t e = absurd cc
 
     -- nothing is ready
     never_ready : (n x : ℕ) (k : Known) → (nodes n).state.known x ≡ Some k → k.part.ready ≡ true → ⊥

@@ -90,12 +90,8 @@ abbrev pub Keeps : Share → Option Transition → Type 0
 Keeps b None = Unit {0}
 Keeps b (Some t) = (h : Share) × (t.after ≡ Some h) × (h.part.held ≡ b.part.held) × (h.part.want ≡ b.part.want)
 
-record Same (p q : Part) : Type 0 where
-  held : q.held ≡ p.held
-  want : q.want ≡ p.want
-
-same : (p : Part) → Same p p
-same p = record { held = refl; want = refl }
+abbrev Same : Part → Part → Type 0
+Same p q = (q.held ≡ p.held) × (q.want ≡ p.want)
 
 -- one answer of two, by a test
 either : {A : Type 0} (F : A → Type 0) (b : Bool) (x y : A) → F x → F y → F (cond b x y)
@@ -104,24 +100,24 @@ either F false x y h k = k
 
 served_keeps : (b : Share) (p : Part) (r : Served) → Same b.part p → Keeps b (served b p r)
 served_keeps b p served_is.Idle s = tt
-served_keeps b p _ s = (_, refl, s.held, s.want)
+served_keeps b p _ s = (_, refl, s.0, s.1)
 
 revoke_same : (p : Part) (waiting : List ℕ) → Same p (revoke p waiting).0
-revoke_same p [] = record { held = refl; want = refl }
-revoke_same p (n ∷ ns) = same p
+revoke_same p [] = (refl, refl)
+revoke_same p (n ∷ ns) = (refl, refl)
 
 write_same : (me : ℕ) (p : Part) (asker : ℕ) (rest : List Ask) (readers : List ℕ) → Same p (serve_write me p asker rest readers).0
-write_same me p asker rest [] = either (λ (r : Part × Served). Same p r.0) (is_some p.held || p.ready) _ _ (same p)
-    (either (λ (r : Part × Served). Same p r.0) (asker == me) _ _ (record { held = refl; want = refl }) (record { held = refl; want = refl }))
+write_same me p asker rest [] = either (λ (r : Part × Served). Same p r.0) (is_some p.held || p.ready) _ _ (refl, refl)
+    (either (λ (r : Part × Served). Same p r.0) (asker == me) _ _ (refl, refl) (refl, refl))
 write_same me p asker rest (r ∷ rs) = revoke_same p p.waiting
 
 head_same : (me : ℕ) (p : Part) (asker : ℕ) (rest : List Ask) (m : Mode) → Same p (serve_head me p asker rest m).0
-head_same me p asker rest Read = either (λ (r : Part × Served). Same p r.0) (is_write p.held || p.ready) _ _ (same p) (record { held = refl; want = refl })
+head_same me p asker rest Read = either (λ (r : Part × Served). Same p r.0) (is_write p.held || p.ready) _ _ (refl, refl) (refl, refl)
 head_same me p asker rest Write = write_same me p asker rest p.readers
 
 serve_same : (me : ℕ) (p : Part) (role : Role) (queue : List Ask) → Same p (serve_by me p role queue).0
-serve_same me p (Parent parent) queue = same p
-serve_same me p Owner [] = same p
+serve_same me p (Parent parent) queue = (refl, refl)
+serve_same me p Owner [] = (refl, refl)
 serve_same me p Owner (head ∷ rest) = head_same me p head.asker rest head.mode
 
 pub serving_keeps : (me : ℕ) (b : Share) → Keeps b (transition_of me Serves b)

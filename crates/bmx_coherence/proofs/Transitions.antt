@@ -20,6 +20,7 @@ use Rattle.bmx_protocol.specs.Nodes.{NodeState, Known, fields_known, value_in, s
 use Rattle.bmx_protocol.specs.Changes.{Change, Knows, Hears, Gets, Takes}
 use Rattle.bmx_protocol.specs.Rules.{Draft, info_of, told_field, heard_field, told_fields, message, drafts_of, name_in, note_in, grant_in, infos, with_share, known_change, operation_answer, after_operation, operation_rule, copy_after, got_change, took}
 use Rattle.bmx_protocol.proofs.Changing.{Each, each_append}
+use Rattle.bmx_coherence.proofs.Parts.{some_is}
 use Rattle.bmx_coherence.proofs.Tokens.{Keeps, serving_keeps, serving_owns, note_keeps}
 
 -- what has to be shown of the changes of a serve or of a letter: of what it leaves of the name that it is about
@@ -132,11 +133,8 @@ pub served_brings : (g : State) (me : ℕ) (s : NodeState) (lies : ℕ → Place
 served_brings g me s lies unknown name None is has copies = tt
 served_brings g me s lies unknown name (Some k) is has copies = by_transition (transition_of me Serves (share_of k)) refl
   where
-    by_copy : (c : Option (List ViewField)) → k.copy ≡ c → is_some c ≡ true → (sends : List Send) → EachBrings g (drafts_of s lies name sends)
-    by_copy None is_copy some sends = absurd cc
-    by_copy (Some fields) is_copy some sends = notes_bring g s lies name k fields is is_copy
-        (copies (map value_in fields) (ap (λ (c : Option (List ViewField)). option_map (map value_in) c) is_copy)) sends
-
     by_transition : (t : Option Transition) → transition_of me Serves (share_of k) ≡ t → EachBrings g (after_operation s lies name k (operation_answer me Serves (share_of k)) t).drafts
     by_transition None does = tt
-    by_transition (Some t) does = by_copy k.copy refl (has k refl (serving_owns me (share_of k) t does)) t.sends
+    by_transition (Some t) does =
+        let c = some_is k.copy (has k refl (serving_owns me (share_of k) t does)) in
+        notes_bring g s lies name k c.0 is c.1 (copies (map value_in c.0) (ap (option_map (map value_in)) c.1)) t.sends

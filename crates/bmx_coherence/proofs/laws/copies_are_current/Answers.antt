@@ -1,5 +1,0 @@
-use Rattle.bmx_coherence.proofs.Stated.{copies_are_current}
-use Rattle.bmx_coherence.proofs.laws.copies_are_current.Goals as goal
-
-pub returns : goal.returns
-returns c = copies_are_current
