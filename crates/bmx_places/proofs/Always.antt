@@ -79,8 +79,8 @@ module _ (st : Setting) (history : List Event) (nodes : ℕ → Node) (opening :
   info_told : (n m : ℕ) (l : Letter) (info : Info) → Contains (in_flight n m history) l → Contains (infos l.msg) info → IsTold k.blocks info
   info_told n m l info there within = every_there (IsTold k.blocks) (infos l.msg) info (letter_right n m l there).right.told within
 
-  ledger : HasLedger st w
-  ledger = record {
+  pub blocks_are_kept : HasLedger st w
+  blocks_are_kept = record {
     blocks = k.blocks;
     are = k.are;
     belong = record {
@@ -98,8 +98,8 @@ module _ (st : Setting) (history : List Event) (nodes : ℕ → Node) (opening :
       (l.place.address, block_at x j l.place, l.block, refl, b, s)
   shaped x bunch size (ToldIn n m l info there within named b s) = (info.place.address, block_of info, info_told n m l info there within, named, b, s)
 
-  shapes : law.ShapesAgree w
-  shapes = record {
+  pub one_shape : law.ShapesAgree w
+  one_shape = record {
     shapes = λ x bunch size ob os h g. (let a = shaped x bunch size h in let c = shaped x ob os g in
         let same : (a.1.bunch ≡ c.1.bunch) × (a.1.size ≡ c.1.size) = k.are.one_shape a.0 c.0 a.1 c.1 a.2 c.2 (a.3 ∙ sym c.3) in
         (sym a.4 ∙ same.0 ∙ c.4, sym a.5 ∙ same.1 ∙ c.5));
@@ -121,20 +121,20 @@ module _ (st : Setting) (history : List Event) (nodes : ℕ → Node) (opening :
           subst (Lying x) (some_same (sym l.lies ∙ e)) (block_at x j l.place, l.block, refl, refl)
   lying x p (Between n m l info there within named at) = subst (Lying x) at (block_of info, info_told n m l info there within, named, refl)
 
-  places : law.PlacesAgree w
-  places = record {
+  pub one_place : law.PlacesAgree w
+  one_place = record {
     one = λ x p q h g moves. (let a = lying x p h in let c = lying x q g in
         k.are.one_address p.address q.address a.0 c.0 a.1 c.1 (a.2 ∙ sym c.2) (a.3 ∙ moves ∙ sym c.3));
     newest = λ x p q h g. (let a = lying x p h in omega (arith, a.3, k.still p.address a.0 a.1));
     placed = λ n x j e. subst IsSome (sym ((k.keeps n).entries x j e).lies) refl;
   }
 
-  no_clash : (from me : ℕ) (l : Letter) → Contains (in_flight from me history) l → some_clash me from (nodes me).state.known (nodes me).places (infos l.msg) ≡ false
-  no_clash from me l there = (hears_all st w k.blocks k.are me from (infos l.msg) (nodes me).state (nodes me).places (letter_right from me l there).right.told (k.keeps me) (λ n. refl)).0
+  pub no_info_clashes : (from me : ℕ) (l : Letter) → Contains (in_flight from me history) l → some_clash me from (nodes me).state.known (nodes me).places (infos l.msg) ≡ false
+  no_info_clashes from me l there = (hears_all st w k.blocks k.are me from (infos l.msg) (nodes me).state (nodes me).places (letter_right from me l there).right.told (k.keeps me) (λ n. refl)).0
 
-  next_taken : (from me stamp : ℕ) (l : Letter) (rest : List Letter) (done : Done) (then : Node) → from < st.nodes → me < st.nodes → in_flight from me history ≡ l ∷ rest →
+  pub next_is_taken : (from me stamp : ℕ) (l : Letter) (rest : List Letter) (done : Done) (then : Node) → from < st.nodes → me < st.nodes → in_flight from me history ≡ l ∷ rest →
       IsStep st me (nodes me) stamp (input.Take from l) done then → done.answer ≡ answer.Nil
-  next_taken from me stamp l rest done then real real_me first step =
+  next_is_taken from me stamp l rest done then real real_me first step =
       let t : IsTakeable st k.blocks me from (nodes me) l = next_is_takeable st history nodes opening legal after k.blocks k.are k.still me from (k.keeps me) k.letters l rest first real_me real in
       ap (λ (d : Done). d.answer) step.outcome
       ∙ (λ i. (cond (t.good i || (step.is_told.clash ∙ t.calm) i) (only answer.Stray) (took s step.told.lies from l.seq l.msg (s.known (name_in l.msg)) (note_transition me from (note_in l.msg) (option_map share_of (s.known (name_in l.msg)))))).answer)
@@ -142,23 +142,6 @@ module _ (st : Setting) (history : List Event) (nodes : ℕ → Node) (opening :
     where
       s : NodeState
       s = (nodes me).state
-
--- ## the laws
-
-pub blocks_are_kept : BlocksAreKept
-blocks_are_kept st history nodes opening legal after = ledger st history nodes opening legal after
-
-pub one_shape : OneShape
-one_shape st history nodes opening legal after = shapes st history nodes opening legal after
-
-pub one_place : OnePlace
-one_place st history nodes opening legal after = places st history nodes opening legal after
-
-pub no_info_clashes : NoInfoClashes
-no_info_clashes st history nodes opening legal after = no_clash st history nodes opening legal after
-
-pub next_is_taken : NextIsTaken
-next_is_taken st history nodes opening legal after = next_taken st history nodes opening legal after
 
 pub no_letter_is_stray : NoLetterIsStray
 no_letter_is_stray st history e opening legal there =

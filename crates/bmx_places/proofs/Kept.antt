@@ -52,8 +52,7 @@ use Rattle.bmx_store_laws.proofs.Histories.{Came, came_after, each_name}
 use Rattle.bmx_places.specs.Ledger.{Block, AreBlocks, block_of, LiesIn}
 use Rattle.bmx_places.proofs.Blocks.{every_map, IsTold, Keeps, hears_all, learnt_handed, same_shape, put_each, learnt_either}
 use Rattle.bmx_places.proofs.Making.{Grows, keeps_grown, IsLaterThan, blocks_later, IsHome, with_block, made_or_old, home_made, handed_more, made_grows, made_blocks, made_keeps}
-use Rattle.bmx_places.proofs.Plain.{AllOf, Belongs, Plain, changes_kept, IsRight, IsDraft, sent_plain, letters_sent, IsSent}
-use Rattle.bmx_places.proofs.Outcomes.{NotStray, IsPlain, Comes, Plainly, New, act_plain, command_comes, known_plain, silent_drafts}
+use Rattle.bmx_places.proofs.Outcomes.{AllOf, Belongs, Plain, changes_kept, IsRight, IsDraft, sent_plain, letters_sent, IsSent, NotStray, IsPlain, Comes, Plainly, New, act_plain, command_comes, known_plain, silent_drafts}
 use Rattle.bmx_places.proofs.Next.{Goes, IssuesRight, EachIssued, IsTakeable, next_is_takeable}
 
 -- ## how many events there are

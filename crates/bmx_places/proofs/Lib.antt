@@ -1,6 +1,5 @@
 pub mod Blocks
 pub mod Making
-pub mod Plain
 pub mod Outcomes
 pub mod Next
 pub mod Kept

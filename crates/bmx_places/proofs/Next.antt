@@ -35,7 +35,7 @@ use Rattle.bmx_store_laws.proofs.Histories.{Came, came_after, each_name}
 use Rattle.bmx_store_laws.proofs.Lifted.{names_are_counted, wants_stand_once}
 use Rattle.bmx_places.specs.Ledger.{Block, IsBlock, AreBlocks, block_of}
 use Rattle.bmx_places.proofs.Blocks.{IsTold, Keeps, hears_all}
-use Rattle.bmx_places.proofs.Plain.{IsRight}
+use Rattle.bmx_places.proofs.Outcomes.{IsRight}
 
 -- ## letters of a history
 

@@ -24,7 +24,7 @@ use Rattle.bmx_protocol.proofs.Basics.{Every, none_some, some_same, eqb_apart, p
 use Rattle.bmx_places.specs.Ledger.{Block, AreBlocks, block_at, LiesIn, IsOf, block_of}
 use Rattle.bmx_places.proofs.Blocks.{Keeps, object_keeps, no_clash}
 use Rattle.bmx_places.proofs.Making.{IsLaterThan, blocks_later, IsHome, with_block, made_or_old, home_made, handed_more, made_blocks, made_keeps}
-use Rattle.bmx_places.proofs.Plain.{AllOf}
+use Rattle.bmx_places.proofs.Outcomes.{AllOf}
 use Rattle.bmx_places.proofs.Kept.{Kept, none_yet}
 
 no_home : IsHome no_places
