@@ -35,7 +35,7 @@ use Rattle.bmx_coherence.specs.Cases.{store, old_fields, read_while_written, nev
 use Rattle.bmx_coherence.specs.Telling.{LawsTell, WrongRulesBreak}
 use Rattle.bmx_coherence.proofs.Parts.{held_of, put_each}
 use Rattle.bmx_coherence.specs.Wrong.{three, hastily_granted, deafly_taken, rashly_dropped}
-use Rattle.bmx_coherence.proofs.Histories.{free_first}
+use Rattle.bmx_coherence.proofs.Stated.{free_first}
 
 no_run : IsGraphRun store read_while_written → ⊥
 no_run r = (let both : graph.Nil ≡ graph.Wait = r.run.1.1.0 in cc)

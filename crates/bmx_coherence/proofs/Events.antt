@@ -48,12 +48,10 @@ use Rattle.bmx_store_laws.proofs.Sends.{IsLeft, letters_left}
 use Rattle.bmx_store_laws.proofs.Shares.{shares_changed, all_spared}
 use Rattle.bmx_store_laws.proofs.Lifted.{write_excludes}
 use Rattle.bmx_coherence.specs.Graphs.{graph_answer, act_of, acts_of, graph_after}
-use Rattle.bmx_coherence.proofs.Flight.{flight_more, taken_flies}
-use Rattle.bmx_coherence.proofs.Parts.{held_of, want_of, known_of, IsPart, Leaves, parts_left, fields_kept, object_kept, part_else, HasKept}
+use Rattle.bmx_coherence.proofs.Moments.{flight_more, taken_flies, IsMoment, came, sound, real, aware, new_unknown, IsAlonePer, alone_per, beside, knows_it}
+use Rattle.bmx_coherence.proofs.Parts.{held_of, want_of, known_of, IsPart, Leaves, parts_left, fields_kept, object_kept, part_else, HasKept, wanted_at, waited, IsWaitingWith, alike_waits, Before, Fresh, Again}
 use Rattle.bmx_coherence.proofs.Answers.{Ungranting, IsOwnStore, IsShown, IsSteady, notes_ungranting, NamesIt, command_shown}
 use Rattle.bmx_coherence.proofs.Transitions.{LeavesIt, served_each, took_each, BringsFields, EachBrings, heard_values, served_brings}
-use Rattle.bmx_coherence.proofs.Waits.{wanted_at, waited, IsWaitingWith, alike_waits, Before, Fresh, Again}
-use Rattle.bmx_coherence.proofs.Moments.{IsMoment, came, sound, real, aware, new_unknown, IsAlonePer, alone_per, beside, knows_it}
 
 -- what stands after events
 pub record Stands (st : Setting) (past : List Event) (nodes : ℕ → Node) : Type 0 where

@@ -1,13 +1,9 @@
-pub mod Flight
 pub mod Tokens
 pub mod Parts
 pub mod Answers
 pub mod Transitions
-pub mod Waits
 pub mod Moments
 pub mod Events
-pub mod Histories
-pub mod Current
-pub mod Stuck
+pub mod Following
 pub mod Stated
 pub mod CaseFacts
