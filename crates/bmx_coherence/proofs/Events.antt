@@ -49,7 +49,7 @@ use Rattle.bmx_store_laws.proofs.Shares.{shares_changed, all_spared}
 use Rattle.bmx_store_laws.proofs.Lifted.{write_excludes}
 use Rattle.bmx_coherence.specs.Graphs.{graph_answer, act_of, acts_of, graph_after}
 use Rattle.bmx_coherence.proofs.Moments.{flight_more, taken_flies, IsMoment, came, sound, real, aware, new_unknown, IsAlonePer, alone_per, beside, knows_it}
-use Rattle.bmx_coherence.proofs.Parts.{held_of, want_of, known_of, IsPart, Leaves, parts_left, fields_kept, object_kept, part_else, HasKept, wanted_at, waited, IsWaitingWith, alike_waits, Before, Fresh, Again}
+use Rattle.bmx_coherence.proofs.Parts.{held_of, want_of, known_of, put_each, IsPart, Leaves, parts_left, fields_kept, object_kept, part_else, HasKept, wanted_at, waited, IsWaitingWith, alike_waits, Before, Fresh, Again}
 use Rattle.bmx_coherence.proofs.Answers.{Ungranting, IsOwnStore, IsShown, IsSteady, notes_ungranting, NamesIt, command_shown}
 use Rattle.bmx_coherence.proofs.Transitions.{LeavesIt, served_each, took_each, BringsFields, EachBrings, heard_values, served_brings}
 
@@ -179,13 +179,15 @@ module _ (st : Setting) (past : List Event) (nodes : ℕ → Node) (e : Event) (
     pub stands_more : IsSeen st past nodes e after o → Stands st (past ++ e ∷ []) (put nodes me after)
     stands_more seen = record {
       now = ev.next;
-      parts = λ n. subst (IsPart n (put nodes me after n).state) (sym seen.graph) (part n (me == n) refl);
+      parts = λ n. subst (IsPart n (put nodes me after n).state) (sym seen.graph) (put_each (λ k z. IsPart k z.state h) nodes me after (part_after h seen.part) part n);
       grants = λ n m l there. subst (λ (h : State). BringsFields h l.msg) (sym seen.graph)
           (by_letter n m l (flight_more n m past e l ((came st past nodes ev.stands.now 0).channels.within n m) there));
       waits = λ n. subst (IsWaitingWith n (put nodes me after n).state) (sym (waits_more n None past e)) (wait n (me == n) (eqb_is me n));
       each = λ f there. by_event f (Contains-append_cases past (e ∷ []) f there);
       run = seen.run;
-      makers = λ n count one most. maker n count (me == n) (eqb_is me n) one most;
+      makers = put_each (λ n z. (count : ℕ) → 1 ≤ count → count ≤ z.state.made → is_some (z.state.known (name_word n count)) ≡ true) nodes me after
+          (λ count one most. ap (λ (f : ℕ → Option Known). is_some (f (name_word me count))) known_after ∙ counted count seen.effect_is seen.names seen.part.made one (omega (arith, most, made_after)))
+          (λ n _. ev.stands.makers n);
     }
       where
         h : State
@@ -194,9 +196,8 @@ module _ (st : Setting) (past : List Event) (nodes : ℕ → Node) (e : Event) (
         alone : IsAlonePer st past nodes ev.stands.now me g seen.effect_is
         alone = alone_per st past nodes ev.stands.now me g seen.effect_is ev.fits.few (ev.stands.parts me) seen.own
 
-        part : (n : ℕ) (b : Bool) → (me == n) ≡ b → IsPart n (cond b after (nodes n)).state h
-        part n true q = subst (λ (k : ℕ). IsPart k after.state h) (eqb_is me n q) (part_after h seen.part)
-        part n false q = part_else me n (nodes n).state g seen.effect_is q
+        part : (n : ℕ) → (me == n) ≡ false → IsPart n (nodes n).state h
+        part n q = part_else me n (nodes n).state g seen.effect_is q
             (λ x fields has. beside st past nodes ev.stands.now me g seen.effect_is alone x (λ a. a.copies n (λ same. eqb_not me n q (sym same)) fields has)) (ev.stands.parts n)
 
         by_letter : (n m : ℕ) (l : Letter) → Contains (in_flight n m past) l ⊎ ((me ≡ n) × Contains (letters_to m e.done.letters) l) → BringsFields h l.msg
@@ -235,12 +236,6 @@ module _ (st : Setting) (past : List Event) (nodes : ℕ → Node) (e : Event) (
             by_two (Same same) = ap (λ (c : ℕ). is_some (own_state.known (name_word me c))) same ∙ names
             by_two (Apart f d) = still (name_word me count) (ev.stands.makers me count one (omega (arith, most, now, d)))
         counted count _ names made one most = still (name_word me count) (ev.stands.makers me count one (omega (arith, most, made, (ev.stands.parts me).made)))
-
-        maker : (n count : ℕ) (b : Bool) → (b ≡ true → me ≡ n) → 1 ≤ count → count ≤ (cond b after (nodes n)).state.made → is_some ((cond b after (nodes n)).state.known (name_word n count)) ≡ true
-        maker n count true q one most = subst (λ (k : ℕ). is_some (after.state.known (name_word k count)) ≡ true) (q refl)
-            (ap (λ (f : ℕ → Option Known). is_some (f (name_word me count))) known_after
-            ∙ counted count seen.effect_is seen.names seen.part.made one (omega (arith, most, made_after)))
-        maker n count false q one most = ev.stands.makers n count one most
 
   -- ## events that are no command
 

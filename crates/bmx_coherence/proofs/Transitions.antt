@@ -44,7 +44,8 @@ pub took_each : (Has : Change → Type 0) (me : ℕ) (s : NodeState) (lies : ℕ
     ((info : Info) → Has (Hears from info)) → ((name : ℕ) → Has (Gets name from seq)) → Has (Takes from) →
     ((j : Known) → k ≡ Some j → LeavesIt Has (name_in m) j (copy_after m (Some j))) →
     Each Has (took s lies from seq m k (note_transition me from (note_in m) (option_map share_of k))).changes
-took_each Has me s lies from seq m k hears gets takes leaves = by_known k leaves
+took_each Has me s lies from seq m k hears gets takes leaves = by_known k (note_transition me from (note_in m) (option_map share_of k)) leaves
+    (λ j is. subst (λ (o : Option Known). Keeps (share_of j) (note_transition me from (note_in m) (option_map share_of o))) (sym is) (note_keeps me from (note_in m) (share_of j)))
   where
     heard : (more : List Info) → Each Has (map (Hears from) more)
     heard [] = tt
@@ -58,20 +59,12 @@ took_each Has me s lies from seq m k hears gets takes leaves = by_known k leaves
     with_known changes each = each_append Has (map (Hears from) (infos m)) _ (heard (infos m))
         (each_append Has changes _ each (each_append Has (got_change from seq (name_in m) (note_in m)) (Takes from ∷ []) (got (note_in m)) (takes, tt)))
 
-    by_transition : (j : Known) → ((i : Known) → Some j ≡ Some i → LeavesIt Has (name_in m) i (copy_after m (Some i))) → (t : Option Transition) → Keeps (share_of j) t →
-        Each Has (took s lies from seq m (Some j) t).changes
-    by_transition j leaves None keeps = tt
-    by_transition j leaves (Some t) keeps = with_known (known_change (name_in m) (Some j) (copy_after m (Some j)) t.after)
-        (known_each Has (name_in m) j (copy_after m (Some j)) t keeps (leaves j refl))
-
-    by_none : (t : Option Transition) → Each Has (took s lies from seq m None t).changes
-    by_none None = tt
-    by_none (Some t) = with_known [] tt
-
-    by_known : (k : Option Known) → ((j : Known) → k ≡ Some j → LeavesIt Has (name_in m) j (copy_after m (Some j))) →
-        Each Has (took s lies from seq m k (note_transition me from (note_in m) (option_map share_of k))).changes
-    by_known None leaves = by_none (note_transition me from (note_in m) None)
-    by_known (Some j) leaves = by_transition j leaves (note_transition me from (note_in m) (Some (share_of j))) (note_keeps me from (note_in m) (share_of j))
+    by_known : (k : Option Known) (t : Option Transition) → ((j : Known) → k ≡ Some j → LeavesIt Has (name_in m) j (copy_after m (Some j))) →
+        ((j : Known) → k ≡ Some j → Keeps (share_of j) t) → Each Has (took s lies from seq m k t).changes
+    by_known k None leaves keeps = tt
+    by_known None (Some t) leaves keeps = with_known [] tt
+    by_known (Some j) (Some t) leaves keeps = with_known (known_change (name_in m) (Some j) (copy_after m (Some j)) t.after)
+        (known_each Has (name_in m) j (copy_after m (Some j)) t (keeps j refl) (leaves j refl))
 
 -- ## what grants bring
 
@@ -90,9 +83,8 @@ EachBrings g (d ∷ drafts) = BringsFields g d.msg × EachBrings g drafts
 -- fields that are told have the values of those of the copy
 told_values : (s : NodeState) (lies : ℕ → Place) (fields : List ViewField) → values_told (map (told_field s lies) fields) ≡ map value_in fields
 told_values s lies [] = refl
-told_values s lies (field.Null ∷ fields) = ap (λ (l : List Val). val.Null ∷ l) (told_values s lies fields)
-told_values s lies (field.Int k ∷ fields) = ap (λ (l : List Val). val.Int k ∷ l) (told_values s lies fields)
 told_values s lies (field.Ref name ∷ fields) = ap (λ (l : List Val). val.Ref name ∷ l) (told_values s lies fields)
+told_values s lies (f ∷ fields) = ap (λ (l : List Val). value_in f ∷ l) (told_values s lies fields)
 
 -- and fields that are heard have those of the letter
 pub heard_values : (fields : List Field) → map value_in (map heard_field fields) ≡ values_told fields
