@@ -4,6 +4,7 @@ use Rattle.std.proofs.Common.{◌≡◌, ◌⊎◌, inl, inr, ℕ, ◌+◌, ◌�
 use Rattle.std.specs.Prelude.{◌==◌, ◌&&◌, ◌||◌, nat_le, Contains, Option, Some, None, IsSome, IfSome, is_some, slice_get}
 use Rattle.std.specs.Option.{option_map, option_map_or, option_and_then}
 use Rattle.std.specs.List.{flat_map, cons_option}
+use Rattle.std.proofs.lemmas.Bool.Decides.{nat_tests}
 use Rattle.std.proofs.lemmas.List.{append-nil}
 use Rattle.std.proofs.lemmas.List.Elements.{filter_map-append, Contains-append_cases}
 use Rattle.bmx_types.specs.Words.{name_word}
@@ -307,10 +308,7 @@ module _ (st : Setting) (past : List Event) (nodes : ℕ → Node) (e : Event) (
 
   -- a letter that isn't bad has the next number
   good_number : (a b t c d f : Bool) → (a || b || not t || c || d || f) ≡ false → t ≡ true
-  good_number true b t c d f h = absurd cc
-  good_number false true t c d f h = absurd cc
-  good_number false false true c d f h = refl
-  good_number false false false c d f h = absurd cc
+  good_number a b t c d f h = grind (arith, nat_tests)
 
   letter_seen : (from : ℕ) (l : Letter) → e.input ≡ input.Take from l → (o : Reaction) → o ≡ rule st me s ev.step.told (input.Take from l) → IsSeen st past nodes e after o
   letter_seen from l is o same = subst (IsSeen st past nodes e after) (sym same) (by_test (is_bad_letter st me s from l || ev.step.told.clash) refl)

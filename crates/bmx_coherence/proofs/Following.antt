@@ -3,6 +3,7 @@
 -- can go on what is waited for is held elsewhere.
 use Rattle.std.proofs.Common.{◌≡◌, ℕ, ◌<◌, ◌≤◌, arith, refl, ap, sym, subst, ◌∙◌, Bool, true, false, List, [], ◌∷◌, map, zero, suc, ◌⊎◌, inl, inr, cond}
 use Rattle.std.specs.Prelude.{◌==◌, ◌||◌, Contains, Option, Some, None, IsSome, is_some, unwrap_or, ◌&&◌, count_by}
+use Rattle.std.proofs.lemmas.Bool.Decides.{nat_tests}
 use Rattle.std.specs.Option.{option_map, option_map_or}
 use Rattle.bmx_types.specs.Words.{name_word, anchor_of}
 use Rattle.bmx_types.specs.declared.values.Val.{Val}
@@ -90,11 +91,7 @@ told_in (f ∷ fields) y (suc k, below, e) = told_in fields y (k, omega arith, e
 has_it : (y : ℕ) (names : List ℕ) → Contains names y → has_name y names ≡ true
 has_it y [] c = absurd (omega (arith, c.1))
 has_it y (z ∷ names) (zero, below, here) = λ i. eqb_of here i || has_name y names
-has_it y (z ∷ names) (suc k, below, there) = (λ i. (z == y) || has_it y names (k, omega arith, there) i) ∙ or_true (z == y)
-  where
-    or_true : (b : Bool) → (b || true) ≡ true
-    or_true true = refl
-    or_true false = refl
+has_it y (z ∷ names) (suc k, below, there) = grind (arith, nat_tests, has_it y names (k, omega arith, there))
 
 seen_in : (x : ℕ) (letters : List Letter) (l : Letter) → Contains letters l → Contains (map (seen_message x) letters) (seen_message x l)
 seen_in x [] l c = absurd (omega (arith, c.1))

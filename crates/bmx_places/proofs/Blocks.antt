@@ -1,8 +1,9 @@
 -- No Info of a block clashes at a node whose headers are of blocks, and once it is learnt they still are.
-use Rattle.std.proofs.Common.{◌≡◌, ℕ, ◌+◌, ◌^◌, ◌<◌, ◌≤◌, arith, refl, ap, sym, subst, ◌∙◌, Bool, true, false, cond, List, [], ◌∷◌, map, length, zero, suc}
+use Rattle.std.proofs.Common.{◌≡◌, ◌≢◌, ℕ, ◌+◌, ◌^◌, ◌<◌, ◌≤◌, arith, refl, ap, sym, subst, ◌∙◌, Bool, true, false, cond, List, [], ◌∷◌, map, length, zero, suc}
 use Rattle.std.specs.Prelude.{◌==◌, ◌&&◌, ◌||◌, not, nat_lt, Option, Some, None, is_some}
 use Rattle.std.specs.Option.{option_map_or}
-use Rattle.std.proofs.lemmas.Bool.{ltb-true, le-ltb}
+use Rattle.std.proofs.lemmas.Bool.{le-ltb}
+use Rattle.std.proofs.lemmas.Bool.Decides.{nat_tests}
 use Rattle.bmx_types.specs.Words.{address_word, home_of, segment_of, index_of}
 use Rattle.bmx_types.specs.declared.addresses.Place.{Place}
 use Rattle.bmx_types.specs.declared.addresses.Info.{Info}
@@ -55,7 +56,19 @@ Keeps blocks known a = KeepsAt blocks known a.place a.header
 
 none_below : (n : ℕ) (test : ℕ → Bool) → ((j : ℕ) → j < n → test j ≡ false) → any_below n test ≡ false
 none_below zero test h = refl
-none_below (suc n) test h = λ i. h n (omega arith) i || none_below n test (λ j p. h j (omega (arith, p))) i
+none_below (suc n) test h = grind (arith, h n, none_below n test (λ j p. h j (omega (arith, p))))
+
+-- what stands at its own word is the same, and what stands at another doesn't reach it
+not_in_the_way : (name size i j : ℕ) (h : Header) → (j ≡ i → (h.name ≡ name) × (h.size ≡ size)) → (j ≢ i → overlaps i (4 + size) j (4 + h.size) ≡ false) →
+    is_in_the_way name size i j h ≡ false
+not_in_the_way name size i j h same other = grind (arith, nat_tests)
+
+not_owned : (home me handed i : ℕ) → (home ≡ me → i ≤ handed) → (home == me && nat_lt handed i) ≡ false
+not_owned home me handed i h = grind (arith, nat_tests)
+
+-- a place that isn't another, with more moves, is fine if it isn't barred
+not_clashing : (m n a b : ℕ) (barred : Bool) → barred ≡ false → (a ≡ b → m ≡ n) → cond (nat_lt m n) (cond (a == b) true barred) false ≡ false
+not_clashing m n a b barred fine same = grind (arith, nat_tests)
 
 module _ (st : Setting) (w : World) (blocks : ℕ → Option Block) (are : AreBlocks st w blocks) (me : ℕ) where
   module _ (info : Info) (told : IsTold blocks info) where
@@ -75,39 +88,28 @@ module _ (st : Setting) (w : World) (blocks : ℕ → Option Block) (are : AreBl
 
         by_header : (h : Option Header) → header (address_word (home_of at) (segment_of at) j) ≡ h → option_map_or (is_in_the_way info.name info.size (index_of at) j) h false ≡ false
         by_header None e = refl
-        by_header (Some h) e = by_two (two j (index_of at))
+        by_header (Some h) e = not_in_the_way info.name info.size (index_of at) j h
+            (λ s. (let same : of.block ≡ block_of info = some_same (sym of.there ∙ ap blocks (ap (address_word (home_of at) (segment_of at)) s ∙ same_word at) ∙ told) in
+            (sym of.named ∙ ap (λ (b : Block). b.name) same, sym of.sized ∙ ap (λ (b : Block). b.size) same)))
+            (λ d. (λ i. overlaps (index_of at) (4 + info.size) (sym parts.2 i) (4 + sym of.sized i))
+            ∙ are.apart at other (block_of info) of.block told of.there (sym parts.0) (sym parts.1) (λ e. d (sym parts.2 ∙ ap index_of (sym e))))
           where
-            of : Heads blocks (address_word (home_of at) (segment_of at) j) h
-            of = heads (address_word (home_of at) (segment_of at) j) h e
+            of : Heads blocks other h
+            of = heads other h e
 
-            by_two : Two j (index_of at) → is_in_the_way info.name info.size (index_of at) j h ≡ false
-            by_two (Same s) =
-                let same : of.block ≡ block_of info = some_same (sym of.there ∙ ap blocks (ap (address_word (home_of at) (segment_of at)) s ∙ same_word at) ∙ told) in
-                let named : h.name ≡ info.name = sym of.named ∙ ap (λ (b : Block). b.name) same in
-                let sized : h.size ≡ info.size = sym of.sized ∙ ap (λ (b : Block). b.size) same in
-                (λ i. cond (eqb_of s i) (is_another info.name info.size h) (is_across info.size (index_of at) j h))
-                ∙ (λ i. not (eqb_of named i && eqb_of sized i))
-            by_two (Apart f d) =
-                let parts = parts_again (home_of at) (segment_of at) j (omega arith) (omega (arith, below)) in
-                (λ i. cond (f i) (is_another info.name info.size h) (is_across info.size (index_of at) j h))
-                ∙ (λ i. overlaps (index_of at) (4 + info.size) (sym parts.2 i) (4 + sym of.sized i))
-                ∙ are.apart at (address_word (home_of at) (segment_of at) j) (block_of info) of.block told of.there (sym parts.0) (sym parts.1)
-                (λ e. d (sym parts.2 ∙ ap index_of (sym e)))
+            parts : (home_of other ≡ home_of at) × (segment_of other ≡ segment_of at) × (index_of other ≡ j)
+            parts = parts_again (home_of at) (segment_of at) j (omega arith) (omega (arith, below))
 
     not_barred : (a : Places) → AllHead blocks a.header → ((s : ℕ) → a.handed s ≡ (w.places me).handed s) → is_barred me a info.name info.size at ≡ false
     not_barred a heads handed =
         let inside : nat_lt 1024 (index_of at + (4 + info.size)) ≡ false = le-ltb 1024 (index_of at + (4 + info.size)) its.inside in
         let free : any_below 1024 (λ j. option_map_or (is_in_the_way info.name info.size (index_of at) j) (a.header (address_word (home_of at) (segment_of at) j)) false) ≡ false =
         none_below 1024 (λ j. option_map_or (is_in_the_way info.name info.size (index_of at) j) (a.header (address_word (home_of at) (segment_of at) j)) false) (no_way a.header heads) in
-        (λ i. inside i || own (two (home_of at) me) i || free i)
+        (λ i. inside i || own i || free i)
       where
-        own : Two (home_of at) me → (home_of at == me && nat_lt (a.handed (segment_of at)) (index_of at + (4 + info.size))) ≡ false
-        own (Same e) =
-            let within : index_of at + (4 + info.size) ≤ (w.places me).handed (segment_of at) =
-            subst (λ (h : ℕ). index_of at + (4 + info.size) ≤ (w.places h).handed (segment_of at)) e its.handed in
-            let here : index_of at + (4 + info.size) ≤ a.handed (segment_of at) = omega (arith, within, handed (segment_of at)) in
-            (λ i. eqb_of e i && le-ltb (a.handed (segment_of at)) (index_of at + (4 + info.size)) here i)
-        own (Apart f d) = λ i. f i && nat_lt (a.handed (segment_of at)) (index_of at + (4 + info.size))
+        own : (home_of at == me && nat_lt (a.handed (segment_of at)) (index_of at + (4 + info.size))) ≡ false
+        own = not_owned (home_of at) me (a.handed (segment_of at)) (index_of at + (4 + info.size))
+            (λ e. omega (arith, handed (segment_of at), subst (λ (h : ℕ). index_of at + (4 + info.size) ≤ (w.places h).handed (segment_of at)) e its.handed))
 
     -- what is known of it is told alike
     pub same_shape : (place : Place) (k : Known) → blocks place.address ≡ Some (block_at info.name k place) → (k.bunch ≡ info.bunch) × (k.size ≡ info.size)
@@ -124,19 +126,8 @@ module _ (st : Setting) (w : World) (blocks : ℕ → Option Block) (are : AreBl
         by_known (Some k) e =
             let l : LiesIn blocks (a.place info.name) info.name k = keeps.entries info.name k e in
             let shape : (k.bunch ≡ info.bunch) × (k.size ≡ info.size) = same_shape l.place k l.block in
-            (λ i. not (eqb_of shape.0 i && eqb_of shape.1 i) || clashes_at me a info (l.lies i)) ∙ by_place l.place k l.block
-          where
-            by_place : (old : Place) (k : Known) → blocks old.address ≡ Some (block_at info.name k old) → clashes_at me a info (Some old) ≡ false
-            by_place old k there = by_tests (nat_lt old.moves info.place.moves) (old.address == at) refl refl
-              where
-                by_tests : (newer same : Bool) → nat_lt old.moves info.place.moves ≡ newer → (old.address == at) ≡ same → cond newer (cond same true (is_barred me a info.name info.size at)) false ≡ false
-                by_tests false same n s = refl
-                by_tests true false n s = barred
-                by_tests true true n s =
-                    let one : block_at info.name k old ≡ block_of info = some_same (sym there ∙ ap blocks (eqb_is old.address at s) ∙ told) in
-                    let moves : old.moves ≡ info.place.moves = ap (λ (b : Block). b.moves) one in
-                    let more : old.moves < info.place.moves = ltb-true old.moves info.place.moves n in
-                    absurd (omega arith)
+            (λ i. not (eqb_of shape.0 i && eqb_of shape.1 i) || clashes_at me a info (l.lies i)) ∙ not_clashing l.place.moves info.place.moves l.place.address at _ barred
+            (λ same. ap (λ (b : Block). b.moves) (some_same (sym l.block ∙ ap blocks same ∙ told)))
 
 -- ## learning
 

@@ -68,21 +68,19 @@ abbrev pub total : ℕ → List Event → ℕ
 total zero past = 0
 total (suc k) past = total k past + steps_of k past
 
-total_more : (k : ℕ) (past : List Event) (e : Event) → total k (past ++ e ∷ []) ≡ total k past + cond (nat_lt e.node k) 1 0
-total_more zero past e = (let none : cond {A = ℕ} (nat_lt e.node 0) 1 0 ≡ 0 = grind (arith, nat_tests) in omega (arith, none))
-total_more (suc k) past e = by_tests (nat_lt e.node k) (e.node == k) (nat_lt e.node (suc k)) (together e.node k) (total_more k past e) (steps_more k past e)
-  where
-    together : (n k : ℕ) → cond {A = ℕ} (nat_lt n (suc k)) 1 0 ≡ cond {A = ℕ} (nat_lt n k) 1 0 + cond {A = ℕ} (n == k) 1 0
-    together n k = grind (arith, nat_tests)
+together : (n k : ℕ) → cond {A = ℕ} (nat_lt n (suc k)) 1 0 ≡ cond {A = ℕ} (nat_lt n k) 1 0 + cond {A = ℕ} (n == k) 1 0
+together n k = grind (arith, nat_tests)
 
-    by_tests : (a b c : Bool) → cond {A = ℕ} c 1 0 ≡ cond {A = ℕ} a 1 0 + cond {A = ℕ} b 1 0 → total k (past ++ e ∷ []) ≡ total k past + cond a 1 0 →
-        steps_of k (past ++ e ∷ []) ≡ steps_of k past + (0 + cond b 1 0) →
-        total k (past ++ e ∷ []) + steps_of k (past ++ e ∷ []) ≡ (total k past + steps_of k past) + cond c 1 0
-    by_tests a b c h p q = omega (arith, h, p, q)
+total_more : (k : ℕ) (past : List Event) (e : Event) → total k (past ++ e ∷ []) ≡ total k past + cond (nat_lt e.node k) 1 0
+total_more zero past e = grind (arith, nat_tests)
+total_more (suc k) past e = omega (arith, together e.node k, total_more k past e, steps_more k past e)
 
 total_few : (k : ℕ) (past : List Event) → ((n : ℕ) → steps_of n past ≤ 2 ^ 55) → total k past ≤ k * 2 ^ 55
 total_few zero past few = omega arith
 total_few (suc k) past few = omega (arith, total_few k past few, few k)
+
+few_more : (n me a b : ℕ) → b ≡ a + (0 + cond (me == n) 1 0) → (me ≡ n → a + 1 < 2 ^ 55) → a ≤ 2 ^ 55 → b ≤ 2 ^ 55
+few_more n me a b is few old = grind (arith, nat_tests)
 
 -- ## what is kept
 
@@ -178,16 +176,7 @@ module _ (st : Setting) (past : List Event) (nodes : ℕ → Node) (e : Event) (
       omega (arith, few, kept.all, fits.early, opening.few_nodes)
 
   few_after : (n : ℕ) → steps_of n (past ++ e ∷ []) ≤ 2 ^ 55
-  few_after n = by_two (two me n)
-    where
-      by_two : Two me n → steps_of n (past ++ e ∷ []) ≤ 2 ^ 55
-      by_two (Same q) =
-          let is : steps_of n (past ++ e ∷ []) ≡ steps_of n past + (0 + 1) = steps_more n past e ∙ (λ i. steps_of n past + (0 + cond {A = ℕ} (eqb_of q i) 1 0)) in
-          let same : steps_of me past ≡ steps_of n past = ap (λ (k : ℕ). steps_of k past) q in
-          omega (arith, is, same, fits.few)
-      by_two (Apart f d) =
-          let is : steps_of n (past ++ e ∷ []) ≡ steps_of n past + (0 + 0) = steps_more n past e ∙ (λ i. steps_of n past + (0 + cond {A = ℕ} (f i) 1 0)) in
-          omega (arith, is, kept.few n)
+  few_after n = few_more n me (steps_of n past) (steps_of n (past ++ e ∷ [])) (steps_more n past e) (λ q. subst (λ (k : ℕ). steps_of k past + 1 < 2 ^ 55) q fits.few) (kept.few n)
 
   all_after : length (past ++ e ∷ []) ≡ total st.nodes (past ++ e ∷ [])
   all_after =
@@ -482,15 +471,16 @@ module _ (st : Setting) (past : List Event) (nodes : ℕ → Node) (e : Event) (
     abbrev others : List Change
     others = known_changes ++ (got_changes ++ Takes from ∷ [])
 
-    learnt_all_handed : (more : List Info) (a : Places) (n : ℕ) → (with_all_learnt a more).handed n ≡ a.handed n
-    learnt_all_handed [] a n = refl
-    learnt_all_handed (info ∷ more) a n = learnt_all_handed more (with_learnt a info) n ∙ ap (λ (f : ℕ → ℕ). f n) (learnt_handed a info)
+    -- what learning keeps, learning all keeps
+    all_learnt : (P : Places → Type 0) → ((a : Places) (info : Info) → P a → P (with_learnt a info)) → (more : List Info) (a : Places) → P a → P (with_all_learnt a more)
+    all_learnt P one [] a h = h
+    all_learnt P one (info ∷ more) a h = all_learnt P one more (with_learnt a info) (one a info h)
 
     take_kept : Kept st (past ++ e ∷ []) (put nodes me after)
     take_kept = plainly o takes learnt
         (subst (λ (i : Input). MovesTo me here step.told i e.done.answer after.places) is step.places
         ∙ ap (λ (y : NodeAnswer). cond (is_taken y) learnt here.places) (answer_is o takes))
-        (learnt_all_handed (infos m) here.places) home t (others ++ flat_map sent_changes (letters_of e.stamp s o))
+        (λ n. all_learnt (λ b. b.handed n ≡ here.places.handed n) (λ b info h. ap (λ (f : ℕ → ℕ). f n) (learnt_handed b info) ∙ h) (infos m) here.places refl) home t (others ++ flat_map sent_changes (letters_of e.stamp s o))
         (after_append s o.changes (flat_map sent_changes (letters_of e.stamp s o))
         ∙ ap (λ (u : NodeState). after_changes u (flat_map sent_changes (letters_of e.stamp s o))) (after_append s (map (Hears from) (infos m)) others)
         ∙ sym (after_append t others (flat_map sent_changes (letters_of e.stamp s o))))
@@ -501,12 +491,8 @@ module _ (st : Setting) (past : List Event) (nodes : ℕ → Node) (e : Event) (
         heard.1 (hears_entering from (infos m) s) drafts (λ h. cc)
       where
         home : IsHome learnt
-        home = all (infos m) here.places (kept.homes me)
-          where
-            all : (more : List Info) (a : Places) → IsHome a → IsHome (with_all_learnt a more)
-            all [] a h = h
-            all (info ∷ more) a h = all more (with_learnt a info)
-                (learnt_either IsHome a info h (λ header. record { opened = h.opened; above = h.above; within = h.within; few = h.few }))
+        home = all_learnt IsHome (λ a info h. learnt_either IsHome a info h (λ header. record { opened = h.opened; above = h.above; within = h.within; few = h.few }))
+            (infos m) here.places (kept.homes me)
 
   by_input : (i : Input) → e.input ≡ i → Kept st (past ++ e ∷ []) (put nodes me after)
   by_input (input.Do c) is = by_command c is (command_comes kept.blocks me s here.places step.told.full step.told.lies (kept.keeps me) lies_at aware owners c)

@@ -89,6 +89,17 @@ first_there xs x rest e = subst (λ ys. Contains ys x) (sym e) (0, omega arith, 
 no_node : (st : Setting) (n : ℕ) → n < st.nodes → is_no_node st n ≡ false
 no_node st n h = grind (arith, nat_tests)
 
+no_name : (st : Setting) (me : ℕ) (s : NodeState) (y : ℕ) → maker y < st.nodes → (maker y ≡ me → count_of y ≤ s.made) → is_no_name st me s y ≡ false
+no_name st me s y real made = grind (arith, nat_tests)
+
+not_bad : (st : Setting) (me : ℕ) (s : NodeState) (info : Info) → is_no_name st me s info.name ≡ false → info.bunch < bunches_of st.births → home_of info.place.address < st.nodes →
+    info.size ≤ 32 → info.place.moves ≡ 0 → is_bad_info st me s info ≡ false
+not_bad st me s info name bunch home size moves = grind (arith, nat_tests)
+
+good_letter : (st : Setting) (me from : ℕ) (s : NodeState) (l : Letter) → from ≢ me → from < st.nodes → l.seq ≡ s.taken from + 1 → l.stamp < 2 ^ 62 → is_bad_msg st me s l.msg ≡ false →
+    is_bad_letter st me s from l ≡ false
+good_letter st me from s l apart real number stamp fine = grind (arith, nat_tests)
+
 -- ## the letter
 
 -- what taking a letter needs: another sender, nothing bad, no clash, and a transition
@@ -139,13 +150,7 @@ module _ (st : Setting) (past : List Event) (nodes : ℕ → Node) (opening : Is
 
   -- a name that was counted can be
   name_not : (y : ℕ) → IsCounted st w y → is_no_name st me s y ≡ false
-  name_not y c = λ i. no_node st (maker y) c.by_a_node i || own (two (maker y) me) i
-    where
-      own : Two (maker y) me → (maker y == me && nat_lt s.made (count_of y)) ≡ false
-      own (Same e) =
-          let made : count_of y ≤ s.made = subst (λ (n : ℕ). count_of y ≤ (nodes n).state.made) e c.made in
-          (λ i. eqb_of e i && le-ltb s.made (count_of y) made i)
-      own (Apart f d) = λ i. f i && nat_lt s.made (count_of y)
+  name_not y c = no_name st me s y c.by_a_node (λ e. subst (λ (n : ℕ). count_of y ≤ (nodes n).state.made) e c.made)
 
   its_name : is_no_name st me s x ≡ false
   its_name = name_not x (names_are_counted st past nodes opening legal after x (Between from me l real real_me (first_there _ _ _ first) (0, omega arith, refl)))
@@ -154,13 +159,7 @@ module _ (st : Setting) (past : List Event) (nodes : ℕ → Node) (opening : Is
   info_not : (info : Info) → IsTold blocks info → is_bad_info st me s info ≡ false
   info_not info told =
       let b : IsBlock st w info.place.address (block_of info) = are.each info.place.address (block_of info) told in
-      let moves : info.place.moves ≡ 0 = still info.place.address (block_of info) told in
-      let name : is_no_name st me s info.name ≡ false = name_not info.name b.counted in
-      let bunch : nat_le (bunches_of st.births) info.bunch ≡ false = lt-leb (bunches_of st.births) info.bunch b.bunch in
-      let home : is_no_node st (home_of info.place.address) ≡ false = no_node st (home_of info.place.address) b.home in
-      let size : nat_lt 32 info.size ≡ false = le-ltb 32 info.size b.size in
-      let few : nat_le too_large info.place.moves ≡ false = lt-leb too_large info.place.moves (omega (arith, moves)) in
-      (λ i. name i || bunch i || home i || size i || few i)
+      not_bad st me s info (name_not info.name b.counted) b.bunch b.home b.size (still info.place.address (block_of info) told)
 
   infos_not : (more : List Info) → Every (IsTold blocks) more → list_any (is_bad_info st me s) more ≡ false
   infos_not [] told = refl
@@ -209,10 +208,7 @@ module _ (st : Setting) (past : List Event) (nodes : ℕ → Node) (opening : Is
   msg_not = λ i. its_name i || asker_not i || full_not i || infos_not (infos l.msg) its.right.told i
 
   letter_not : is_bad_letter st me s from l ≡ false
-  letter_not =
-      let sender : (from == me) ≡ false = eqb_apart from me apart in
-      let stamp : nat_le too_large l.stamp ≡ false = lt-leb too_large l.stamp its.stamp in
-      (λ i. sender i || no_node st from real i || not (eqb_of its_number i) || stamp i || msg_not i)
+  letter_not = good_letter st me from s l apart real its_number its.stamp msg_not
 
   -- it has its transition
   its_turn : (t : Transition) × (note_transition me from (note_in l.msg) (option_map share_of (s.known x)) ≡ Some t)
