@@ -21,7 +21,6 @@ use Rattle.bmx_graph.specs.declared.answers.Answer.{Answer}
 use Rattle.bmx_graph.specs.declared.answers.Answer.TheVariants as graph
 use Rattle.bmx_graph.specs.Inside.Parts.{is_excluded}
 use Rattle.bmx_token.specs.Transitions.{Share, Note, Asks, Grants, Send, Transition, Operation, Acquires, Releases, silently, saying, transition_of}
-use Rattle.bmx_protocol.specs.declared.views.ViewField.{ViewField}
 use Rattle.bmx_protocol.specs.declared.inputs.NodeAnswer.{NodeAnswer}
 use Rattle.bmx_protocol.specs.declared.inputs.NodeAnswer.TheVariants as answer
 use Rattle.bmx_protocol.specs.Histories.{is_wait, IsOperandOf, IsCommandOf}

@@ -1,15 +1,12 @@
 -- Each law applies to runs worked by hand, and tells them from the same with one outcome changed.
 use Rattle.std.proofs.Common.{◌≡◌, ℕ, ◌<◌, arith, refl, ap, sym, subst, ◌∙◌, Bool, true, false, cond, List, [], ◌∷◌, replicate, drop, length, zero, suc}
-use Rattle.std.specs.Prelude.{◌==◌, ◌&&◌, nat_lt, Option, Some, None, is_some, slice_get, IfSome, ◌↔◌}
+use Rattle.std.specs.Prelude.{◌==◌, ◌&&◌, nat_lt, Option, Some, None, is_some}
 use Rattle.std.specs.Option.{option_map, option_map_or}
 use Rattle.bmx_types.specs.Updates.{put}
 use Rattle.bmx_types.specs.declared.openings.Birth.{Birth}
-use Rattle.bmx_types.specs.declared.commands.Refusal.TheVariants as refusal
 use Rattle.bmx_types.specs.declared.commands.Command.TheVariants as command
 use Rattle.bmx_token.specs.Transitions.{can_serve}
-use Rattle.bmx_protocol.specs.declared.inputs.NodeAnswer.TheVariants as answer
 use Rattle.bmx_protocol.specs.Nodes.{Known, first_known, birth_of, is_anchor, owned_birth, heard_birth}
-use Rattle.bmx_protocol.specs.Places.{is_full}
 use Rattle.bmx_protocol.specs.Histories.{in_flight, waits_with, taken}
 use Rattle.bmx_protocol.specs.Runs.Programs.{CanServe}
 use Rattle.bmx_protocol.specs.Runs.Turns.{is_ready}
@@ -27,18 +24,13 @@ use Rattle.bmx_protocol.specs.Cases.{Play, anchor, the_anchor, told_of_the_objec
 use Rattle.bmx_protocol.proofs.Basics.{some_same, none_some, Two, Same, Apart, two, put_apart}
 use Rattle.bmx_store_laws.proofs.Applied.{laws_apply}
 use Rattle.bmx_coherence.specs.Graphs.{graph_after}
-use Rattle.bmx_coherence.specs.Waits.{WaitsFor, WantsAreWaitedFor}
-use Rattle.bmx_coherence.specs.Copies.{AreCurrent, TargetsAreKnown}
+use Rattle.bmx_coherence.specs.Waits.{WaitsFor}
 use Rattle.bmx_coherence.specs.Stuck.{IsStuck, IsHeldElsewhere, StuckNamesHolders}
-use Rattle.bmx_coherence.specs.Laws.{IsGraphRun, HasGraph}
+use Rattle.bmx_coherence.specs.Laws.{HasGraph}
 use Rattle.bmx_coherence.specs.Cases.{store, old_fields, read_while_written, never_made, granted, granted_of_old, waiting, never_asked}
 use Rattle.bmx_coherence.specs.Telling.{LawsTell, WrongRulesBreak}
 use Rattle.bmx_coherence.proofs.Parts.{held_of, put_each}
-use Rattle.bmx_coherence.specs.Wrong.{three, hastily_granted, deafly_taken, rashly_dropped}
 use Rattle.bmx_coherence.proofs.Stated.{free_first}
-
-no_run : IsGraphRun store read_while_written → ⊥
-no_run r = (let both : graph.Nil ≡ graph.Wait = r.run.1.1.0 in cc)
 
 -- the first field refers to an object
 refers : Option (List Val) → Bool
@@ -48,25 +40,6 @@ refers _ = false
 no_graph : HasGraph (world_of granted.nodes granted_of_old) (graph_after store granted_of_old) → ⊥
 unfolding refers
 no_graph h = (let both : true ≡ false = ap refers (h.grants 0 1 old_fields.letter the_anchor (replicate 32 msg_field.Null) (0, omega arith, refl) refl) in cc)
-
-not_full : IfSome (slice_get never_made 0)
-    (λ e. (e.done.answer ≡ answer.Refused refusal.Full) ↔ (is_full store.limit (first_node store e.node).places 0 1 ≡ true)) → ⊥
-not_full f = (let both : false ≡ true = f.0 refl in cc)
-
-not_current : AreCurrent store (world_of told_of_the_object.nodes never_made) (graph_after store never_made) → ⊥
-not_current c =
-    let current : IsCurrent (world_of told_of_the_object.nodes never_made) (graph_after store never_made) 2 = c.made 0 2 (omega arith) (omega arith) (omega arith) in
-    let both : false ≡ true = ap (λ (o : Option (List Val)). is_some o) current.in_graph in
-    cc
-
-not_known : TargetsAreKnown store (world_of (first_node store) granted.past) → ⊥
-not_known t = (let both : false ≡ true = (t.letters 0 1 2 _ (0, omega arith, refl) (1, omega arith, refl)).0 in cc)
-
-not_waited : WantsAreWaitedFor store (world_of written_by_its_taker.nodes read_while_written) read_while_written → ⊥
-not_waited i =
-    let w : WaitsFor (world_of written_by_its_taker.nodes read_while_written) read_while_written 0 mode.Read 1 = i.wanted 0 mode.Read 1 (omega arith) (record { known = _; knows = refl; want = refl }) in
-    let both : false ≡ true = ap (λ (c : Option Command). is_some c) w.waits in
-    cc
 
 -- ## stuck nodes
 
@@ -164,26 +137,23 @@ pub laws_tell : LawsTell
 laws_tell = record {
   apply = laws_apply;
   stuck = (stuck, record { command = command.Read anchor; operand = anchor; waits = refl; takes = refl; means = refl });
-  run = no_run;
-  full = not_full;
+  run = λ r. (let both : graph.Nil ≡ graph.Wait = r.run.1.1.0 in cc);
+  full = λ f. (let both : false ≡ true = f.0 refl in cc);
   graph = no_graph;
-  current = not_current;
-  targets = not_known;
-  waits = not_waited;
+  current = λ c. (let current : IsCurrent (world_of told_of_the_object.nodes never_made) (graph_after store never_made) 2 = c.made 0 2 (omega arith) (omega arith) (omega arith) in
+      let both : false ≡ true = ap (λ (o : Option (List Val)). is_some o) current.in_graph in cc);
+  targets = λ t. (let both : false ≡ true = (t.letters 0 1 2 _ (0, omega arith, refl) (1, omega arith, refl)).0 in cc);
+  waits = λ i. (let w : WaitsFor (world_of written_by_its_taker.nodes read_while_written) read_while_written 0 mode.Read 1 = i.wanted 0 mode.Read 1 (omega arith) (record { known = _; knows = refl; want = refl }) in
+      let both : false ≡ true = ap (λ (c : Option Command). is_some c) w.waits in cc);
   holders = no_holder;
 }
 
 -- ## wrong rules
 
--- node 2 writes what node 1 holds for reading
-hasty : IsGraphRun three hastily_granted.past → ⊥
-hasty r = (let both : graph.Nil ≡ graph.Wait = r.run.1.1.1.0 in cc)
-
-deaf : TargetsAreKnown store (world_of deafly_taken.nodes deafly_taken.past) → ⊥
-deaf t = (let both : false ≡ true = t.copies 1 1 2 _ _ (omega arith) refl refl (0, omega arith, refl) in cc)
-
-rash : IsGraphRun three rashly_dropped.past → ⊥
-rash r = (let both : graph.Nil ≡ graph.Wait = r.run.1.1.1.0 in cc)
-
 pub wrong_rules_break : WrongRulesBreak
-wrong_rules_break = record { hasty = hasty; deaf = deaf; rash = rash }
+wrong_rules_break = record {
+  -- node 2 writes what node 1 holds for reading
+  hasty = λ r. (let both : graph.Nil ≡ graph.Wait = r.run.1.1.1.0 in cc);
+  deaf = λ t. (let both : false ≡ true = t.copies 1 1 2 _ _ (omega arith) refl refl (0, omega arith, refl) in cc);
+  rash = λ r. (let both : graph.Nil ≡ graph.Wait = r.run.1.1.1.0 in cc);
+}

@@ -12,12 +12,10 @@ use Rattle.bmx_types.specs.declared.values.Val.{Val}
 use Rattle.bmx_types.specs.declared.numbers.Mode.{Mode}
 use Rattle.bmx_types.specs.declared.numbers.Mode.TheVariants as mode
 use Rattle.bmx_types.specs.declared.addresses.Place.{Place}
-use Rattle.bmx_types.specs.declared.commands.Operand.{Operand}
 use Rattle.bmx_types.specs.declared.commands.Command.{Command}
-use Rattle.bmx_types.specs.declared.commands.Command.TheVariants as command
 use Rattle.bmx_graph.specs.State.{State, opening_state}
 use Rattle.bmx_types.specs.Updates.{put}
-use Rattle.bmx_graph.specs.Step.{target_of, changed, state_after, state_after_all, Act, IsRun}
+use Rattle.bmx_graph.specs.Step.{changed, state_after, state_after_all, Act, IsRun}
 use Rattle.bmx_graph.specs.declared.effects.Effect.{Effect}
 use Rattle.bmx_graph.specs.declared.effects.Effect.TheVariants.{Nothing, Makes as MakesOne}
 use Rattle.bmx_graph.specs.Inside.Parts.{excludes, is_excluded}
@@ -35,15 +33,15 @@ use Rattle.bmx_protocol.specs.declared.inputs.Sending.{Sending}
 use Rattle.bmx_protocol.specs.declared.inputs.Done.{Done}
 use Rattle.bmx_protocol.specs.declared.events.Event.{Event}
 use Rattle.bmx_protocol.specs.declared.views.ViewField.{ViewField}
-use Rattle.bmx_protocol.specs.Nodes.{Setting, NodeState, Known, fields_known, value_in, seen_graph, share_of}
+use Rattle.bmx_protocol.specs.Nodes.{Setting, NodeState, Known, fields_known, value_in, share_of}
 use Rattle.bmx_protocol.specs.Changes.{after_changes, with_step}
 use Rattle.bmx_protocol.specs.Rules.{Draft, Reaction, only, name_in, note_in, operation_rule, copy_after, took, take_rule, command_rule, about}
 use Rattle.bmx_protocol.specs.Strays.{too_large, is_no_node, is_bad_msg, is_bad_letter}
 use Rattle.bmx_protocol.specs.Steps.{Node, command_in, rule, numbered, letters_of, sent_changes, closed, IsStep}
-use Rattle.bmx_protocol.specs.Histories.{letters_to, issued, arrived, in_flight, IsNext, is_wait, waits_after, waits_with, IsAgain, IsCommandOf, IsInputOf, IsOperandOf, Fits}
+use Rattle.bmx_protocol.specs.Histories.{letters_to, issued, arrived, in_flight, IsNext, is_wait, waits_after, waits_with, IsAgain, IsInputOf, Fits}
 use Rattle.bmx_protocol.proofs.Changing.{after_append}
 use Rattle.bmx_store_laws.specs.Inside.Seen.{seen_known}
-use Rattle.bmx_protocol.proofs.Basics.{eqb_is, eqb_not, eqb_of, eqb_apart, Two, Same, Apart, two, put_same, some_same}
+use Rattle.bmx_protocol.proofs.Basics.{eqb_is, eqb_not, eqb_of, eqb_apart, Two, Same, Apart, two, put_same}
 use Rattle.bmx_store_laws.proofs.Copies.{GrantsNothing, note_grants}
 use Rattle.bmx_store_laws.proofs.Sends.{IsLeft, letters_left}
 use Rattle.bmx_store_laws.proofs.Shares.{shares_changed, all_spared}

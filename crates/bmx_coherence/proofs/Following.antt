@@ -1,7 +1,7 @@
 -- What follows from what stands: each name that stands somewhere has its current copy at its owner, and so has each name
 -- that was made and each that is reached; what copies and letters refer to is known; wants are waited for, and where nothing
 -- can go on what is waited for is held elsewhere.
-use Rattle.std.proofs.Common.{◌≡◌, ℕ, ◌<◌, ◌≤◌, arith, refl, ap, sym, subst, ◌∙◌, Bool, true, false, List, [], ◌∷◌, map, zero, suc, ◌⊎◌, inl, inr, cond}
+use Rattle.std.proofs.Common.{◌≡◌, ℕ, ◌<◌, ◌≤◌, arith, refl, ap, sym, subst, ◌∙◌, Bool, true, false, List, [], ◌∷◌, map, zero, suc, cond}
 use Rattle.std.specs.Prelude.{◌==◌, ◌||◌, Contains, Option, Some, None, IsSome, is_some, unwrap_or, ◌&&◌, count_by}
 use Rattle.std.proofs.lemmas.Bool.Decides.{nat_tests}
 use Rattle.std.specs.Option.{option_map, option_map_or}

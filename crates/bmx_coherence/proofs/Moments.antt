@@ -62,11 +62,7 @@ later_or_more i j xs ys x within c = Contains-append_cases (drop i xs) ys x
     (contains_drop j (drop i (xs ++ ys)) x (subst (λ zs. Contains zs x) (sym (drop-drop j i (xs ++ ys))) c)))
 
 issued_more : (n m : ℕ) (past : List Event) (e : Event) → issued n m (past ++ e ∷ []) ≡ issued n m past ++ letters_by e n m
-issued_more n m [] e = by_test (e.node == n)
-  where
-    by_test : (b : Bool) → cond b (letters_to m e.done.letters ++ []) [] ≡ cond b (letters_to m e.done.letters) []
-    by_test true = append-nil (letters_to m e.done.letters)
-    by_test false = refl
+issued_more n m [] e = ap (λ (l : List Letter). cond (e.node == n) l []) (append-nil (letters_to m e.done.letters))
 issued_more n m (f ∷ past) e = by_test (f.node == n) (issued_more n m past e)
   where
     by_test : (b : Bool) → issued n m (past ++ e ∷ []) ≡ issued n m past ++ letters_by e n m →

@@ -144,11 +144,7 @@ part_holds me s g name k hold held fields p = part_knows me s g (changed g me (H
     (record { held = held ∙ sym (put_at_row g.held me name name hold ∙ put_same (g.held me) name hold); fields = fields }) p
 
 register_put : (me : ℕ) (s : NodeState) (g : State) (register : ℕ) (v : Val) → IsPart me s g → (r : ℕ) → put s.register register v r ≡ put_at g.register me register v me r
-register_put me s g register v p r = by_test (register == r) ∙ sym (put_at_row g.register me register r v)
-  where
-    by_test : (b : Bool) → cond b v (s.register r) ≡ cond b v (g.register me r)
-    by_test true = refl
-    by_test false = p.register r
+register_put me s g register v p r = ap (λ (u : Val). cond (register == r) v u) (p.register r) ∙ sym (put_at_row g.register me register r v)
 
 values_same : (v : Val) → value_in (field_of v) ≡ v
 values_same val.Null = refl

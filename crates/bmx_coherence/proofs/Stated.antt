@@ -2,6 +2,7 @@
 use Rattle.std.proofs.Common.{◌≡◌, ◌⊎◌, inl, inr, ℕ, ◌+◌, ◌-◌, ◌<◌, ◌≤◌, arith, refl, ap, sym, subst, ◌∙◌, Bool, true, false, cond, List, [], ◌∷◌, ◌++◌, length, zero, suc, get_or}
 use Rattle.std.specs.Prelude.{◌==◌, ◌&&◌, nat_lt, Option, Some, None, is_some, find, slice_get}
 use Rattle.std.specs.Option.{option_map, option_map_or}
+use Rattle.std.proofs.lemmas.Bool.Decides.{nat_tests}
 use Rattle.std.proofs.lemmas.Option.{slice_get_cases}
 use Rattle.std.proofs.lemmas.List.{append-nil}
 use Rattle.bmx_types.specs.Words.{name_word}
@@ -64,11 +65,7 @@ finds_birth (c ∷ births) x zero b h n =
     let same : c ≡ b = cc in
     let is : (c.name == x) ≡ true = eqb_of (ap (λ (z : Birth). z.name) same ∙ n) in
     ap (λ (t : Bool). is_some (cond t (Some c) (find (λ (d : Birth). d.name == x) births))) is
-finds_birth (c ∷ births) x (suc i) b h n = by_test (c.name == x) (finds_birth births x i b h n)
-  where
-    by_test : (t : Bool) → is_some (find (λ (d : Birth). d.name == x) births) ≡ true → is_some (cond t (Some c) (find (λ (d : Birth). d.name == x) births)) ≡ true
-    by_test true e = refl
-    by_test false e = e
+finds_birth (c ∷ births) x (suc i) b h n = grind (arith, nat_tests, finds_birth births x i b h n)
 
 maker_first : (st : Setting) → IsOpening st.nodes st.limit st.births → (n count : ℕ) → 1 ≤ count → count ≤ cond (n == 0) (length st.births) 0 →
     is_some (first_known st n (name_word n count)) ≡ true

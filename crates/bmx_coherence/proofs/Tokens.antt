@@ -34,12 +34,6 @@ pub data Acquired (m : Mode) (b : Share) (o : Option Transition) (a : NodeAnswer
 abbrev Comes : ℕ → Mode → Share → Part × Acquire → Type 0
 Comes me m b r = Acquired m b (acquired me m b r.0 r.1) (acquire_answer r.1)
 
-read_apart : Write ≢ Read
-read_apart e = cc
-
-write_apart : Read ≢ Write
-write_apart e = cc
-
 wanted_comes : (me : ℕ) (m : Mode) (b : Share) (ready : Bool) → b.part.held ≡ None → b.part.want ≡ Some m → Comes me m b (take_wanted b.part m ready)
 wanted_comes me m b true h w = Holds _ h refl refl refl refl
 wanted_comes me m b false h w = Waits _ [] h refl h w tt refl
@@ -56,10 +50,10 @@ write_comes me b (Parent parent) readers h w = Waits _ _ h refl h refl (refl, tt
 
 acquire_comes : (me : ℕ) (m : Mode) (b : Share) (held want : Option Mode) → b.part.held ≡ held → b.part.want ≡ want → Comes me m b (acquire_by me b.part b.copy m held want)
 acquire_comes me m b (Some held) want h w = Bars (ap is_some h) refl refl
-acquire_comes me Read b None (Some Write) h w = Crosses Write w read_apart refl refl
+acquire_comes me Read b None (Some Write) h w = Crosses Write w (λ e. cc) refl refl
 acquire_comes me Read b None (Some Read) h w = wanted_comes me Read b b.part.ready h w
 acquire_comes me Read b None None h w = read_comes me b b.part.role b.copy h w
-acquire_comes me Write b None (Some Read) h w = Crosses Read w write_apart refl refl
+acquire_comes me Write b None (Some Read) h w = Crosses Read w (λ e. cc) refl refl
 acquire_comes me Write b None (Some Write) h w = wanted_comes me Write b b.part.ready h w
 acquire_comes me Write b None None h w = write_comes me b b.part.role b.part.readers h w
 
