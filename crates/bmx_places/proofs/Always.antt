@@ -24,7 +24,7 @@ use Rattle.bmx_store_laws.specs.Inside.Seen.{seen, first_world}
 use Rattle.bmx_store_laws.proofs.Histories.{Came, came_after}
 use Rattle.bmx_store_laws.proofs.Histories as names
 use Rattle.bmx_places.specs.Ledger.{Block, block_at, block_of, LiesIn, IsOf, HasLedger}
-use Rattle.bmx_places.specs.Laws.{BlocksAreKept, HasShape, KnownAt, ToldIn, OneShape, HasPlace, At, Between, OnePlace, NoInfoClashes, NextIsTaken, NoLetterIsStray}
+use Rattle.bmx_places.specs.Laws.{HasShape, KnownAt, ToldIn, HasPlace, At, Between, NoLetterIsStray}
 use Rattle.bmx_places.specs.Laws as law
 use Rattle.bmx_places.proofs.Blocks.{IsTold, hears_all}
 use Rattle.bmx_places.proofs.Next.{IsIssued, all_issued, IsTakeable, next_is_takeable}

@@ -10,11 +10,11 @@ use Rattle.bmx_types.specs.declared.addresses.Info.{Info}
 use Rattle.bmx_types.specs.Updates.{put}
 use Rattle.bmx_protocol.specs.declared.views.ViewField.{ViewField}
 use Rattle.bmx_protocol.specs.Nodes.{Setting, Known, NodeState}
-use Rattle.bmx_protocol.specs.Places.{Lives, Header, Places, with_object, overlaps, any_below, is_another, is_across, is_in_the_way, is_barred, with_went, with_learnt, learn_at, with_all_learnt, differs, clashes_at}
+use Rattle.bmx_protocol.specs.Places.{Lives, Header, Places, with_object, overlaps, any_below, is_in_the_way, is_barred, with_went, with_learnt, learn_at, with_all_learnt, differs, clashes_at}
 use Rattle.bmx_protocol.specs.Changes.{Hears, heard_of, heard, after_change, after_changes}
 use Rattle.bmx_protocol.specs.Strays.{clashes, some_clash}
 use Rattle.bmx_protocol.specs.Worlds.{World}
-use Rattle.bmx_protocol.proofs.Basics.{eqb_is, eqb_of, Two, Same, Apart, two, put_same, put_apart, Every, none_some, some_same}
+use Rattle.bmx_protocol.proofs.Basics.{eqb_of, Two, Same, Apart, two, put_same, put_apart, Every, none_some, some_same}
 use Rattle.bmx_places.specs.Ledger.{Block, IsBlock, AreBlocks, block_at, block_of, LiesIn, Heads}
 
 -- ## addresses

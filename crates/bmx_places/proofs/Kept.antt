@@ -1,6 +1,6 @@
 -- What is kept along a legal history: a ledger to which all belongs, and that no letter was stray.
 use Rattle.std.proofs.Common.{◌≡◌, ◌≢◌, ◌⊎◌, inl, inr, ℕ, ◌+◌, ◌*◌, ◌^◌, ◌<◌, ◌≤◌, arith, refl, ap, sym, subst, ◌∙◌, Bool, true, false, cond, List, [], ◌∷◌, ◌++◌, map, length, drop, zero, suc, length-append}
-use Rattle.std.specs.Prelude.{◌==◌, ◌&&◌, ◌||◌, not, nat_lt, nat_le, Option, Some, None, is_some, unwrap_or, replicate, slice_get, filter, count_by}
+use Rattle.std.specs.Prelude.{◌==◌, ◌&&◌, ◌||◌, not, nat_lt, nat_le, Option, Some, None, is_some, unwrap_or, slice_get, filter, count_by}
 use Rattle.std.specs.Option.{option_map, option_map_or}
 use Rattle.std.specs.List.{flat_map}
 use Rattle.std.proofs.lemmas.Bool.Decides.{nat_tests}
@@ -44,7 +44,7 @@ use Rattle.bmx_protocol.specs.Worlds.{World, world_of}
 use Rattle.bmx_protocol.proofs.Changing.{Each, each_append, after_append}
 use Rattle.bmx_store_laws.specs.Inside.Seen.{seen, seen_known, first_world}
 use Rattle.bmx_store_laws.specs.Laws.{IsCounted}
-use Rattle.bmx_protocol.proofs.Basics.{eqb_of, Two, Same, Apart, two, put_same, at_each, Every, every_append, none_some, some_same}
+use Rattle.bmx_protocol.proofs.Basics.{eqb_of, put_same, at_each, Every, every_append, none_some, some_same}
 use Rattle.bmx_store_laws.proofs.Copies.{NoGrants, GrantsNothing, note_grants}
 use Rattle.bmx_store_laws.proofs.Ruled.{FreeOf}
 use Rattle.bmx_store_laws.proofs.Channels.{slice_drop}
@@ -382,20 +382,8 @@ module _ (st : Setting) (past : List Event) (nodes : ℕ → Node) (e : Event) (
       new_kept register bunch size (is ∙ ap (λ (d : Command). input.Do d) same) full (rule st me s step.told (input.Do c)) (ap (rule st me s step.told) (sym is)) makes
   by_command c is (Plainly p none) = stays (rule st me s step.told (input.Do c)) (ap (rule st me s step.told) (sym is)) p
       (subst (λ (i : Input). MovesTo me here step.told i e.done.answer after.places) is step.places
-      ∙ places c none (answer_is (rule st me s step.told (input.Do c)) (ap (rule st me s step.told) (sym is))))
-    where
-      same : (b : Bool) → cond b here.places here.places ≡ here.places
-      same true = refl
-      same false = refl
-
-      not_nil : (y : NodeAnswer) → (y ≡ answer.Nil → ⊥) → is_nil y ≡ false
-      not_nil answer.Nil n = absurd (n refl)
-      not_nil _ n = refl
-
-      places : (d : Command) → ((register bunch size : ℕ) → d ≡ command.New register bunch size → (rule st me s step.told (input.Do c)).answer ≡ answer.Nil → ⊥) →
-          e.done.answer ≡ (rule st me s step.told (input.Do c)).answer → cond (is_nil e.done.answer) (made_places me here d) here.places ≡ here.places
-      places (command.New register bunch size) never q = λ j. cond (not_nil e.done.answer (λ nil. never register bunch size refl (sym q ∙ nil)) j) (made_places me here (command.New register bunch size)) here.places
-      places _ never q = same (is_nil e.done.answer)
+      ∙ ap (λ (y : NodeAnswer). cond (is_nil y) (made_places me here c) here.places) (answer_is (rule st me s step.told (input.Do c)) (ap (rule st me s step.told) (sym is)))
+      ∙ none here)
 
   -- ## a letter
 

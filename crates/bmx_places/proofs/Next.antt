@@ -1,9 +1,9 @@
 -- The first letter in flight between two nodes is taken: nothing that makes a letter stray can be said of it.
 use Rattle.std.proofs.Common.{◌≡◌, ◌≢◌, ℕ, ◌+◌, ◌^◌, ◌<◌, ◌≤◌, arith, refl, ap, sym, subst, ◌∙◌, Bool, true, false, cond, List, [], ◌∷◌, ◌++◌, map, length, drop, zero, suc}
-use Rattle.std.specs.Prelude.{◌==◌, ◌&&◌, ◌||◌, not, nat_lt, nat_le, Option, Some, None, IsSome, slice_get, Contains}
+use Rattle.std.specs.Prelude.{◌==◌, ◌&&◌, ◌||◌, not, nat_lt, Option, Some, None, IsSome, slice_get, Contains}
 use Rattle.std.specs.Option.{option_map, option_map_or}
 use Rattle.std.specs.List.{list_any}
-use Rattle.std.proofs.lemmas.Bool.{ltb-true, ltb-false, le-ltb, lt-leb}
+use Rattle.std.proofs.lemmas.Bool.{ltb-true, ltb-false}
 use Rattle.std.proofs.lemmas.Bool.Decides.{nat_tests}
 use Rattle.std.proofs.lemmas.List.Sums.{sum_by-cons}
 use Rattle.bmx_types.specs.Words.{maker, count_of, home_of}
@@ -23,13 +23,13 @@ use Rattle.bmx_protocol.specs.declared.inputs.Sending.{Sending}
 use Rattle.bmx_protocol.specs.declared.events.Event.{Event}
 use Rattle.bmx_protocol.specs.Nodes.{Setting, NodeState, share_of}
 use Rattle.bmx_protocol.specs.Rules.{name_in, note_in, grant_in, infos}
-use Rattle.bmx_protocol.specs.Strays.{too_large, is_no_node, is_no_name, is_bad_info, asker_in, is_bad_msg, is_bad_letter, some_clash}
+use Rattle.bmx_protocol.specs.Strays.{is_no_node, is_no_name, is_bad_info, asker_in, is_bad_msg, is_bad_letter, some_clash}
 use Rattle.bmx_protocol.specs.Steps.{Node}
 use Rattle.bmx_protocol.specs.Histories.{letters_to, issued, taken, in_flight, AreAfter, IsLegal}
 use Rattle.bmx_protocol.specs.Worlds.{World, world_of, Between}
 use Rattle.bmx_store_laws.specs.Inside.Seen.{seen, seen_message, seen_known, first_world}
 use Rattle.bmx_store_laws.specs.Laws.{IsCounted, Asked, letters_about, times_at}
-use Rattle.bmx_protocol.proofs.Basics.{eqb_of, eqb_same, eqb_apart, Two, Same, Apart, two, Every, every_append, none_some, some_same}
+use Rattle.bmx_protocol.proofs.Basics.{eqb_of, eqb_same, Every, every_append, none_some, some_same}
 use Rattle.bmx_store_laws.proofs.Channels.{numbered_at}
 use Rattle.bmx_store_laws.proofs.Histories.{Came, came_after, each_name}
 use Rattle.bmx_store_laws.proofs.Lifted.{names_are_counted, wants_stand_once}

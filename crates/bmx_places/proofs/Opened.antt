@@ -1,5 +1,5 @@
 -- The ledger that a store opens with: the blocks of its births, in the order in which they are placed.
-use Rattle.std.proofs.Common.{◌≡◌, ◌≢◌, ◌⊎◌, inl, inr, ℕ, ◌+◌, ◌*◌, ◌^◌, ◌<◌, ◌≤◌, arith, refl, ap, sym, subst, ◌∙◌, Bool, true, false, cond, List, [], ◌∷◌, map, length, zero, suc, length-append}
+use Rattle.std.proofs.Common.{◌≡◌, ◌≢◌, ◌⊎◌, inl, inr, ℕ, ◌+◌, ◌*◌, ◌^◌, ◌<◌, ◌≤◌, arith, refl, ap, sym, subst, ◌∙◌, Bool, true, false, cond, List, [], ◌∷◌, length, zero, suc, length-append}
 use Rattle.std.specs.Prelude.{not, ◌==◌, ◌&&◌, nat_lt, Option, Some, None, filter, slice_get, unwrap_or}
 use Rattle.std.specs.Option.{option_map}
 use Rattle.std.proofs.lemmas.List.{length-map}
@@ -9,7 +9,6 @@ use Rattle.bmx_types.specs.Openings.{IsOpening, bunches_of}
 use Rattle.bmx_types.specs.declared.openings.Birth.{Birth}
 use Rattle.bmx_types.specs.declared.addresses.Place.{Place}
 use Rattle.bmx_types.specs.declared.addresses.Info.{Info}
-use Rattle.bmx_types.specs.declared.values.Val.{Val}
 use Rattle.bmx_types.specs.Updates.{put}
 use Rattle.bmx_owner.specs.declared.entering.Record.{Record}
 use Rattle.bmx_owner.specs.Records.{blank}
@@ -37,6 +36,11 @@ no_keeps blocks known none = record {
   headers = λ address h e. none_some e;
   full = λ x k fields e c. none_some (sym (none x) ∙ e);
 }
+
+-- where nothing is handed out no less is handed out
+handed_by : (a b c : Places) (s : ℕ) (t : Bool) → a.handed s ≤ b.handed s → (cond t a no_places).handed s ≤ (cond t b c).handed s
+handed_by a b c s true h = h
+handed_by a b c s false h = omega arith
 
 -- ## node 0
 
@@ -100,11 +104,7 @@ module _ (st : Setting) (opening : IsOpening st.nodes st.limit st.births) where
     more = with_block st (world_at a) v p.blocks p.are 0 known b.name (owned_birth b) p.home small (λ h. few)
 
     later : IsLaterThan (world_at a) v
-    later = record { handed = λ n s. by_test (n == 0) s; made = λ n. omega arith }
-      where
-        by_test : (t : Bool) (s : ℕ) → (cond t a no_places).handed s ≤ (cond t (with_made 0 a b.name b.bunch (length b.fields)) no_places).handed s
-        by_test true s = handed_more st (world_at a) v p.blocks p.are 0 known b.name (owned_birth b) p.home small (λ h. few) s
-        by_test false s = omega arith
+    later = record { handed = λ n s. handed_by a (with_made 0 a b.name b.bunch (length b.fields)) no_places s (n == 0) (handed_more st (world_at a) v p.blocks p.are 0 known b.name (owned_birth b) p.home small (λ h. few) s); made = λ n. omega arith }
 
     unnamed : (c : ℕ) (d : Block) → p.blocks c ≡ Some d → d.name ≢ b.name
     unnamed c d e = (p.fresh c d e).0
@@ -259,7 +259,7 @@ module _ (st : Setting) (opening : IsOpening st.nodes st.limit st.births) where
   pub first_kept : Kept st [] (first_node st)
   first_kept = record {
     blocks = placed.blocks;
-    are = blocks_later st (world_at owned) (world_of (first_node st) []) placed.blocks (record { handed = λ n s. handed n s (n == 0); made = λ n. omega arith }) placed.are;
+    are = blocks_later st (world_at owned) (world_of (first_node st) []) placed.blocks (record { handed = λ n s. handed_by owned owned (cond (nat_lt n st.nodes) (with_told owned no_places (anchors st opening)) no_places) s (n == 0) (omega arith); made = λ n. omega arith }) placed.are;
     still = placed.still;
     homes = λ n. node_home (n == 0) (nat_lt n st.nodes);
     keeps = λ n. node_keeps n (n == 0) (nat_lt n st.nodes) refl refl;
@@ -269,7 +269,3 @@ module _ (st : Setting) (opening : IsOpening st.nodes st.limit st.births) where
     few = λ n. omega arith;
     all = none_yet st.nodes;
   }
-    where
-      handed : (n s : ℕ) (t : Bool) → (cond t owned no_places).handed s ≤ (cond t owned (cond (nat_lt n st.nodes) (with_told owned no_places (anchors st opening)) no_places)).handed s
-      handed n s true = omega arith
-      handed n s false = omega arith

@@ -17,7 +17,7 @@ use Rattle.bmx_protocol.specs.Nodes.{NodeState, Known, seen_graph, share_of, fie
 use Rattle.bmx_protocol.specs.Places.{Places}
 use Rattle.bmx_protocol.specs.Changes.{Change, Knows, Hears, Gives, Gets, Issues, record_of, after_change, after_changes, Sets, Makes}
 use Rattle.bmx_protocol.specs.Rules.{Draft, infos, grant_in, Reaction, only, info_of, told_field, told_fields, info_in, message, drafts_of, known_change, operation_answer, acquire_answer, release_answer, after_operation, operation_rule, about, next_name, new_object, stored, graph_changes, answered, graph_rule, token_rule, knows, command_rule}
-use Rattle.bmx_protocol.specs.Steps.{numbered, sent_changes}
+use Rattle.bmx_protocol.specs.Steps.{Node, is_nil, made_places, numbered, sent_changes}
 use Rattle.bmx_protocol.proofs.Changing.{Each, each_append, kept_by_each}
 use Rattle.bmx_protocol.proofs.Basics.{Every, none_some, some_same}
 use Rattle.bmx_places.specs.Ledger.{Block, block_at, LiesIn, IsOf}
@@ -352,9 +352,14 @@ act_answers me Serves h = by_test (can_serve me h.part)
     by_test true e = cc
     by_test false e = cc
 
+-- two ways that come to one
+either_way : {A : Type 0} (b : Bool) (x : A) → cond b x x ≡ x
+either_way true x = refl
+either_way false x = refl
+
 -- what a command comes to: plain changes, or the making of a new object in a bunch
 pub data Comes (blocks : ℕ → Option Block) (me : ℕ) (s : NodeState) (full : Bool) (c : Command) (o : Reaction) : Type 0 where
-  Plainly : IsPlain blocks s.known o → ((register bunch size : ℕ) → c ≡ command.New register bunch size → o.answer ≡ answer.Nil → ⊥) → Comes blocks me s full c o
+  Plainly : IsPlain blocks s.known o → ((n : Node) → cond (is_nil o.answer) (made_places me n c) n.places ≡ n.places) → Comes blocks me s full c o
   New : (register bunch size : ℕ) → c ≡ command.New register bunch size → full ≡ false →
       o ≡ record { changes = Knows (next_name me s) (new_object bunch size) ∷ Sets register (val.Ref (next_name me s)) ∷ Makes ∷ []; drafts = []; answer = answer.Nil } →
       Comes blocks me s full c o
@@ -423,19 +428,21 @@ module _ (blocks : ℕ → Option Block) (me : ℕ) (s : NodeState) (a : Places)
   token_plain act None = nothing_plain blocks s.known _ (λ e. cc)
   token_plain act (Some name) = act_plain act _ (λ e. cc) name (s.known name) refl
 
+  -- a command that makes no places
+  plainly : (c : Command) (o : Reaction) → IsPlain blocks s.known o → ((n : Node) → made_places me n c ≡ n.places) → Comes blocks me s full c o
+  plainly c o p none = Plainly p (λ n. ap (λ (a : Places). cond (is_nil o.answer) a n.places) (none n) ∙ either_way (is_nil o.answer) n.places)
+
   pub command_comes : (c : Command) → Comes blocks me s full c (command_rule me s full lies c (about c))
   command_comes (command.New register bunch size) = by_full full refl
     where
       by_full : (b : Bool) → full ≡ b → Comes blocks me s full (command.New register bunch size) (cond b (only (answer.Refused refusal.Full)) (graph_rule me s (command.New register bunch size)))
-      by_full true is = Plainly (nothing_plain blocks s.known _ (λ e. cc)) (λ r b z same e. cc)
+      by_full true is = Plainly (nothing_plain blocks s.known _ (λ e. cc)) (λ n. refl)
       by_full false is = New register bunch size refl is refl
-  command_comes (command.Copy register value) = Plainly (graph_plain (command.Copy register value) tt) (λ r b z same e. cc)
-  command_comes (command.Drop register) = Plainly (graph_plain (command.Drop register) tt) (λ r b z same e. cc)
-  command_comes (command.Read on) = Plainly (token_plain (Acquires mode.Read) (target_of (seen_graph me s) me on)) (λ r b z same e. cc)
-  command_comes (command.Write on) = Plainly (token_plain (Acquires mode.Write) (target_of (seen_graph me s) me on)) (λ r b z same e. cc)
-  command_comes (command.Done on) = Plainly (token_plain Releases (target_of (seen_graph me s) me on)) (λ r b z same e. cc)
-  command_comes (command.Set on index value) = Plainly (fields_plain (command.Set on index value) (target_of (seen_graph me s) me on) (storing_none (target_of (seen_graph me s) me on) index _)) (λ r b z same e. cc)
-  command_comes (command.Add on index by) = Plainly (fields_plain (command.Add on index by) (target_of (seen_graph me s) me on) (storing_none (target_of (seen_graph me s) me on) index _)) (λ r b z same e. cc)
-  command_comes (command.Get register on index) = Plainly (fields_plain (command.Get register on index) (target_of (seen_graph me s) me on) (setting_none register _)) (λ r b z same e. cc)
-  command_comes (command.Show on index) = Plainly (fields_plain (command.Show on index) (target_of (seen_graph me s) me on) tt) (λ r b z same e. cc)
-  command_comes (command.Same left right) = Plainly (graph_plain (command.Same left right) tt) (λ r b z same e. cc)
+  command_comes (command.Read on) = plainly _ _ (token_plain (Acquires mode.Read) (target_of (seen_graph me s) me on)) (λ n. refl)
+  command_comes (command.Write on) = plainly _ _ (token_plain (Acquires mode.Write) (target_of (seen_graph me s) me on)) (λ n. refl)
+  command_comes (command.Done on) = plainly _ _ (token_plain Releases (target_of (seen_graph me s) me on)) (λ n. refl)
+  command_comes (command.Set on index value) = plainly _ _ (fields_plain (command.Set on index value) (target_of (seen_graph me s) me on) (storing_none (target_of (seen_graph me s) me on) index _)) (λ n. refl)
+  command_comes (command.Add on index by) = plainly _ _ (fields_plain (command.Add on index by) (target_of (seen_graph me s) me on) (storing_none (target_of (seen_graph me s) me on) index _)) (λ n. refl)
+  command_comes (command.Get register on index) = plainly _ _ (fields_plain (command.Get register on index) (target_of (seen_graph me s) me on) (setting_none register _)) (λ n. refl)
+  command_comes (command.Show on index) = plainly _ _ (fields_plain (command.Show on index) (target_of (seen_graph me s) me on) tt) (λ n. refl)
+  command_comes c = plainly _ _ (graph_plain c tt) (λ n. refl)
