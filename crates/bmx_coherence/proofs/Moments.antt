@@ -4,6 +4,7 @@ use Rattle.std.proofs.Common.{◌≡◌, ◌≢◌, inl, inr, ℕ, ◌+◌, ◌^
 use Rattle.std.specs.Prelude.{◌==◌, Contains, Option, Some, None, IsSome, is_some, count_by, slice_get, filter}
 use Rattle.std.specs.Option.{option_map}
 use Rattle.std.proofs.lemmas.List.{map-append, append-nil, drop-append-le, drop-drop}
+use Rattle.std.proofs.lemmas.Bool.Decides.{nat_tests}
 use Rattle.std.proofs.lemmas.Nat.{div-mul-add, mod-mul-add}
 use Rattle.bmx_types.specs.Words.{name_word, maker, count_of, anchor_of}
 use Rattle.bmx_types.specs.Openings.{IsOpening}
@@ -63,14 +64,7 @@ later_or_more i j xs ys x within c = Contains-append_cases (drop i xs) ys x
 
 issued_more : (n m : ℕ) (past : List Event) (e : Event) → issued n m (past ++ e ∷ []) ≡ issued n m past ++ letters_by e n m
 issued_more n m [] e = ap (λ (l : List Letter). cond (e.node == n) l []) (append-nil (letters_to m e.done.letters))
-issued_more n m (f ∷ past) e = by_test (f.node == n) (issued_more n m past e)
-  where
-    by_test : (b : Bool) → issued n m (past ++ e ∷ []) ≡ issued n m past ++ letters_by e n m →
-        cond b (letters_to m f.done.letters ++ issued n m (past ++ e ∷ [])) (issued n m (past ++ e ∷ []))
-        ≡ cond b (letters_to m f.done.letters ++ issued n m past) (issued n m past) ++ letters_by e n m
-    by_test true h = ap (λ (l : List Letter). letters_to m f.done.letters ++ l) h
-        ∙ sym (append_assoc (letters_to m f.done.letters) (issued n m past) (letters_by e n m))
-    by_test false h = h
+issued_more n m (f ∷ past) e = grind (arith, nat_tests, append_assoc, issued_more n m past e)
 
 taken_more : (n m : ℕ) (past : List Event) (e : Event) → taken n m (past ++ e ∷ []) ≡ taken n m past ++ taken n m (e ∷ [])
 taken_more n m past e =

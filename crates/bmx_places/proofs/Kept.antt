@@ -82,6 +82,10 @@ total_few (suc k) past few = omega (arith, total_few k past few, few k)
 few_more : (n me a b : ℕ) → b ≡ a + (0 + cond (me == n) 1 0) → (me ≡ n → a + 1 < 2 ^ 55) → a ≤ 2 ^ 55 → b ≤ 2 ^ 55
 few_more n me a b is few old = grind (arith, nat_tests)
 
+-- where it isn't full for want of room, not all was made
+below_limit : (limit made : ℕ) (room : Bool) → (nat_le limit made && not room) ≡ false → room ≡ false → made < limit
+below_limit limit made room told none = grind (arith, nat_tests)
+
 -- ## what is kept
 
 pub record Kept (st : Setting) (past : List Event) (nodes : ℕ → Node) : Type 0 where
@@ -301,17 +305,10 @@ module _ (st : Setting) (past : List Event) (nodes : ℕ → Node) (e : Event) (
     count_is = mod-mul-add me (2 ^ 56) (s.made + 1) enough
 
     room : has_room here.places (here.places.opened bunch) (4 + size) ≡ false → here.places.made < 6000000
-    room none = by_test (nat_le st.limit here.places.made) refl
+    room none = (let less : here.places.made < st.limit = below_limit st.limit here.places.made _ told none in omega (arith, less, opening.few_segments))
       where
         told : (nat_le st.limit here.places.made && not (has_room here.places (here.places.opened bunch) (4 + size))) ≡ false
         told = sym (step.is_told.full ∙ ap (λ (i : Input). option_map_or (finds_full st here.places) (command_in i) false) is) ∙ full
-
-        le_else : (m n : ℕ) → nat_le m n ≡ false → n < m
-        le_else m n h = grind (arith, nat_tests)
-
-        by_test : (b : Bool) → nat_le st.limit here.places.made ≡ b → here.places.made < 6000000
-        by_test true h = (let both : true ≡ false = (λ j. sym h j && not (sym none j)) ∙ told in absurd cc)
-        by_test false h = omega (arith, le_else st.limit here.places.made h, opening.few_segments)
 
     places_are : after.places ≡ with_made me here.places x bunch size
     places_are = subst (λ (i : Input). MovesTo me here step.told i e.done.answer after.places) is step.places
