@@ -31,7 +31,7 @@ use Rattle.bmx_protocol.proofs.Basics.{eqb_same, put_same}
 use Rattle.bmx_store_laws.proofs.Copies.{NoGrants}
 use Rattle.bmx_token_model.specs.Machine.{is_grant}
 use Rattle.bmx_coherence.specs.Graphs.{graph_answer}
-use Rattle.bmx_coherence.proofs.Tokens.{Acquired, Holds as Takes, Waits, Bars, Crosses, acquiring, Released, Frees, Lacks, releasing}
+use Rattle.bmx_coherence.proofs.Transitions.{Acquired, Holds as Takes, Waits, Bars, Crosses, acquiring, Released, Frees, Lacks, releasing}
 use Rattle.bmx_coherence.proofs.Parts.{taken_by, IsWaitingWith, WantsNothing, nothing_waits, effect_unwanted, Before, untaken, unwaited, uncrossed, taken_waits, wanting_waits, held_of, want_of, some_is, known_of, put_each, IsPart, nowhere_else, part_knows, part_holds, fields_kept, IsReadyFor, effect_part}
 
 -- no message grants

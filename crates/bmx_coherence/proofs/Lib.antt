@@ -1,4 +1,3 @@
-pub mod Tokens
 pub mod Parts
 pub mod Answers
 pub mod Transitions
