@@ -121,6 +121,11 @@ entry_shown m val.Null has = tt
 entry_shown m (val.Int k) has = tt
 entry_shown m (val.Ref name) has = some_seen object_of (entry_of m.replica name) ∙ has
 
+-- what is known has an entry
+pub object_shown : (m : Contents) (name : ℕ) → is_some ((shown m).object name) ≡ is_some (entry_of m.replica name)
+unfolding shown
+object_shown m name = some_seen object_of (entry_of m.replica name)
+
 info_of_entry : (name : ℕ) (o : Option Entry) → option_map (info_in name) o
     ≡ option_map (λ (b : Object). record { name = name; bunch = b.bunch; size = b.size; place = unwrap_or (option_map (λ (e : Entry). e.place) o) nowhere }) (option_map object_of o)
 info_of_entry name None = refl

@@ -1,5 +1,5 @@
 //! What a node has of objects and registers, as its rules see it.
-ghost use Rattle.std.specs.Prelude.{◌≡◌, ℕ, ◌+◌, ◌<◌, ◌≤◌, true, false, Some, None, IsSome, IfSome, IsErrOf, OnOk, OnErr};
+ghost use Rattle.std.specs.Prelude.{◌≡◌, ℕ, ◌+◌, ◌<◌, ◌≤◌, true, false, Some, None, IsSome, IfSome, IsErrOf, OnOk, OnErr, is_some, not};
 ghost use Rattle.bmx_types.specs.declared.values.Val.TheVariants.{Null};
 ghost use Rattle.bmx_protocol.specs.Places.{no_places, is_full};
 ghost use Rattle.bmx_segment.specs.declared.segments.PlaceError.TheVariants.{Full};
@@ -187,12 +187,25 @@ impl Memory {
         ensures shown { shown self.new ≡ with_info (shown self.old) info.now }
         ensures room { room_of self.old ≤ room_of self.new + 1 }
     {
+        let _new = self.hear(info);
+    }
+
+    /// The same, and whether the name had no entry.
+    pub fn hear(&mut self, info: &Info) -> bool
+        requires few { info.now.size ≤ 32 }
+        requires fits { Fits (shown self.old) info.now }
+        requires some { 0 < room_of self.old }
+        ensures new { result ≡ not (is_some ((shown self.old).object info.now.name)) }
+        ensures shown { shown self.new ≡ with_info (shown self.old) info.now }
+        ensures room { room_of self.old ≤ room_of self.new + 1 }
+    {
         let _few = info.place.address.segment();
         self.seen = None;
-        let Ok(()) = self.replica.learn(info) else {
+        let Ok(new) = self.replica.hear(info) else {
             unreachable!()
         };
         let _sound = self.replica.segments();
+        new
     }
 
     /// The name has no copy from now on. Where it has no entry nothing changes.

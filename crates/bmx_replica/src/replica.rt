@@ -1,5 +1,5 @@
 //! A node's objects by name: entries and heap, kept as one. Only here do they change.
-ghost use Rattle.std.specs.Prelude.{◌≡◌, ◌≢◌, ℕ, ◌+◌, ◌<◌, ◌≤◌, ◌↔◌, [], true, min, replicate, Some, None, IsTrue, IsOk, IsErrOf, IsSome, IsSomeAnd, IfSome, IfNone, OnOk, OnErr, All, length, map};
+ghost use Rattle.std.specs.Prelude.{◌≡◌, ◌≢◌, ℕ, ◌+◌, ◌<◌, ◌≤◌, ◌↔◌, [], true, min, replicate, Some, None, IsTrue, IsOk, IsErrOf, IsSome, IsSomeAnd, IfOk, IfSome, IfNone, OnOk, OnErr, All, is_some, length, map, not};
 ghost use Rattle.std.specs.Option.{option_map};
 ghost use Rattle.bmx_types.specs.Words.{home_of, segment_of, index_of};
 ghost use Rattle.bmx_replica.specs.declared.replica.LearnError.TheVariants.{NoMemory as out_of_memory, Clash as no_fit};
@@ -163,6 +163,7 @@ impl Replica {
     pub(crate) fn find(&self, name: Name) -> Option<Found>
         ensures slot { option_map (λ f. f.slot) result ≡ slot_of self.now.slots name }
         ensures found { IfSome result (λ f. IsFound self.now.slots self.now.heap.blocks name f.slot f.header) }
+        ensures entry { is_some result ≡ is_some (entry_of self.now name) }
         ensures few { IfSome result (λ f. f.header.size ≤ 32) }
         ensures stands { IfSome result (λ f. CanSet self.now.heap f.slot.address f.header.name f.header.size) }
         ensures replica { IsReplica self.now.slots self.now.heap.blocks }
@@ -518,9 +519,30 @@ impl Replica {
         ensures err { OnErr result (Same self.old self.new) }
         ensures free { 0 < self.old.spare → ¬ IsErrOf result out_of_memory }
     {
+        match self.hear(info) {
+            Ok(_) => Ok(()),
+            Err(why) => Err(why),
+        }
+    }
+
+    /// The same, and whether the name had no entry.
+    pub fn hear(&mut self, info: &Info) -> Result<bool, LearnError>
+        requires { info.now.size ≤ 32 }
+        ensures new { IfOk result (λ new. new ≡ not (is_some (entry_of self.old info.now.name))) }
+        ensures ok { OnOk result (Learns self.old self.new info.now) }
+        ensures clash { IsErrOf result no_fit → ¬ Accepts self.old.heap info.now (entry_of self.old info.now.name) }
+        ensures err { OnErr result (Same self.old self.new) }
+        ensures free { 0 < self.old.spare → ¬ IsErrOf result out_of_memory }
+    {
         match self.find(info.name) {
-            Some(found) => self.learn_again(info, &found),
-            None => self.learn_new(info),
+            Some(found) => match self.learn_again(info, &found) {
+                Ok(()) => Ok(false),
+                Err(why) => Err(why),
+            },
+            None => match self.learn_new(info) {
+                Ok(()) => Ok(true),
+                Err(why) => Err(why),
+            },
         }
     }
 
