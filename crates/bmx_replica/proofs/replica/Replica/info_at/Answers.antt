@@ -2,7 +2,7 @@ use Rattle.std.proofs.Common.{◌≡◌, ℕ, Some, sym, ap, subst, ◌∙◌}
 use Rattle.std.specs.Option.{option_map}
 use Rattle.bmx_types.specs.declared.addresses.Info.{Info}
 use Rattle.bmx_replica.specs.Layouts.{moves_in}
-use Rattle.bmx_replica.specs.Replicas.{Holding, Entry, StandsAt, entry_of, info_in}
+use Rattle.bmx_replica.specs.Replicas.{Holding, StandsAt, entry_of, info_in}
 use Rattle.bmx_replica.specs.declared.objects.Object.{Object}
 use Rattle.bmx_replica.specs.contracts.replica.Replica.{the_view}
 use Rattle.bmx_replica.proofs.Fielded.{entry_of-found}

@@ -1,4 +1,4 @@
-use Rattle.std.proofs.Common.{◌≡◌, ℕ, true, IsSome, refl, sym, ap, subst, ◌∙◌}
+use Rattle.std.proofs.Common.{◌≡◌, IsSome, refl, sym, ap, subst, ◌∙◌}
 use Rattle.bmx_replica.specs.Layouts.{kinds_in}
 use Rattle.bmx_replica.specs.Replicas.{Holding, StandsAt, copy_of}
 use Rattle.bmx_replica.specs.declared.objects.Object.{Object}

@@ -1,4 +1,4 @@
-use Rattle.std.proofs.Common.{◌≡◌, ◌<◌, ℕ, Some, IsSome, min, sym, ap, subst, ◌∙◌}
+use Rattle.std.proofs.Common.{◌≡◌, ℕ, Some, IsSome, min, sym, ap, subst, ◌∙◌}
 use Rattle.bmx_segment.specs.Headers.{kind_number}
 use Rattle.bmx_segment.specs.Stores.{header_at, Writes}
 use Rattle.bmx_segment.specs.Heaps.{Heap}
