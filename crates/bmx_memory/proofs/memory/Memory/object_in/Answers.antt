@@ -1,5 +1,4 @@
-use Rattle.std.proofs.Common.{◌≡◌, sym, ap, subst, ◌∙◌}
-use Rattle.std.specs.Option.{option_map}
+use Rattle.std.proofs.Common.{sym, ap, ◌∙◌}
 use Rattle.bmx_segment.specs.Headers.{kind_number}
 use Rattle.bmx_replica.specs.Replicas.{target_in}
 use Rattle.bmx_memory.specs.Contents.{Contents}

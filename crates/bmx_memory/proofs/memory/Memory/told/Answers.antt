@@ -1,11 +1,7 @@
-use Rattle.std.proofs.Common.{◌≡◌, ℕ, Option, Some, None, sym, ap, subst, ◌∙◌}
-use Rattle.std.specs.Option.{option_map}
-use Rattle.std.proofs.lemmas.Option.{none-some}
-use Rattle.bmx_segment.specs.Headers.{kind_number}
+use Rattle.std.proofs.Common.{◌≡◌, ℕ, Some, sym, ap, subst, ◌∙◌}
 use Rattle.bmx_types.specs.declared.values.Val.{Val}
 use Rattle.bmx_types.specs.declared.values.Val.TheVariants as val
 use Rattle.bmx_msg.specs.declared.letters.Field.TheVariants.{Ref}
-use Rattle.bmx_replica.specs.Replicas.{HasTarget, Entry, StandsAt, entry_of, info_in, target_in}
 use Rattle.bmx_protocol.specs.Nodes.{field_of}
 use Rattle.bmx_protocol.specs.Rules.{told_field}
 use Rattle.bmx_memory.specs.Contents.{Contents, value_at}

@@ -1,7 +1,6 @@
-use Rattle.std.proofs.Common.{◌≡◌, ℕ, true, sym, ap, subst, Some, None, ◌∙◌, Option, IsSome}
+use Rattle.std.proofs.Common.{◌≡◌, ℕ, true, sym, ap, subst, ◌∙◌, IsSome}
 use Rattle.std.specs.Option.{option_map}
 use Rattle.bmx_replica.specs.Replicas.{copy_of, field_of}
-use Rattle.bmx_replica.specs.declared.words.Word.{Word}
 use Rattle.bmx_memory.specs.Contents.{Contents, value_at}
 use Rattle.bmx_memory.specs.Shown.{shown, HasEntry, has_copy, value_of}
 use Rattle.bmx_memory.specs.contracts.memory.Memory.{the_view}
