@@ -1,13 +1,13 @@
 -- Segments that are reserved, and words handed out of them.
-use Rattle.std.proofs.Common.{◌≡◌, ◌≢◌, ℕ, zero, suc, ◌+◌, ◌-◌, ◌*◌, ◌/◌, ◌^◌, ◌<◌, ◌≤◌, Bool, true, false, cond, ◌&&◌, ◌==◌, nat_le, nat_lt, List, [], ◌∷◌, ◌++◌, length, replicate, Option, Some, None, IsSome, is_some, slice_set, refl, sym, ap, ◌∙◌, subst, arith, inl, inr, ◌⊎◌, ⊎_elim, length-append}
+use Rattle.std.proofs.Common.{◌≡◌, ◌≢◌, ℕ, zero, suc, ◌+◌, ◌-◌, ◌<◌, ◌≤◌, Bool, true, false, cond, nat_le, List, [], ◌∷◌, ◌++◌, length, replicate, Option, Some, None, is_some, refl, sym, ap, ◌∙◌, subst, arith, inl, inr, ◌⊎◌, ⊎_elim, length-append}
 use Rattle.std.specs.Prelude.{slice_get}
-use Rattle.std.proofs.lemmas.Bool.{cases_Bool, cases_lt, cases_eq, eq-eqb, ne_eqb, leb-true, le-leb, lt-ltb, and_from}
+use Rattle.std.proofs.lemmas.Bool.{cases_Bool, cases_lt, cases_eq, ne_eqb, leb-true, le-leb, lt-ltb, and_from}
 use Rattle.bmx_segment.specs.Blocks.{Block}
-use Rattle.bmx_segment.specs.Stores.{segment_key, block_at, is_between, IsMapped, Maps}
-use Rattle.bmx_segment.specs.Heaps.{Heap, made_of, own_at, left_in, left_of, with_handed, current_of, Makes, PlacesIn}
+use Rattle.bmx_segment.specs.Stores.{segment_key, block_at, is_between, IsMapped}
+use Rattle.bmx_segment.specs.Heaps.{Heap, made_of, own_at, left_in, left_of, with_handed, Makes, PlacesIn}
 use Rattle.bmx_segment.specs.declared.segments.Own.{Own}
-use Rattle.bmx_segment.proofs.Owning.{own_at-raised_same, own_at-raised_other, own_at-made, length-raised, own_at-within}
-use Rattle.bmx_space.specs.Spaces.{Reserved, IsOwn, IsReady, segments_for, next_number, after_next, opened}
+use Rattle.bmx_segment.proofs.Owning.{own_at-raised_same, own_at-raised_other, own_at-made, length-raised}
+use Rattle.bmx_space.specs.Spaces.{Reserved, IsOwn, IsReady, segments_for, next_number, after_next}
 
 slice_new : (own : List Own) (more : ℕ) (v : Own) (i : ℕ) → length own ≤ i → i < length own + more → slice_get (own ++ replicate more v) i ≡ Some v
 slice_new [] zero v i h w = absurd (omega arith)

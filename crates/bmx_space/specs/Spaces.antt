@@ -1,5 +1,5 @@
 -- The segments that a collection reserves, and how they are handed out.
-use Rattle.std.specs.Prelude.{◌≡◌, ℕ, ◌+◌, ◌-◌, ◌*◌, ◌/◌, ◌<◌, ◌≤◌, nat_lt, nat_le, Bool, if◌then◌else◌, Option, Some, None, is_some, slice_set, refl}
+use Rattle.std.specs.Prelude.{◌≡◌, ℕ, ◌+◌, ◌-◌, ◌*◌, ◌/◌, ◌<◌, ◌≤◌, nat_le, if◌then◌else◌, Option, Some, None, is_some, slice_set, refl}
 use Rattle.bmx_segment.specs.Stores.{IsMapped}
 use Rattle.bmx_segment.specs.Heaps.{Heap, made_of, own_at, left_of, current_of}
 use Rattle.bmx_segment.specs.declared.segments.Own.{Own}

@@ -1,5 +1,5 @@
 -- Which segments a sweep drops.
-use Rattle.std.specs.Prelude.{◌≡◌, ℕ, ◌<◌, ◌≤◌, ◌↔◌, Bool, ◌==◌, if◌then◌else◌, List, length, Option, None, IsTrue}
+use Rattle.std.specs.Prelude.{◌≡◌, ℕ, ◌<◌, ◌≤◌, ◌↔◌, Bool, ◌==◌, if◌then◌else◌, List, length, None, IsTrue}
 use Rattle.std.specs.List.{list_any}
 use Rattle.std.specs.List.Sorted.{IsStrictlyIncreasing}
 use Rattle.bmx_segment.specs.Stores.{segment_key, block_at, live_of, IsMapped}

@@ -1,4 +1,4 @@
-use Rattle.std.proofs.Common.{◌≡◌, ℕ, ◌+◌, true, false, sym, ◌∙◌, subst, arith, true≢false}
+use Rattle.std.proofs.Common.{◌≡◌, ℕ, ◌+◌, sym, ◌∙◌, subst, arith, true≢false}
 use Rattle.bmx_space.specs.Inside.Sweeping.{IsSwept}
 use Rattle.bmx_space.proofs.Sweeping.{IsSwept-passed, IsSwept-dropped}
 use Rattle.bmx_space.proofs.sweep.sweep_at.Goals as goal

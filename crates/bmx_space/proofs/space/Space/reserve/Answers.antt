@@ -1,6 +1,6 @@
 use Rattle.std.proofs.Common.{◌≡◌, ℕ, ◌+◌, None, Some, sym, subst, arith}
 use Rattle.bmx_segment.specs.Heaps.{made_of, Makes}
-use Rattle.bmx_space.specs.Spaces.{Reserved, IsReady, segments_for}
+use Rattle.bmx_space.specs.Spaces.{IsReady, segments_for}
 use Rattle.bmx_space.proofs.Handing.{IsReady-reserved}
 use Rattle.bmx_space.proofs.space.Space.reserve.Goals as goal
 
