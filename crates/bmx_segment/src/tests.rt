@@ -237,6 +237,40 @@ fn a_segment_is_dropped_with_its_headers(rt: HostRuntime) -> Result<(), Fail> {
     Ok(())
 }
 
+/// The home and the number of the i-th mapped segment, where there are so many.
+fn told(segments: &Segments, i: u32) -> Option<(NodeNo, u32)> {
+    if i >= segments.mapped() {
+        return None;
+    }
+    Some(segments.mapped_at(i))
+}
+
+/// Drops a segment where nothing needs it.
+fn drop_unneeded(segments: &mut Segments, home: NodeNo, number: u32) {
+    let dead = segments.live(home, number) == 0;
+    if dead && segments.is_mapped(home, number) && !segments.is_open(home, number) {
+        segments.drop_segment(home, number);
+    }
+}
+
+/// Three segments are mapped, and the last takes the place of the first where that is dropped.
+#[test]
+fn mapped_segments_are_told(rt: HostRuntime) -> Result<(), Fail> {
+    let node = NodeNo::new(0).ok_or("node")?;
+    let home = NodeNo::new(5).ok_or("home")?;
+    let mut segments = Segments::new(rt.alloc(), node, 4096);
+    for number in [7, 3, 9] {
+        let at = Address::new(home, number, 0).ok_or("address")?;
+        segments.map(at)?;
+    }
+    let before = (told(&segments, 0), told(&segments, 1), told(&segments, 2));
+    drop_unneeded(&mut segments, home, 7);
+    let after = (told(&segments, 0), told(&segments, 1), told(&segments, 2));
+    assert_eq!(rt; before, (Some((home, 7)), Some((home, 3)), Some((home, 9))));
+    assert_eq!(rt; after, (Some((home, 9)), Some((home, 3)), None));
+    Ok(())
+}
+
 /// Places the k-th object and writes k into its last field.
 fn fill(segments: &mut Segments, node: NodeNo, bunch: BunchNo, k: u64) -> Result<bool, Fail> {
     let at = segments.place(bunch, 32)?;
