@@ -55,6 +55,16 @@ pub fn number(word: &[u8]) -> Result<u64, Misfit>
 {
     match word {
         [digit] if digit.is_ascii_digit() => Ok(u64::from(*digit - b'0')),
+        _ => any_number(word),
+    }
+}
+
+// The same, of a word that is seldom one digit.
+#[inline(never)]
+fn any_number(word: &[u8]) -> Result<u64, Misfit>
+    ensures { result ≡ read_below (2 ^ 64) word.now }
+{
+    match word {
         [b'1'..=b'9', a] if a.is_ascii_digit() => Ok(longer(first_digit(word), *a)),
         [b'1'..=b'9', a, b] if a.is_ascii_digit() && b.is_ascii_digit() => {
             Ok(longer(longer(first_digit(word), *a), *b))
