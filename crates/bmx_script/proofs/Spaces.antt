@@ -1,19 +1,17 @@
 -- A word with a space is read as nothing, so the last word of a line needn't be cut off.
-use Rattle.std.proofs.Common.{◌≡◌, ℕ, ◌+◌, ◌<◌, ◌≤◌, ◌==◌, ◌&&◌, ℤ, not, Bool, true, false, cond, List, [], ◌∷◌, length, refl, ap, sym, ◌∙◌, arith, Result, Ok, Err}
+use Rattle.std.proofs.Common.{◌≡◌, ℕ, ◌<◌, ◌==◌, ◌&&◌, ℤ, not, Bool, true, false, cond, List, [], ◌∷◌, length, refl, ap, sym, ◌∙◌, arith, Result, Ok, Err}
 use Rattle.std.specs.Prelude.{codes}
-use Rattle.std.specs.List.{list_all, slice_split, onto_first}
+use Rattle.std.specs.List.{slice_split, onto_first}
 use Rattle.std.proofs.lemmas.Bool.{false≢true}
 use Rattle.std.proofs.lemmas.List.Splits.{length-slice_split, slice_split-cons_yes, slice_split-cons_no}
 use Rattle.bmx_types.specs.declared.commands.Operand.{Operand}
-use Rattle.bmx_types.specs.declared.commands.Command.{Command}
 use Rattle.bmx_numerals.specs.Numerals.{numeral, signed_numeral}
 use Rattle.bmx_numerals.specs.declared.words.Misfit.{Misfit}
 use Rattle.bmx_numerals.specs.declared.words.Misfit.TheVariants.{Form, Range}
 use Rattle.bmx_numerals.specs.Words.{read_below, read_integer, read_both}
-use Rattle.bmx_script.specs.declared.lines.LineKind.{LineKind}
 use Rattle.bmx_script.specs.declared.knowledge.Knowledge.{Knowledge}
 use Rattle.bmx_script.specs.Grammar.{same_word}
-use Rattle.bmx_script.specs.Inside.Parsing.{is_space, map_read, read_register, read_value, read_source, read_place, of_three, read_command, placed_line, line_of}
+use Rattle.bmx_script.specs.Inside.Parsing.{is_space, map_read, read_value, of_three, read_command, placed_line, line_of}
 use Rattle.bmx_script.proofs.ReadLemmas.{is_form, below_form, integer_form}
 use Rattle.bmx_script.proofs.Words.{has_no_space, split_last}
 use Rattle.bmx_script.proofs.Plain.{is_plain, no_space, numeral_plain, signed_numeral_plain, operand_plain}

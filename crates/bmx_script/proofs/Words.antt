@@ -1,10 +1,8 @@
 -- A line and its words: what lies between its spaces.
-use Rattle.std.proofs.Common.{◌≡◌, ℕ, ◌+◌, ◌-◌, ◌<◌, ◌≤◌, ◌≢◌, ◌==◌, Bool, true, false, not, ◌&&◌, nat_le, List, [], ◌∷◌, ◌++◌, length, get_or, map, take, drop, suc, zero, Some, None, refl, ap, sym, ◌∙◌, append_assoc, ⊎_elim, inl, inr, arith}
+use Rattle.std.proofs.Common.{◌≡◌, ℕ, ◌+◌, ◌-◌, ◌<◌, ◌==◌, Bool, true, false, not, ◌&&◌, nat_le, List, [], ◌∷◌, ◌++◌, length, get_or, take, drop, suc, zero, Some, None, refl, ap, ◌∙◌, arith}
 use Rattle.std.specs.List.{list_all, position_from, slice_split, join_with_byte}
-use Rattle.std.proofs.lemmas.List.{map-append, length-append, length-map, length-drop, get_or-drop, drop-drop}
-use Rattle.std.proofs.lemmas.List.Splits.{length-slice_split}
-use Rattle.std.proofs.lemmas.Bool.{and_parts, and_from, eqb-true, ne_eqb, not-true, cases_lt}
-use Rattle.std.specs.Prelude.{IsUtf8, slice_index, ◌⊎◌}
+use Rattle.std.proofs.lemmas.Bool.{and_parts, and_from, eqb-true, not-true}
+use Rattle.std.specs.Prelude.{IsUtf8, slice_index}
 use Rattle.std.proofs.lemmas.Str.{IsUtf8-from_ascii}
 use Rattle.bmx_script.specs.Inside.Parsing.{is_space}
 use Rattle.bmx_script.specs.Grammar.{is_word_byte, is_bunch_word, begins_with_letter, same_word}

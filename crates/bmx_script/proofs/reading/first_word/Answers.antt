@@ -1,4 +1,4 @@
-use Rattle.std.proofs.Common.{◌+◌, ◌∷◌, ap, sym, ◌∙◌, length, take, List, ℕ}
+use Rattle.std.proofs.Common.{◌+◌, ◌∷◌, ap, sym, ◌∙◌, take, List, ℕ}
 use Rattle.std.specs.List.{slice_split}
 use Rattle.bmx_script.specs.Inside.Parsing.{is_space}
 use Rattle.bmx_script.proofs.LineFeeds.{rest_from}
