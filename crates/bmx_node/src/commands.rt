@@ -72,8 +72,58 @@ impl Holdings {
         }
     }
 
-    /// Does a command that touches no token, as the graph does it.
+    /// Does a command that touches no token, as the graph does it. The object that it is on is found at once.
     fn use_graph(&mut self, command: &Command) -> Result<Done, NoMemory>
+        requires keeps { Keeps self.old }
+        requires command { FitsCommand self.old.store.bunches command.now }
+        requires graph { touches_token command.now ≡ false }
+        requires clock { self.old.clock < 2 ^ 55 }
+        requires few { self.old.made ≤ self.old.clock + 320000 }
+        ensures reacts { (stamp : ℕ) → IfOk result (λ done. Reacts stamp (state_of self.old) (do_rule self.old.me (state_of self.old) (lacks_room (shown self.old.memory) command.now) (lies_at self.old) command.now) done (state_of self.new)) }
+        ensures places { IfOk result (λ done. places_of self.new ≡ (if is_nil done.answer then made_places self.old.me (node_of self.old) command.now else places_of self.old)) }
+        ensures err { OnErr result (node_of self.new ≡ node_of self.old) }
+        ensures keeps { Keeps self.new }
+        ensures frame { Frame self.old self.new }
+    {
+        self.look(command);
+        self.do_graph(command)
+    }
+
+    /// Finds the object that a command on a field is on, where a register refers to it.
+    fn look(&mut self, command: &Command)
+        requires { FitsCommand self.old.store.bunches command.now }
+        ensures { self.new ≡ self.old }
+    {
+        match *command {
+            Command::Set { on, .. } => self.look_on(on),
+            Command::Add { on, .. } => self.look_on(on),
+            Command::Get { on, .. } => self.look_on(on),
+            Command::Show { on, .. } => self.look_on(on),
+            Command::New { .. } => {}
+            Command::Copy { .. } => {}
+            Command::Drop { .. } => {}
+            Command::Read { .. } => {}
+            Command::Write { .. } => {}
+            Command::Done { .. } => {}
+            Command::Same { .. } => {}
+        }
+    }
+
+    /// Finds the object to which an operand refers, where it is a register.
+    fn look_on(&mut self, on: Operand)
+        requires { FitsOperand self.old.store.bunches on }
+        ensures { self.new ≡ self.old }
+    {
+        match on {
+            Operand::Register(register) => self.memory.look_at(register),
+            Operand::Anchor(_) => {}
+            Operand::Int(_) => {}
+            Operand::Null => {}
+        }
+    }
+
+    /// Does a command that touches no token, as the graph does it.
+    fn do_graph(&mut self, command: &Command) -> Result<Done, NoMemory>
         requires keeps { Keeps self.old }
         requires command { FitsCommand self.old.store.bunches command.now }
         requires graph { touches_token command.now ≡ false }
