@@ -109,8 +109,8 @@ impl Holdings {
         ensures keeps { (but : ℕ) → KeepsBut but self.old → KeepsBut but self.new }
         ensures frame { Frame self.old self.new }
     {
-        self.memory.learn(info);
-        if self.tokens.get(info.name).is_none() {
+        let new = self.memory.hear(info);
+        if new {
             self.tokens.add(info.name, Part::child(self.alloc, from));
         }
     }
