@@ -1,6 +1,6 @@
 -- What a runner's nodes may do next, and which choice stands at a place.
 use Rattle.std.proofs.Common.{◌≡◌, ℕ, zero, suc, ◌+◌, ◌<◌, ◌≤◌, arith, refl, ap, sym, ◌∙◌, subst, Bool, true, false, cond, List, [], ◌∷◌, ◌++◌, length, map, filter, Option, Some, None}
-use Rattle.std.specs.Prelude.{◌==◌, slice_get, slice_set, get_or, Contains, is_some}
+use Rattle.std.specs.Prelude.{◌==◌, slice_get, get_or, Contains, is_some}
 use Rattle.std.specs.Option.{option_map, option_map_or}
 use Rattle.std.proofs.lemmas.List.{length-append, length-map, append_assoc}
 use Rattle.std.proofs.lemmas.Option.{slice_get-map, slice_get_read, slice_get_within}
@@ -30,8 +30,8 @@ use Rattle.bmx_run.specs.declared.runner.Runner.{Runner}
 use Rattle.bmx_run.specs.declared.seats.Seat.{Seat}
 use Rattle.bmx_run.specs.Inside.Steps.{nodes_in}
 use Rattle.bmx_run.specs.Inside.Running.{Point, store_of, history_of, IsAt}
-use Rattle.bmx_run.specs.Inside.Picking.{served_in, ServesAll, actions_at, actions_by, others_by, tries_by, tried, Tries, Serves, Takes, ChoosesAt, IsNextOrder}
-use Rattle.bmx_run.proofs.Listing.{got_left, got_right, got_same, got_other}
+use Rattle.bmx_run.specs.Inside.Picking.{served_in, ServesAll, actions_at, actions_by, others_by, MayTry, tries_by, tried, Tries, Serves, Takes, ChoosesAt, IsNextOrder}
+use Rattle.bmx_run.proofs.Listing.{got_left, got_right}
 use Rattle.bmx_run.proofs.Counting.{one_letter, senders_are_letters}
 
 -- what indexing gives
@@ -188,6 +188,38 @@ tries_waited p r n s g b at there is waits ready =
     tries_is p r n s (Some g) true at there is waits
     ∙ ap (λ (x : Bool). cond x (TriesCommand n g.command ∷ []) []) (sym ready)
 
+-- so it may try its command just if that is ready
+pub may_waited : (p : Point) (r : Runner) (n : ℕ) (s : Seat) (g : Order) (b : Bool) → IsAt p r → slice_get r.seats.items n ≡ Some s →
+    slice_get s.orders.items s.completed ≡ Some g → s.waits ≡ true → b ≡ is_ready n (state_at p r n) g.command → MayTry p r n b
+may_waited p r n s g true at there is waits ready = (Some g, refl, tries_waited p r n s g true at there is waits ready)
+may_waited p r n s g false at there is waits ready = (None, refl, tries_waited p r n s g false at there is waits ready)
+
+-- a node that may try a command has a next one
+pub may_next : (p : Point) (r : Runner) (n : ℕ) (s : Seat) (o : Option Order) → IsAt p r → slice_get r.seats.items n ≡ Some s →
+    slice_get s.orders.items s.completed ≡ o → MayTry p r n true → is_some o ≡ true
+may_next p r n s (Some g) at there is may = refl
+may_next p r n s None at there is (None, told, tries) = absurd (false≢true (sym told))
+may_next p r n s None at there is (Some g, told, tries) = absurd (none_listed (sym (tries_none p r n s at there is) ∙ tries))
+  where
+    none_listed : [] ≡ TriesCommand n g.command ∷ [] → ⊥
+    none_listed e = omega (arith, ap (λ (l : List Action). length l) e)
+
+-- which is the one that it may try
+pub may_order : (p : Point) (r : Runner) (n : ℕ) (s : Seat) (g : Order) → IsAt p r → slice_get r.seats.items n ≡ Some s →
+    slice_get s.orders.items s.completed ≡ Some g → MayTry p r n true → tries_by p r n ≡ tried n (Some g)
+may_order p r n s g at there is (None, told, tries) = absurd (false≢true (sym told))
+may_order p r n s g at there is (Some h, told, tries) = by s.waits refl
+  where
+    by : (w : Bool) → s.waits ≡ w → tries_by p r n ≡ TriesCommand n g.command ∷ []
+    by false waits = tries_unwaited p r n s g at there is waits
+    by true waits = by_ready (is_ready n (state_at p r n) g.command) refl
+      where
+        by_ready : (b : Bool) → is_ready n (state_at p r n) g.command ≡ b → tries_by p r n ≡ TriesCommand n g.command ∷ []
+        by_ready true ready = tries_waited p r n s g true at there is waits (sym ready)
+        by_ready false ready =
+            let none : [] ≡ TriesCommand n h.command ∷ [] = sym (tries_waited p r n s g false at there is waits (sym ready)) ∙ tries in
+            absurd (omega (arith, ap (λ (l : List Action). length l) none))
+
 -- ## counts
 
 -- the letters that a node may take are as many as its lanes say
@@ -248,18 +280,6 @@ pub below_more : (p : Point) (r : Runner) (n : ℕ) → length (actions_below p 
 below_more p r n =
     let e : n + 1 ≡ suc n = omega arith in
     ap (λ (k : ℕ). length (actions_below p r k)) e ∙ length-append (actions_below p r n) (actions_by p r n)
-
--- one node more is counted
-pub counts_more : (p : Point) (r : Runner) (counts : List ℕ) (n m : ℕ) → n < length counts → m ≡ length (actions_by p r n) →
-    ((k : ℕ) → k < n → slice_get counts k ≡ Some (length (actions_by p r k))) →
-    (k : ℕ) → k < n + 1 → slice_get (slice_set counts n m) k ≡ Some (length (actions_by p r k))
-counts_more p r counts n m short is before k below = by (two n k)
-  where
-    by : Two n k → slice_get (slice_set counts n m) k ≡ Some (length (actions_by p r k))
-    by (Same q) =
-        ap (slice_get (slice_set counts n m)) (sym q) ∙ got_same counts n m short
-        ∙ ap (λ (x : ℕ). Some x) (is ∙ ap (λ (j : ℕ). length (actions_by p r j)) q)
-    by (Apart t q) = got_other counts n k m q ∙ before k (omega (arith, below, q))
 
 pub serves_more : (p : Point) (r : Runner) (n : ℕ) → ServesAll p r n → ((k : ℕ) → k < n → ServesAll p r k) → (k : ℕ) → k < n + 1 → ServesAll p r k
 serves_more p r n here before k below = by (two n k)

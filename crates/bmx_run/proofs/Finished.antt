@@ -19,7 +19,7 @@ use Rattle.bmx_world.specs.declared.runs.RunEnd.{RunEnd}
 use Rattle.bmx_world.specs.Scripts.{body_of, setting_of_script}
 use Rattle.bmx_world.specs.Texts.{text_of}
 use Rattle.bmx_world.specs.Promises.{IsOneStore}
-use Rattle.bmx_world.specs.Runs.{IsRunOf}
+use Rattle.bmx_world.specs.Runs.{stamps_behind, IsRunOf}
 use Rattle.bmx_world.proofs.Promised.{every_history_keeps_one_store}
 use Rattle.bmx_run.specs.declared.runner.Runner.{Runner}
 use Rattle.bmx_run.specs.Inside.Steps.{nodes_in}
@@ -40,6 +40,9 @@ run_of lines seed budget e r run is script history nodes text mean = record {
   nodes = record {
     each = ap (λ (l : List Stamped). length l) nodes ∙ is.whole.nodes.each;
     same = λ n d got. sym (ap (λ (o : Option Stamped). option_map_or (λ (x : Stamped). node_of x.holdings) o (first_node st n)) (sym (ap (λ (l : List Stamped). slice_get l n) nodes) ∙ got));
+    stamped = λ n d got. sym (ap (λ (o : Option Stamped). option_map_or (λ (x : Stamped). x.stamp) o 0) (sym (ap (λ (l : List Stamped). slice_get l n) nodes) ∙ got))
+        ∙ ap (λ (f : ℕ → ℕ). f n) is.whole.stamped
+        ∙ ap (λ (l : List Event). stamps_behind (λ _. 0) l n) (sym same);
     mean = λ d there. mean d (subst (λ (l : List Stamped). Contains l d) nodes there);
   };
   text = text ∙ is.whole.text ∙ ap (text_of lines) (sym same);

@@ -218,6 +218,7 @@ with_room p r c text is t = record {
       opens = t.is_at.whole.opens;
       nodes = t.is_at.whole.nodes;
       leads = t.is_at.whole.leads;
+      stamped = t.is_at.whole.stamped;
       text = is ∙ t.is_at.whole.text;
     };
     ready = record { given = t.is_at.ready.given; seats = t.is_at.ready.seats; lanes = t.is_at.ready.lanes };

@@ -1,12 +1,12 @@
 -- What an event leaves of what other nodes may try.
-use Rattle.std.proofs.Common.{◌≡◌, ℕ, ◌+◌, refl, ap, sym, ◌∙◌, subst, Bool, false, cond, List, [], ◌∷◌, ◌++◌, length, Option, Some, None, arith}
-use Rattle.std.specs.Prelude.{◌==◌, ◌-◌, ◌<◌, slice_get, slice_set, get_or, is_some}
+use Rattle.std.proofs.Common.{◌≡◌, ℕ, ◌+◌, refl, ap, sym, ◌∙◌, subst, Bool, false, cond, List, [], ◌∷◌, ◌++◌, length, Some, None, arith}
+use Rattle.std.specs.Prelude.{◌==◌, ◌-◌, ◌<◌, slice_get, slice_set, get_or}
 use Rattle.bmx_types.specs.Updates.{put}
 use Rattle.bmx_protocol.specs.declared.events.Event.{Event}
 use Rattle.bmx_protocol.specs.Nodes.{Setting}
 use Rattle.bmx_protocol.specs.Steps.{Node}
 use Rattle.bmx_protocol.specs.Histories.{Replays, AreAfter, waits_with}
-use Rattle.bmx_protocol.specs.Runs.Programs.{Order, program_in}
+use Rattle.bmx_protocol.specs.Runs.Programs.{program_in}
 use Rattle.bmx_protocol.specs.Runs.Turns.{command_action}
 use Rattle.std.proofs.lemmas.Option.{slice_get-get_or, slice_get_within}
 use Rattle.bmx_protocol.proofs.Basics.{Two, Same, Apart, two, some_same}
@@ -14,7 +14,7 @@ use Rattle.bmx_protocol.proofs.Replayed.{replay_is_determined}
 use Rattle.bmx_run.specs.declared.runner.Runner.{Runner}
 use Rattle.bmx_run.specs.Inside.Steps.{nodes_in}
 use Rattle.bmx_run.specs.Inside.Running.{Point, store_of, history_of, with_event, IsAt}
-use Rattle.bmx_run.specs.Inside.Picking.{MayTry, AreTries, tries_by, tried}
+use Rattle.bmx_run.specs.Inside.Picking.{MayTry, AreTries, tries_by}
 use Rattle.bmx_run.proofs.Listing.{got_same, got_other}
 use Rattle.bmx_run.proofs.Sitting.{Leaves, leaves_apart}
 use Rattle.bmx_run.proofs.Turned.{history_next, last_is}
@@ -57,16 +57,16 @@ tries_stay p e old new n was is apart =
     λ j. command_action n (node j).state (waits j) (slice_get (program_in p.stage n) (length (l.completed j)))
 
 -- so where it was known of all nodes which may try, only the node of the event is to be looked at again
-pub go_on : (p : Point) (e : Event) (old new : Runner) (tries : List Bool) (o : Option Order) → e.node < length tries → IsAt p old → AreTries p old tries → IsAt (with_event p e) new →
-    tries_by (with_event p e) new e.node ≡ tried e.node o → AreTries (with_event p e) new (slice_set tries e.node (is_some o))
-go_on p e old new tries o short was are is told n below = at (two e.node n)
+pub go_on : (p : Point) (e : Event) (old new : Runner) (tries : List Bool) (b : Bool) → e.node < length tries → IsAt p old → AreTries p old tries → IsAt (with_event p e) new →
+    MayTry (with_event p e) new e.node b → AreTries (with_event p e) new (slice_set tries e.node b)
+go_on p e old new tries b short was are is told n below = at (two e.node n)
   where
-    had : (b : Bool) × (slice_get tries n ≡ Some b) × MayTry p old n b
+    had : (x : Bool) × (slice_get tries n ≡ Some x) × MayTry p old n x
     had = are n below
 
-    at : Two e.node n → (b : Bool) × (slice_get (slice_set tries e.node (is_some o)) n ≡ Some b) × MayTry (with_event p e) new n b
-    at (Same q) = subst (λ (k : ℕ). (b : Bool) × (slice_get (slice_set tries e.node (is_some o)) k ≡ Some b) × MayTry (with_event p e) new k b) q (is_some o, got_same tries e.node (is_some o) short, (o, refl, told))
-    at (Apart u q) = (had.0, got_other tries e.node n (is_some o) q ∙ had.1, (had.2.0, had.2.1, tries_stay p e old new n was is u ∙ had.2.2))
+    at : Two e.node n → (x : Bool) × (slice_get (slice_set tries e.node b) n ≡ Some x) × MayTry (with_event p e) new n x
+    at (Same q) = subst (λ (k : ℕ). (x : Bool) × (slice_get (slice_set tries e.node b) k ≡ Some x) × MayTry (with_event p e) new k x) q (b, got_same tries e.node b short, told)
+    at (Apart u q) = (had.0, got_other tries e.node n b q ∙ had.1, (had.2.0, had.2.1, tries_stay p e old new n was is u ∙ had.2.2))
 
 -- what is known of one node
 pub may_at : (p : Point) (r : Runner) (tries : List Bool) (n m : ℕ) → AreTries p r tries → n < (store_of p).nodes → m ≡ n → MayTry p r m (get_or tries n false)
@@ -76,17 +76,14 @@ may_at p r tries n m are below is =
     subst (λ (k : ℕ). MayTry p r k (get_or tries n false)) (sym is) (subst (MayTry p r n) same t.2)
 
 -- where so many nodes were looked at, one more is
-pub looked_more : (p : Point) (r : Runner) (tries : List Bool) (number m : ℕ) (o : Option Order) → number < length tries → m ≡ number → tries_by p r m ≡ tried m o →
-    ((n : ℕ) → n < number → (b : Bool) × (slice_get tries n ≡ Some b) × MayTry p r n b) →
-    (n : ℕ) → n < number + 1 → (b : Bool) × (slice_get (slice_set tries number (is_some o)) n ≡ Some b) × MayTry p r n b
-looked_more p r tries number m o short is told had n below = at (two number n)
+pub looked_more : (p : Point) (r : Runner) (tries : List Bool) (number : ℕ) (b : Bool) → number < length tries → MayTry p r number b →
+    ((n : ℕ) → n < number → (x : Bool) × (slice_get tries n ≡ Some x) × MayTry p r n x) →
+    (n : ℕ) → n < number + 1 → (x : Bool) × (slice_get (slice_set tries number b) n ≡ Some x) × MayTry p r n x
+looked_more p r tries number b short told had n below = at (two number n)
   where
-    here : tries_by p r number ≡ tried number o
-    here = subst (λ (k : ℕ). tries_by p r k ≡ tried k o) is told
-
-    at : Two number n → (b : Bool) × (slice_get (slice_set tries number (is_some o)) n ≡ Some b) × MayTry p r n b
-    at (Same q) = subst (λ (k : ℕ). (b : Bool) × (slice_get (slice_set tries number (is_some o)) k ≡ Some b) × MayTry p r k b) q (is_some o, got_same tries number (is_some o) short, (o, refl, here))
-    at (Apart u q) = (let h = had n (omega (arith, below, q)) in (h.0, got_other tries number n (is_some o) q ∙ h.1, h.2))
+    at : Two number n → (x : Bool) × (slice_get (slice_set tries number b) n ≡ Some x) × MayTry p r n x
+    at (Same q) = subst (λ (k : ℕ). (x : Bool) × (slice_get (slice_set tries number b) k ≡ Some x) × MayTry p r k x) q (b, got_same tries number b short, told)
+    at (Apart u q) = (let h = had n (omega (arith, below, q)) in (h.0, got_other tries number n b q ∙ h.1, h.2))
 
 -- ## the last event
 

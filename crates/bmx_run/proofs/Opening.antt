@@ -72,11 +72,13 @@ seen_fresh : {B : Type 0} (f : Stamped → B) (d : B) (o : Option Stamped) → (
 seen_fresh f d None h = refl
 seen_fresh f d (Some x) h = h x refl
 
+stamps_fresh : (st : Setting) (count : ℕ) (nodes : List Stamped) (seats : List Seat) → AreFresh st count nodes seats → stamps_in nodes ≡ (λ _. 0)
+stamps_fresh st count nodes seats are = fun_ext (λ n. seen_fresh (λ (d : Stamped). d.stamp) 0 (slice_get nodes n) (λ x got. (are.fresh n x got).stamp))
+
 leads_fresh : (st : Setting) (count : ℕ) (nodes : List Stamped) (seats : List Seat) → AreFresh st count nodes seats → Leads st [] (nodes_in st nodes) (stamps_in nodes)
 leads_fresh st count nodes seats are =
     subst (λ (f : ℕ → Node). Leads st [] f (stamps_in nodes)) (sym (fun_ext (λ n. seen_fresh (λ (d : Stamped). node_of d.holdings) (first_node st n) (slice_get nodes n) (λ x got. (are.fresh n x got).node))))
-    (subst (λ (f : ℕ → ℕ). Leads st [] (first_node st) f) (sym (fun_ext (λ n. seen_fresh (λ (d : Stamped). d.stamp) 0 (slice_get nodes n) (λ x got. (are.fresh n x got).stamp))))
-    (history_begins st))
+    (subst (λ (f : ℕ → ℕ). Leads st [] (first_node st) f) (sym (stamps_fresh st count nodes seats are)) (history_begins st))
 
 nodes_fresh : (st : Setting) (nodes : List Stamped) (seats : List Seat) → AreFresh st st.nodes nodes seats → AreNodes st nodes
 nodes_fresh st nodes seats are = record { each = are.each; me = λ n d got. (are.fresh n d got).me; suits = λ n d got. (are.fresh n d got).suits }
@@ -104,6 +106,7 @@ begins lines seed st r same opens_st are_st lanes drawn none no_text small = rec
     opens = opens;
     nodes = nodes_fresh (setting_of_script lines) r.nodes.items r.seats.items are;
     leads = leads_fresh (setting_of_script lines) (setting_of_script lines).nodes r.nodes.items r.seats.items are;
+    stamped = stamps_fresh (setting_of_script lines) (setting_of_script lines).nodes r.nodes.items r.seats.items are;
     text = no_text;
   };
   ready = record {

@@ -22,7 +22,6 @@ use Rattle.bmx_turns.proofs.Stopping.{none_is_done}
 use Rattle.bmx_world.specs.Scripts.{setting_of_script}
 use Rattle.bmx_run.specs.declared.seats.Seat.{Seat}
 use Rattle.bmx_run.specs.declared.actions.Action.{Action as Choice}
-use Rattle.bmx_run.specs.declared.actions.Enabled.{Enabled}
 use Rattle.bmx_run.specs.declared.runner.Runner.{Runner}
 use Rattle.bmx_run.specs.Inside.Seats.{command_at, SitsAt}
 use Rattle.bmx_run.specs.Inside.Steps.{nodes_in}
@@ -49,9 +48,9 @@ at_drawn p r g at = record {
   phase = at.phase;
 }
 
--- and may do the same there
-pub counts_drawn : (p : Point) (r : Runner) (g : Lcg) (e : Enabled) → Counts p r e → Counts p (record r { generator = g }) e
-counts_drawn p r g e counts = record { total = counts.total; each = counts.each; served = counts.served }
+-- and may try the same there
+pub tries_drawn : (p : Point) (r : Runner) (g : Lcg) (tries : List Bool) → AreTries p r tries → AreTries p (record r { generator = g }) tries
+tries_drawn p r g tries are n below = are n below
 
 -- ## the turn
 
@@ -71,38 +70,38 @@ picked_is seed i [] some = absurd (omega (arith, some))
 picked_is seed i (a ∷ more) some = refl
 
 -- the place of the turn is one of the actions
-pub place_fits : (p : Point) (r : Runner) (e : Enabled) (w place : ℕ) → MayGoOn p r e → place ≡ w % e.total → place < length (actions_at p r)
-place_fits p r e w place m is =
-    let below : w % e.total < e.total = mod-lt w m.some in
-    omega (arith, is, below, m.counts.total)
+pub place_fits : (p : Point) (r : Runner) (tries : List Bool) (count w place : ℕ) → MayGoOn p r tries count → place ≡ w % count → place < length (actions_at p r)
+place_fits p r tries count w place m is =
+    let below : w % count < count = mod-lt w m.some in
+    omega (arith, is, below, m.counts.all)
 
 -- so is what is chosen there
-pub may_turn : (p : Point) (r : Runner) (e : Enabled) (g : Lcg) (w place : ℕ) (c : Choice) → MayGoOn p r e → w ≡ word p.seed (length (history_of p)) → place ≡ w % e.total →
+pub may_turn : (p : Point) (r : Runner) (tries : List Bool) (count : ℕ) (g : Lcg) (w place : ℕ) (c : Choice) → MayGoOn p r tries count → w ≡ word p.seed (length (history_of p)) → place ≡ w % count →
     ChoosesAt p (actions_at p (record r { generator = g })) place c → MayTurn p (record r { generator = g }) c
-may_turn p r e g w place c m drawn is chosen = record {
+may_turn p r tries count g w place c m drawn is chosen = record {
   is_at = at_drawn p r g m.is_at;
   goes_on = m.goes_on;
   room = m.room;
   served = m.counts.served;
   action = chosen.action;
   picks = picked_is p.seed (length (history_of p)) (actions_at p r) some
-      ∙ ap (slice_get (actions_at p r)) (sym (is ∙ ap (λ (k : ℕ). k % e.total) drawn ∙ ap (λ (k : ℕ). word p.seed (length (history_of p)) % k) m.counts.total))
+      ∙ ap (slice_get (actions_at p r)) (sym (is ∙ ap (λ (k : ℕ). k % count) drawn ∙ ap (λ (k : ℕ). word p.seed (length (history_of p)) % k) m.counts.all))
       ∙ chosen.there;
   means = chosen.means;
 }
   where
     some : 0 < length (actions_at p r)
-    some = omega (arith, m.some, m.counts.total)
+    some = omega (arith, m.some, m.counts.all)
 
 -- a choice by the generator's next word is the turn's
-pub turn_may : (p : Point) (r : Runner) (e : Enabled) (g : Lcg) (w place : ℕ) (found c : Choice) → MayGoOn p r e → (w, g) ≡ pcg32 r.generator → place ≡ w % e.total →
-    ((q : Point) → IsAt q (record r { generator = g }) → Counts q (record r { generator = g }) e → ChoosesAt q (actions_at q (record r { generator = g })) place found) → found ≡ c →
+pub turn_may : (p : Point) (r : Runner) (tries : List Bool) (count : ℕ) (g : Lcg) (w place : ℕ) (found c : Choice) → MayGoOn p r tries count → (w, g) ≡ pcg32 r.generator → place ≡ w % count →
+    ((q : Point) → IsAt q (record r { generator = g }) → AreTries q (record r { generator = g }) tries → ChoosesAt q (actions_at q (record r { generator = g })) place found) → found ≡ c →
     MayTurn p (record r { generator = g }) c × IsNextIfTried p c
-turn_may p r e g w place found c m step is chooses same =
+turn_may p r tries count g w place found c m step is chooses same =
     let drawn : w ≡ word p.seed (length (history_of p)) = word_drawn p.seed (length (history_of p)) r.generator g w step m.draws in
     let chosen : ChoosesAt p (actions_at p (record r { generator = g })) place c =
-    subst (λ (x : Choice). ChoosesAt p (actions_at p (record r { generator = g })) place x) same (chooses p (at_drawn p r g m.is_at) (counts_drawn p r g e m.counts)) in
-    (may_turn p r e g w place c m drawn is chosen, chosen.next)
+    subst (λ (x : Choice). ChoosesAt p (actions_at p (record r { generator = g })) place x) same (chooses p (at_drawn p r g m.is_at) (tries_drawn p r g tries m.known)) in
+    (may_turn p r tries count g w place c m drawn is chosen, chosen.next)
 
 -- ## when all programs are completed
 
@@ -174,23 +173,23 @@ length_none [] h = refl
 length_none (x ∷ xs) h = absurd (omega (arith, h))
 
 -- by what a runner sees: whether all programs are completed, whether the phase ends quietly, and how many actions are enabled
-pub done_seen : (p : Point) (r : Runner) (e : Enabled) → IsAt p r → Counts p r e → AreCompleted p → (p.stage.quiet ≡ false) ⊎ (e.total ≤ 0) → DoesStage (store_of p) p.past p.stage p.part
-done_seen p r e at counts all (inl plain) = done_plainly p r at all plain
-done_seen p r e at counts all (inr idle) = done_idly p r at counts.served all (length_none (actions_at p r) (omega (arith, idle, counts.total)))
+pub done_seen : (p : Point) (r : Runner) (count : ℕ) → IsAt p r → Counts p r count → AreCompleted p → (p.stage.quiet ≡ false) ⊎ (count ≤ 0) → DoesStage (store_of p) p.past p.stage p.part
+done_seen p r count at counts all (inl plain) = done_plainly p r at all plain
+done_seen p r count at counts all (inr idle) = done_idly p r at counts.served all (length_none (actions_at p r) (omega (arith, idle, counts.all)))
 
-pub not_done_seen : (p : Point) (r : Runner) (e : Enabled) → IsAt p r → Counts p r e → p.stage.quiet ≡ true → 0 < e.total → IsOpen p
-not_done_seen p r e at counts quiet some does =
+pub not_done_seen : (p : Point) (r : Runner) (count : ℕ) → IsAt p r → Counts p r count → p.stage.quiet ≡ true → 0 < count → IsOpen p
+not_done_seen p r count at counts quiet some does =
     let none : length (actions_at p r) ≡ 0 = ap (λ (l : List Action). length l) (done_is_idle p r at counts.served quiet does) in
-    omega (arith, none, some, counts.total)
+    omega (arith, none, some, counts.all)
 
 -- the same of a test
-pub done_told : (p : Point) (r : Runner) (e : Enabled) → IsAt p r → Counts p r e → AreCompleted p → (busy : Bool) →
-    (busy ≡ false → (p.stage.quiet ≡ false) ⊎ (e.total ≤ 0)) → (busy ≡ true → (p.stage.quiet ≡ true) × (0 < e.total)) →
+pub done_told : (p : Point) (r : Runner) (count : ℕ) → IsAt p r → Counts p r count → AreCompleted p → (busy : Bool) →
+    (busy ≡ false → (p.stage.quiet ≡ false) ⊎ (count ≤ 0)) → (busy ≡ true → (p.stage.quiet ≡ true) × (0 < count)) →
     IsTrue (not busy) ↔ DoesStage (store_of p) p.past p.stage p.part
-done_told p r e at counts all true idle goes =
-    let seen : (p.stage.quiet ≡ true) × (0 < e.total) = goes refl in
-    (λ h. absurd (false≢true h), λ does. absurd (not_done_seen p r e at counts seen.0 seen.1 does))
-done_told p r e at counts all false idle goes = (λ _. done_seen p r e at counts all (idle refl), λ _. refl)
+done_told p r count at counts all true idle goes =
+    let seen : (p.stage.quiet ≡ true) × (0 < count) = goes refl in
+    (λ h. absurd (false≢true h), λ does. absurd (not_done_seen p r count at counts seen.0 seen.1 does))
+done_told p r count at counts all false idle goes = (λ _. done_seen p r count at counts all (idle refl), λ _. refl)
 
 -- ## unfinished programs
 
@@ -275,8 +274,8 @@ pub not_done : {P : Type 0} (r : Bool) → IsTrue r ↔ P → r ≡ false → P 
 not_done r told seen does = false≢true (sym seen ∙ told.1 does)
 
 -- it is stuck
-pub stuck_there : (p : Point) (r : Runner) (e : Enabled) (on : IsOn p r) → Counts (with_part p on.part) r e → IsOpen (with_part p on.part) → e.total ≡ 0 → IsStuckThere p r
-stuck_there p r e on counts goes zero_is = record {
+pub stuck_there : (p : Point) (r : Runner) (count : ℕ) (on : IsOn p r) → Counts (with_part p on.part) r count → IsOpen (with_part p on.part) → count ≡ 0 → IsStuckThere p r
+stuck_there p r count on counts goes zero_is = record {
   part = on.part;
   is_at = on.is_at;
   served = counts.served;
@@ -285,34 +284,44 @@ stuck_there p r e on counts goes zero_is = record {
 }
   where
     none : actions_at (with_part p on.part) r ≡ []
-    none = length_none (actions_at (with_part p on.part) r) (sym counts.total ∙ zero_is)
+    none = length_none (actions_at (with_part p on.part) r) (sym counts.all ∙ zero_is)
 
 -- or has no event left
-pub spent_there : (p : Point) (r : Runner) (e : Enabled) (on : IsOn p r) → Counts (with_part p on.part) r e → IsOpen (with_part p on.part) → 0 < e.total →
+pub spent_there : (p : Point) (r : Runner) (count : ℕ) (on : IsOn p r) → Counts (with_part p on.part) r count → IsOpen (with_part p on.part) → 0 < count →
     length r.history.items ≡ r.budget → IsSpentThere p r
-spent_there p r e on counts goes some all = record {
+spent_there p r count on counts goes some all = record {
   part = on.part;
   is_at = on.is_at;
   spent = ap (λ (l : List Event). length l) (sym on.is_at.whole.history) ∙ all;
   goes_on = goes;
   served = counts.served;
-  some = omega (arith, some, counts.total);
+  some = omega (arith, some, counts.all);
 }
 
 -- or may go on
-pub may_go_on : (p : Point) (r : Runner) (e : Enabled) (on : IsOn p r) → Counts (with_part p on.part) r e → IsOpen (with_part p on.part) → 0 < e.total →
-    (length r.history.items ≡ r.budget → ⊥) → MayGoOn (with_part p on.part) r e
-may_go_on p r e on counts goes some room = record {
+may_go_on : (p : Point) (r : Runner) (tries : List Bool) (count : ℕ) (on : IsOn p r) → AreTries (with_part p on.part) r tries → Counts (with_part p on.part) r count →
+    IsOpen (with_part p on.part) → 0 < count → (length r.history.items ≡ r.budget → ⊥) → MayGoOn (with_part p on.part) r tries count
+may_go_on p r tries count on are counts goes some room = record {
   is_at = on.is_at;
   goes_on = goes;
   room = below (length (p.past ++ on.part)) r.budget on.is_at.whole.few (λ same. room (ap (λ (l : List Event). length l) on.is_at.whole.history ∙ same));
   draws = on.draws;
+  known = are;
   counts = counts;
   some = some;
 }
   where
     below : (a b : ℕ) → a ≤ b → (a ≡ b → ⊥) → a < b
     below a b le not = grind (arith, le, not)
+
+-- the same by what the loop has seen: how many actions are enabled, and that the phase isn't done
+pub seen_may_go : (p : Point) (quiet : Bool) (r : Runner) (count : ℕ) (tries : List Bool) → (known : (on : IsOn p r) × AreTries (with_part p on.part) r tries) →
+    p.stage.quiet ≡ quiet → ((q : Point) → IsAt q r → AreTries q r tries → Counts q r count) →
+    (done : Bool) → ((q : Point) → IsAt q r → q.stage.quiet ≡ quiet → Counts q r count → IsTrue done ↔ DoesStage (store_of q) q.past q.stage q.part) → done ≡ false →
+    (count ≡ 0 → ⊥) → (length r.history.items ≡ r.budget → ⊥) → MayGoOn (with_part p known.0.part) r tries count
+seen_may_go p quiet r count tries known ends counted done told unseen some room =
+    let here : Counts (with_part p known.0.part) r count = counted (with_part p known.0.part) known.0.is_at known.1 in
+    may_go_on p r tries count known.0 known.1 here (not_done done (told (with_part p known.0.part) known.0.is_at ends here) unseen) (positive count some) room
 
 -- ## the end of a phase
 

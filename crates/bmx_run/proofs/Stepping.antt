@@ -1,5 +1,5 @@
 -- What a node's step makes of a whole run.
-use Rattle.std.proofs.Common.{◌≡◌, ℕ, ◌+◌, ◌<◌, ◌≤◌, ◌^◌, arith, ap, sym, ◌∙◌, subst, List, [], ◌∷◌, ◌++◌, length, Option, Some, None}
+use Rattle.std.proofs.Common.{◌≡◌, ℕ, ◌+◌, ◌<◌, ◌≤◌, ◌^◌, arith, refl, ap, sym, ◌∙◌, subst, List, [], ◌∷◌, ◌++◌, length, Option, Some, None}
 use Rattle.std.specs.Prelude.{slice_get, slice_set, string_bytes}
 use Rattle.std.specs.Option.{option_map_or}
 use Rattle.std.proofs.lemmas.Option.{slice_get_within}
@@ -18,6 +18,7 @@ use Rattle.bmx_legal.specs.Growing.{Leads, MayFollow, TakesFirst}
 use Rattle.bmx_legal.proofs.Growing.{history_grows}
 use Rattle.bmx_world.specs.Scripts.{setting_of_script}
 use Rattle.bmx_world.specs.Texts.{text_of}
+use Rattle.bmx_world.specs.Runs.{stamps_behind}
 use Rattle.bmx_run.specs.declared.runner.Runner.{Runner}
 use Rattle.bmx_run.specs.Inside.Steps.{nodes_in, stamps_in, AreNodes, Steps, event_of}
 use Rattle.bmx_run.specs.Inside.Running.{IsWhole}
@@ -74,6 +75,11 @@ may_follow st past old n i new are s of_store first again = record {
   again = again;
 }
 
+-- stamps behind one event more
+stamps_more : (stamps : ℕ → ℕ) (events : List Event) (e : Event) → stamps_behind stamps (events ++ e ∷ []) ≡ put (stamps_behind stamps events) e.node e.stamp
+stamps_more stamps [] e = refl
+stamps_more stamps (f ∷ events) e = stamps_more (put stamps f.node f.stamp) events e
+
 -- a whole run with a step more
 pub whole_grows : (lines : List Line) (history : List Event) (old : Runner) (n : ℕ) (i : Input) (new : Runner) →
     IsWhole lines history old → (s : Steps (setting_of_script lines) old n i new) →
@@ -88,6 +94,11 @@ whole_grows lines history old n i new w s of_store first again room last same_hi
   opens = w.opens;
   nodes = subst (AreNodes st) (sym same_nodes) (nodes_grow st old n i new w.nodes s);
   leads = subst (λ (l : List Stamped). Leads st (history ++ e ∷ []) (nodes_in st l) (stamps_in l)) (sym (same_nodes ∙ s.nodes)) set;
+  stamped =
+      ap stamps_in (same_nodes ∙ s.nodes)
+      ∙ seen_set (λ (d : Stamped). d.stamp) (λ m. 0) old.nodes.items n s.behind there
+      ∙ ap (λ (f : ℕ → ℕ). put f n s.behind.stamp) w.stamped
+      ∙ sym (stamps_more (λ _. 0) history e);
   text = text;
 }
   where

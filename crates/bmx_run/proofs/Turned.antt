@@ -43,6 +43,7 @@ whole_same lines history old new w same budget text = record {
   leads =
       subst (λ (f : ℕ → ℕ). Leads st history (nodes_in st new.nodes.items) f) (sym same.nodes.stamps)
       (subst (λ (f : ℕ → Node). Leads st history f (stamps_in old.nodes.items)) (sym same.nodes.seen) w.leads);
+  stamped = same.nodes.stamps ∙ w.stamped;
   text = text ∙ w.text;
 }
   where

@@ -1,5 +1,5 @@
 //! What may happen next, and which of it the seed picks. It changes nothing but the generator.
-ghost use Rattle.std.specs.Prelude.{◌≡◌, ℕ, ◌<◌, ◌≤◌, ◌^◌, length, slice_get, Some, IfSome};
+ghost use Rattle.std.specs.Prelude.{◌≡◌, ℕ, ◌<◌, ◌≤◌, ◌^◌, true, length, slice_get, Some};
 ghost use Rattle.bmx_types.specs.Openings.{bunches_of};
 ghost use Rattle.bmx_protocol.specs.Runs.Turns.{letter_actions, is_ready as is_ready_at, wanted_by};
 ghost use Rattle.bmx_node.specs.Seen.{FitsCommand, state_of};
@@ -23,15 +23,6 @@ pub(crate) enum Action {
     Take { node: NodeNo, from: NodeNo },
 }
 
-/// How many actions are enabled, at each node and in all.
-#[derive(Clone, Copy, Debug)]
-pub(crate) struct Enabled {
-    /// A node's count adds two lengths, and so may take more bits than they.
-    pub(crate) counts: [u128; 8],
-    /// Their sum, which fits whatever they are.
-    pub(crate) total: u128,
-}
-
 impl Runner {
     /// Which nodes may try their next command. A look at each node.
     pub(crate) fn tries(&self) -> [bool; 8]
@@ -41,7 +32,7 @@ impl Runner {
     {
         let mut tries = [false; 8];
         for number in 0..self.nodes.len() {
-            tries[number] = self.may_try(node_no(number as u8)).is_some();
+            tries[number] = self.may_try(node_no(number as u8));
         }
         tries
     }
@@ -54,25 +45,21 @@ impl Runner {
         ensures tries { GoOn tries.old tries.new self.now }
     {
         let node = self.history[self.history.len() - 1].node;
-        tries[usize::from(node.get())] = self.may_try(node).is_some();
+        tries[usize::from(node.get())] = self.may_try(node);
     }
 
     /// How many actions are enabled, where it is known which nodes may try their next command. A look at each node.
-    pub(crate) fn enabled(&self, tries: &[bool; 8]) -> Enabled
+    /// A node's count adds two lengths, and so may take more bits than they; the sum fits whatever they are.
+    pub(crate) fn enabled(&self, tries: &[bool; 8]) -> u128
         requires at { (p : Point) × IsAt p self.now × AreTries p self.now tries.now }
         requires long { length tries.now ≡ 8 }
         ensures { (p : Point) → IsAt p self.now → AreTries p self.now tries.now → Counts p self.now result }
     {
-        let mut enabled = Enabled {
-            counts: [0; 8],
-            total: 0,
-        };
+        let mut total = 0;
         for number in 0..self.nodes.len() {
-            let count = self.count(node_no(number as u8), tries[number]);
-            enabled.counts[number] = count;
-            enabled.total += count;
+            total += self.count(node_no(number as u8), tries[number]);
         }
-        enabled
+        total
     }
 
     /// How many actions are enabled at a node, which may try its next command or not.
@@ -90,20 +77,30 @@ impl Runner {
         tries + serves + letters
     }
 
-    /// The node's next command, where it doesn't wait, or waits and its token is ready.
-    fn may_try(&self, node: NodeNo) -> Option<Order>
+    /// Whether the node may try its next command: it has one, which doesn't wait, or waits and its token is ready.
+    fn may_try(&self, node: NodeNo) -> bool
         requires at { (p : Point) × IsAt p self.now }
         requires node { node < length self.now.nodes.items }
-        ensures tried { (p : Point) → IsAt p self.now → tries_by p self.now node ≡ tried node result }
-        ensures next { (p : Point) → IsAt p self.now → IfSome result (λ g. IsNextOrder p g × (g.node ≡ node)) }
+        ensures { (p : Point) → IsAt p self.now → MayTry p self.now node result }
     {
-        let number = usize::from(node.get());
-        let seat = &self.seats[number];
-        let order = seat.next()?;
-        if seat.waits && !self.is_ready(node, &order.command) {
-            return None;
+        let seat = &self.seats[usize::from(node.get())];
+        match seat.next() {
+            Some(order) => !seat.waits || self.is_ready(node, &order.command),
+            None => false,
         }
-        Some(order)
+    }
+
+    /// The next command of a node that may try it.
+    fn order(&self, node: NodeNo) -> Order
+        requires at { (p : Point) × IsAt p self.now × MayTry p self.now node true }
+        requires node { node < length self.now.nodes.items }
+        ensures tried { (p : Point) → IsAt p self.now → MayTry p self.now node true → tries_by p self.now node ≡ tried node (Some result) }
+        ensures next { (p : Point) → IsAt p self.now → IsNextOrder p result × (result.node ≡ node) }
+    {
+        let Some(order) = self.seats[usize::from(node.get())].next() else {
+            unreachable!()
+        };
+        *order
     }
 
     /// Whether the token that a command takes is ready at a node.
@@ -124,32 +121,34 @@ impl Runner {
 
     /// The action of a place, from 0, among those that are enabled: by node, and at a node its command, its serves
     /// by rising name, its letters by rising sender.
-    pub(crate) fn pick(&self, enabled: &Enabled, place: usize) -> Action
-        requires at { (p : Point) × IsAt p self.now × Counts p self.now enabled.now × (place < length (actions_at p self.now)) }
-        ensures { (p : Point) → IsAt p self.now → Counts p self.now enabled.now → ChoosesAt p (actions_at p self.now) place result }
+    pub(crate) fn pick(&self, tries: &[bool; 8], place: usize) -> Action
+        requires at { (p : Point) × IsAt p self.now × AreTries p self.now tries.now × (place < length (actions_at p self.now)) }
+        requires long { length tries.now ≡ 8 }
+        ensures { (p : Point) → IsAt p self.now → AreTries p self.now tries.now → ChoosesAt p (actions_at p self.now) place result }
     {
         let mut place = place;
         for number in 0..self.nodes.len() {
-            let count = enabled.counts[number];
+            let node = node_no(number as u8);
+            let count = self.count(node, tries[number]);
             if (place as u128) < count {
-                return self.action(node_no(number as u8), place);
+                return self.action(node, tries[number], place);
             }
             place -= count as usize;
         }
         unreachable!()
     }
 
-    /// The action of a place among those of a node.
-    fn action(&self, node: NodeNo, place: usize) -> Action
-        requires at { (p : Point) × IsAt p self.now × (place < length (actions_by p self.now node)) }
+    /// The action of a place among those of a node, which may try its next command or not.
+    fn action(&self, node: NodeNo, may_try: bool, place: usize) -> Action
+        requires at { (p : Point) × IsAt p self.now × MayTry p self.now node may_try × (place < length (actions_by p self.now node)) }
         requires node { node < length self.now.nodes.items }
-        ensures { (p : Point) → IsAt p self.now → ChoosesAt p (actions_by p self.now node) place result }
+        ensures { (p : Point) → IsAt p self.now → MayTry p self.now node may_try → ChoosesAt p (actions_by p self.now node) place result }
     {
-        let Some(order) = self.may_try(node) else {
+        if !may_try {
             return self.serve_or_take(node, place);
-        };
+        }
         if place == 0 {
-            return Action::Try(order);
+            return Action::Try(self.order(node));
         }
         self.serve_or_take(node, place - 1)
     }

@@ -1,11 +1,11 @@
 //! A phase: event after event, until its commands are done and, where it asks so, no letter is on its way.
-ghost use Rattle.std.specs.Prelude.{◌≡◌, ◌+◌, length, IsTrue, ◌↔◌, OnOk, OnErr};
+ghost use Rattle.std.specs.Prelude.{◌≡◌, ◌+◌, ◌<◌, ◌%◌, length, IsTrue, ◌↔◌, OnOk, OnErr};
 ghost use Rattle.bmx_protocol.specs.Runs.Programs.{DoesStage};
 ghost use Rattle.bmx_run.specs.Inside.Running.{Point, store_of, history_of, IsAt, Draws, Turned, Halted};
 ghost use Rattle.bmx_run.specs.Inside.Picking.{Counts};
 ghost use Rattle.bmx_run.specs.Inside.Phases.{Starts, AfterPhase, AreCompleted, AreCleared, MayGoOn};
 
-use crate::actions::{Action, Enabled};
+use crate::actions::Action;
 use crate::runner::Runner;
 use bmx_types::NoMemory;
 use bmx_world::RunEnd;
@@ -22,17 +22,17 @@ impl Runner {
         let mut tries = self.tries();
         loop {
             let enabled = self.enabled(&tries);
-            if self.is_done(quiet, &enabled) {
+            if self.is_done(quiet, enabled) {
                 self.clear();
                 return RunEnd::Ended;
             }
-            if enabled.total == 0 {
+            if enabled == 0 {
                 return RunEnd::Stuck;
             }
             if self.history.len() as u64 == self.budget {
                 return RunEnd::Spent;
             }
-            match self.turn(&enabled) {
+            match self.turn(&tries, enabled) {
                 Ok(()) => self.look_again(&mut tries),
                 Err(NoMemory) => return RunEnd::NoMemory,
             }
@@ -40,10 +40,10 @@ impl Runner {
     }
 
     /// Whether the phase is done, where so many actions are enabled.
-    fn is_done(&self, quiet: bool, enabled: &Enabled) -> bool
-        ensures { (p : Point) → IsAt p self.now → p.stage.quiet ≡ quiet → Counts p self.now enabled.now → IsTrue result ↔ DoesStage (store_of p) p.past p.stage p.part }
+    fn is_done(&self, quiet: bool, enabled: u128) -> bool
+        ensures { (p : Point) → IsAt p self.now → p.stage.quiet ≡ quiet → Counts p self.now enabled → IsTrue result ↔ DoesStage (store_of p) p.past p.stage p.part }
     {
-        self.is_completed() && !(quiet && enabled.total > 0)
+        self.is_completed() && !(quiet && enabled > 0)
     }
 
     /// Whether each node has completed its program of the phase.
@@ -63,19 +63,30 @@ impl Runner {
         }
     }
 
-    /// Does the action that the generator's next word picks.
-    fn turn(&mut self, enabled: &Enabled) -> Result<(), NoMemory>
-        requires { (p : Point) × MayGoOn p self.old enabled.now }
-        ensures ok { (p : Point) → MayGoOn p self.old enabled.now → OnOk result (Turned p self.new × Draws p.seed (length (history_of p) + 1) self.new) }
-        ensures err { (p : Point) → MayGoOn p self.old enabled.now → OnErr result (Halted p self.new) }
+    /// Does the action that the generator's next word picks, of so many.
+    fn turn(&mut self, tries: &[bool; 8], enabled: u128) -> Result<(), NoMemory>
+        requires may { (p : Point) × MayGoOn p self.old tries.now enabled }
+        requires long { length tries.now ≡ 8 }
+        ensures ok { (p : Point) → MayGoOn p self.old tries.now enabled → OnOk result (Turned p self.new × Draws p.seed (length (history_of p) + 1) self.new) }
+        ensures err { (p : Point) → MayGoOn p self.old tries.now enabled → OnErr result (Halted p self.new) }
         ensures budget { self.new.budget ≡ self.old.budget }
     {
         let word = self.generator.next_word();
-        let place = (u128::from(word) % enabled.total) as usize;
-        match self.pick(enabled, place) {
+        match self.pick(tries, place_of(word, enabled)) {
             Action::Try(order) => self.try_command(order),
             Action::Serve { node, name } => self.serve(node, name),
             Action::Take { node, from } => self.take(node, from),
         }
+    }
+}
+
+/// The place that a word picks among so many.
+fn place_of(word: u32, count: u128) -> usize
+    requires { 0 < count }
+    ensures { result ≡ word % count }
+{
+    match u64::try_from(count) {
+        Ok(count) => (u64::from(word) % count) as usize,
+        Err(_) => word as usize,
     }
 }

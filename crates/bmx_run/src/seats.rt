@@ -1,5 +1,5 @@
 //! What each node has to do in a phase. It knows nothing of nodes and letters.
-ghost use Rattle.std.specs.Prelude.{◌≡◌, ◌+◌, ◌<◌, ◌∷◌, ◌++◌, [], length, slice_get, false, OnOk, OnErr};
+ghost use Rattle.std.specs.Prelude.{◌≡◌, ◌+◌, ◌<◌, ◌∷◌, ◌++◌, [], length, slice_get, false, option_copied, OnOk, OnErr};
 ghost use Rattle.bmx_protocol.specs.Histories.{is_wait};
 ghost use Rattle.bmx_run.specs.Inside.Seats.{SeatAfter};
 
@@ -51,10 +51,10 @@ impl Seat {
     }
 
     /// The next command, None where all are completed.
-    pub(crate) fn next(&self) -> Option<Order>
-        ensures { result ≡ slice_get self.now.orders.items self.now.completed }
+    pub(crate) fn next(&self) -> Option<&Order>
+        ensures { option_copied result ≡ slice_get self.now.orders.items self.now.completed }
     {
-        self.orders.get(self.completed).copied()
+        self.orders.get(self.completed)
     }
 
     /// Adds a command at the end of the program.

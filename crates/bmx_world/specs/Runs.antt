@@ -1,6 +1,7 @@
 -- What is true of a run that was made of a script, and how it ended.
-use Rattle.std.specs.Prelude.{◌≡◌, ℕ, List, length, slice_get, Contains, Some}
+use Rattle.std.specs.Prelude.{◌≡◌, ℕ, List, [], ◌∷◌, length, slice_get, Contains, Some}
 use Rattle.bmx_script.specs.declared.lines.Line.{Line}
+use Rattle.bmx_types.specs.Updates.{put}
 use Rattle.bmx_protocol.specs.declared.events.Event.{Event}
 use Rattle.bmx_protocol.specs.Nodes.{Setting}
 use Rattle.bmx_protocol.specs.Steps.{Node}
@@ -18,11 +19,17 @@ use Rattle.bmx_world.specs.Scripts.{body_of, setting_of_script}
 use Rattle.bmx_world.specs.Texts.{text_of}
 use Rattle.bmx_world.specs.Promises.{IsOneStore}
 
--- the nodes of a run are these, by number, as many as the store has, and each word at one of them means what it should:
--- a reference leads to its object
-pub record AreNodes (st : Setting) (nodes : ℕ → Node) (run : List Stamped) : Type 0 where
+-- the stamps of nodes behind events: each node has that of its last one
+abbrev pub stamps_behind : (ℕ → ℕ) → List Event → ℕ → ℕ
+stamps_behind stamps [] = stamps
+stamps_behind stamps (e ∷ events) = stamps_behind (put stamps e.node e.stamp) events
+
+-- the nodes of a run are these, by number, as many as the store has, each with the stamp of its last event, and each word
+-- at one of them means what it should: a reference leads to its object
+pub record AreNodes (st : Setting) (history : List Event) (nodes : ℕ → Node) (run : List Stamped) : Type 0 where
   pub each : length run ≡ st.nodes
   pub same : (n : ℕ) (d : Stamped) → slice_get run n ≡ Some d → node_of d.holdings ≡ nodes n
+  pub stamped : (n : ℕ) (d : Stamped) → slice_get run n ≡ Some d → d.stamp ≡ stamps_behind (λ _. 0) history n
   pub mean : (d : Stamped) → Contains run d → MeansWhole d.holdings.memory
 
 -- a run of a script, as far as it went, with the turns of a seed
@@ -38,7 +45,7 @@ pub record IsRunOf (lines : List Line) (seed : ℕ) (run : Run) : Type 0 where
   -- its nodes are what the events lead to
   pub after : ℕ → Node
   pub lead : AreAfter (setting_of_script lines) run.history after
-  pub nodes : AreNodes (setting_of_script lines) after run.nodes
+  pub nodes : AreNodes (setting_of_script lines) run.history after run.nodes
   -- its text is what the events print
   pub text : run.text ≡ text_of lines run.history
   -- and the nodes are one store of shared objects

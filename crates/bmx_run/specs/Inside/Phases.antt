@@ -15,11 +15,10 @@ use Rattle.bmx_world.specs.declared.runs.RunEnd.{RunEnd}
 use Rattle.bmx_world.specs.declared.runs.RunEnd.TheVariants as end
 use Rattle.bmx_world.specs.Scripts.{body_line, body_of, setting_of_script}
 use Rattle.bmx_world.specs.Runs.{IsEnd}
-use Rattle.bmx_run.specs.declared.actions.Enabled.{Enabled}
 use Rattle.bmx_run.specs.declared.seats.Seat.{Seat}
 use Rattle.bmx_run.specs.declared.runner.Runner.{Runner}
 use Rattle.bmx_run.specs.Inside.Running.{Point, store_of, history_of, IsWhole, IsAt, IsStopped, IsOpen, Draws, IsGiven, IsBetween}
-use Rattle.bmx_run.specs.Inside.Picking.{Counts, ServesAll, actions_at}
+use Rattle.bmx_run.specs.Inside.Picking.{AreTries, Counts, ServesAll, actions_at}
 
 -- ## one phase
 
@@ -31,13 +30,14 @@ pub record Starts (p : Point) (quiet : Bool) (r : Runner) : Type 0 where
   pub draws : Draws p.seed (length (history_of p)) r
 
 -- a runner may go on by one of the actions that it counted, of which there are some
-pub record MayGoOn (p : Point) (r : Runner) (e : Enabled) : Type 0 where
+pub record MayGoOn (p : Point) (r : Runner) (tries : List Bool) (count : ℕ) : Type 0 where
   pub is_at : IsAt p r
   pub goes_on : IsOpen p
   pub room : length (history_of p) < r.budget
   pub draws : Draws p.seed (length (history_of p)) r
-  pub counts : Counts p r e
-  pub some : 0 < e.total
+  pub known : AreTries p r tries
+  pub counts : Counts p r count
+  pub some : 0 < count
 
 -- each node has completed its program of the phase
 abbrev pub AreCompleted : Point → Type 0

@@ -10,7 +10,6 @@ use Rattle.bmx_protocol.specs.Runs.Turns.{Action, TriesCommand, ServesName, Take
 use Rattle.bmx_node.specs.Stamped.{Stamped}
 use Rattle.bmx_run.specs.declared.actions.Action.{Action as Choice}
 use Rattle.bmx_run.specs.declared.actions.Action.TheVariants as choice
-use Rattle.bmx_run.specs.declared.actions.Enabled.{Enabled}
 use Rattle.bmx_run.specs.declared.runner.Runner.{Runner}
 use Rattle.bmx_run.specs.Inside.Steps.{nodes_in}
 use Rattle.bmx_run.specs.Inside.Running.{Point, store_of, history_of, with_event, IsAt, IsOpen}
@@ -57,10 +56,9 @@ abbrev pub GoOn : List Bool → List Bool → Runner → Type 0
 GoOn before behind new =
     (p : Point) (e : Event) (old : Runner) → IsAt p old → AreTries p old before → IsAt (with_event p e) new → AreTries (with_event p e) new behind
 
--- how many actions there are
-pub record Counts (p : Point) (r : Runner) (e : Enabled) : Type 0 where
-  pub total : e.total ≡ length (actions_at p r)
-  pub each : (n : ℕ) → n < (store_of p).nodes → slice_get e.counts n ≡ Some (length (actions_by p r n))
+-- how many actions there are, with all that nodes can serve
+pub record Counts (p : Point) (r : Runner) (count : ℕ) : Type 0 where
+  pub all : count ≡ length (actions_at p r)
   pub served : (n : ℕ) → n < (store_of p).nodes → ServesAll p r n
 
 -- a choice is an action of the turn, with the letter that it takes

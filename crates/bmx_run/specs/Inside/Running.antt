@@ -16,6 +16,7 @@ use Rattle.bmx_turns.specs.Inside.Growing.{Comes}
 use Rattle.bmx_lanes.specs.Sending.{lane_of}
 use Rattle.bmx_world.specs.Scripts.{body_of, setting_of_script}
 use Rattle.bmx_world.specs.Texts.{text_of}
+use Rattle.bmx_world.specs.Runs.{stamps_behind}
 use Rattle.bmx_run.specs.declared.seats.Seat.{Seat}
 use Rattle.bmx_run.specs.declared.runner.Runner.{Runner}
 use Rattle.bmx_run.specs.Inside.Seats.{AreSeats}
@@ -48,6 +49,7 @@ pub record IsWhole (lines : List Line) (events : List Event) (r : Runner) : Type
   pub opens : IsOpening (setting_of_script lines).nodes (setting_of_script lines).limit (setting_of_script lines).births
   pub nodes : AreNodes (setting_of_script lines) r.nodes.items
   pub leads : Leads (setting_of_script lines) events (nodes_in (setting_of_script lines) r.nodes.items) (stamps_in r.nodes.items)
+  pub stamped : stamps_in r.nodes.items ≡ stamps_behind (λ _. 0) events
   pub text : string_bytes r.text ≡ text_of lines events
 
 -- commands may be given to the nodes of a store

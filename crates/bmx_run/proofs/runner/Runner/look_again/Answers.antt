@@ -1,8 +1,8 @@
 use Rattle.std.proofs.Common.{◌≡◌, ◌-◌, ◌<◌, ◌∙◌, sym, ap, subst, arith, length}
-use Rattle.std.specs.Prelude.{is_some, slice_set}
+use Rattle.std.specs.Prelude.{ℕ, slice_set}
 use Rattle.bmx_protocol.specs.declared.events.Event.{Event}
 use Rattle.bmx_run.specs.Inside.Running.{with_event}
-use Rattle.bmx_run.specs.Inside.Picking.{AreTries, tries_by, tried}
+use Rattle.bmx_run.specs.Inside.Picking.{AreTries, MayTry}
 use Rattle.bmx_run.proofs.Choosing.{read_at, few_nodes}
 use Rattle.bmx_run.proofs.Keeping.{go_on, last_event, some_event, its_node}
 use Rattle.bmx_run.proofs.runner.Runner.look_again.Goals as goal
@@ -26,10 +26,8 @@ returns-clause-tries c = λ p e old was are is.
     let some = some_event p e r is in
     let there = read_at r.history.items _ (length r.history.items - 1) x (omega (arith, c.len.ensures)) (omega (arith, some)) c.index.ensures in
     let same : x ≡ e = last_event p e r x is there in
-    let o = c.may_try.result in
-    let told : tries_by (with_event p e) r e.node ≡ tried e.node o = subst (λ (y : Event). tries_by (with_event p e) r y.node ≡ tried y.node o) same (c.may_try.ensures.tried (with_event p e) is) in
+    let b = c.may_try.result in
+    let told : MayTry (with_event p e) r e.node b = subst (λ (y : Event). MayTry (with_event p e) r y.node b) same (c.may_try.ensures (with_event p e) is) in
     let short : e.node < length c.args.tries.now = (let node = its_node p e r is in let few = few_nodes (with_event p e) r is in omega (arith, node, few, c.requires.long)) in
-    let all : AreTries (with_event p e) r (slice_set c.args.tries.now e.node (is_some o)) = go_on p e old r c.args.tries.now o short was are is told in
     let place : e.node ≡ c.from.result = sym (c.from.ensures ∙ c.get.ensures.value ∙ ap (λ (y : Event). y.node) same) in
-    let flag : is_some o ≡ c.is_some.result = sym c.is_some.ensures in
-    subst (AreTries (with_event p e) r) (λ j. slice_set c.args.tries.now (place j) (flag j)) all
+    subst (λ (n : ℕ). AreTries (with_event p e) r (slice_set c.args.tries.now n b)) place (go_on p e old r c.args.tries.now b short was are is told)
