@@ -42,9 +42,10 @@ turn-requires-clause-may c =
     let s = c.requires.1 in
     let r = c.loop-tries.self in
     let known = c.loop-tries.invariant.0 p s in
-    let room : length r.history.items ≡ r.budget → ⊥ = λ same. c.if-len-self.false (c.len.ensures ∙ r.history.ok.0 ∙ same) in
-    (with_part p known.0.part,
-    seen_may_go p c.args.quiet r c.enabled-enabled.result c.loop-tries.tries known s.ends c.enabled-enabled.ensures c.is_done.result c.is_done.ensures c.if-is_done.false c.if-enabled-eq0.false room)
+    let room : length r.history.items ≡ r.budget → ⊥ = λ same. c.if-len-self.false (c.len.ensures ∙ r.history.ok.0 ∙ same) in (
+      with_part p known.0.part,
+      seen_may_go p c.args.quiet r c.enabled-enabled.result c.loop-tries.tries known s.ends c.enabled-enabled.ensures c.is_done.result c.is_done.ensures c.if-is_done.false c.if-enabled-eq0.false room,
+    )
 
 pub loop-tries-init : goal.loop-tries-init
 loop-tries-init c = (λ p s. (record { part = p.part; is_at = s.is_at; draws = s.draws }, c.tries-tries.ensures.tries p s.is_at), refl, c.tries-tries.ensures.long)
