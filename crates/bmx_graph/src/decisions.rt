@@ -119,6 +119,7 @@ pub fn decide<S: Sight>(sight: &S, node: NodeNo, command: &Command) -> Decision
 }
 
 /// What an operand stands for at a node.
+#[inline(always)]
 fn meaning<S: Sight>(sight: &S, node: NodeNo, operand: Operand) -> Val
     requires { IsOperand operand }
     ensures { result ≡ value_of (S.graph sight.now) node operand }
@@ -158,6 +159,7 @@ fn is_excluded<S: Sight>(sight: &S, node: NodeNo, name: Name, wanted: Mode) -> b
 
 /// What a command on a field may use: the name that the operand refers to, and what stands in the
 /// field. The error says why it may not.
+#[inline(always)]
 fn find_field<S: Sight>(
     sight: &S,
     node: NodeNo,

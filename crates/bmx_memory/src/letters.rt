@@ -67,6 +67,7 @@ impl Memory {
     }
 
     /// What a word holds, as a letter tells it.
+    #[inline(always)]
     fn told(&self, word: Word) -> Field
         requires field { IsField self.now.replica.heap.blocks (kind_number word.kind) word.word }
         requires known { HasEntry (shown self.now) (value_at self.now.replica word) }

@@ -23,6 +23,7 @@ impl Memory {
 
     /// Finds the object to which a register refers, so that what is asked of both from now on, until something
     /// changes, needs no look-up.
+    #[inline(never)]
     pub fn look_at(&mut self, register: u8)
         requires { register < 16 }
         ensures { self.new ≡ self.old }

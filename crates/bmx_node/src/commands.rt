@@ -73,6 +73,7 @@ impl Holdings {
     }
 
     /// Does a command that touches no token, as the graph does it. The object that it is on is found at once.
+    #[inline(never)]
     fn use_graph(&mut self, command: &Command) -> Result<Done, NoMemory>
         requires keeps { Keeps self.old }
         requires command { FitsCommand self.old.store.bunches command.now }
@@ -110,6 +111,7 @@ impl Holdings {
     }
 
     /// Finds the object to which an operand refers, where it is a register.
+    #[inline(always)]
     fn look_on(&mut self, on: Operand)
         requires { FitsOperand self.old.store.bunches on }
         ensures { self.new ≡ self.old }
@@ -163,6 +165,7 @@ impl Holdings {
     }
 
     /// Acquires the token of what an operand means.
+    #[inline(never)]
     fn acquire(&mut self, on: Operand, mode: Mode, stamp: u64) -> Result<Done, NoMemory>
         requires keeps { Keeps self.old }
         requires operand { FitsOperand self.old.store.bunches on }
@@ -204,6 +207,7 @@ impl Holdings {
     }
 
     /// Releases the token of what an operand means.
+    #[inline(never)]
     fn release(&mut self, on: Operand, stamp: u64) -> Result<Done, NoMemory>
         requires keeps { Keeps self.old }
         requires operand { FitsOperand self.old.store.bunches on }

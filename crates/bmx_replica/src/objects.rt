@@ -87,6 +87,7 @@ impl Replica {
 
     /// The object of the name that an address word means, None where it means none or the name has no
     /// entry. Where the object stands at that address, no name is looked up.
+    #[inline(always)]
     pub fn object_at(&self, w: u64) -> Option<Object>
         ensures stands { IfSome result (λ o. StandsAt self.now o) }
         ensures means { IfSome result (λ o. name_at self.now.heap.blocks w ≡ Some o.header.name) }
@@ -123,6 +124,7 @@ impl Replica {
     }
 
     /// The object that the word of a reference refers to.
+    #[inline(always)]
     fn referred(&self, w: u64) -> Object
         requires field { IsField self.now.heap.blocks 2 w }
         requires target { HasTarget self.now (value_in self.now.heap.blocks 2 w) }
@@ -137,6 +139,7 @@ impl Replica {
     }
 
     /// The object that a word refers to, None where it holds no reference.
+    #[inline(always)]
     pub fn object_of(&self, word: Word) -> Option<Object>
         requires field { IsField self.now.heap.blocks (kind_number word.kind) word.word }
         requires target { HasTarget self.now (value_in self.now.heap.blocks (kind_number word.kind) word.word) }
