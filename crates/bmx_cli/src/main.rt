@@ -7,7 +7,8 @@ mod top;
 mod words;
 
 use bmx_outside::{StdSink, StdSource};
-use bmx_world::Status;
+use bmx_world::{Outcome, Status};
+use std::mem::forget;
 use top::bmx;
 use words::given_words;
 
@@ -19,5 +20,8 @@ fn main(rt: HostRuntime) -> Status {
     };
     let mut source = StdSource::new(rt.stdin());
     let mut sink = StdSink::new(rt.stdout());
-    bmx(rt.alloc(), words.as_slice(), &mut source, &mut sink).status
+    let Outcome { status, run } = bmx(rt.alloc(), words.as_slice(), &mut source, &mut sink);
+    // The process ends: to free each letter of the history by itself would take a twentieth of the run.
+    forget(run);
+    status
 }
