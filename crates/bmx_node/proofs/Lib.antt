@@ -1,3 +1,4 @@
+pub mod Anchors
 pub mod Placing
 pub mod Firsts
 pub mod Starting

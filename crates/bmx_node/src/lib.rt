@@ -15,3 +15,6 @@ mod view;
 pub use holdings::Holdings;
 pub use node::Node;
 pub use strays::Dimensions;
+
+#[cfg(test)]
+mod tests;
