@@ -17,3 +17,4 @@ pub mod Pairing
 pub mod References
 pub mod Referring
 pub mod Standing
+pub mod Views

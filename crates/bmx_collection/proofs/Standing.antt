@@ -20,7 +20,7 @@ use Rattle.bmx_inter.specs.Order.{is_same, find_one}
 use Rattle.bmx_inter.specs.Inter.{stub_pair, scion_pair, is_kept}
 use Rattle.bmx_inter.proofs.Keys.{is_same-true, is_same-itself}
 use Rattle.bmx_protocol.specs.declared.inputs.Sending.{Sending}
-use Rattle.bmx_protocol.specs.Nodes.{Setting, NodeState, Known, AreAll, field_of, is_anchor, birth_of, owned_birth, heard_birth, first_known}
+use Rattle.bmx_protocol.specs.Nodes.{Setting, NodeState, Known, field_of, is_anchor, birth_of, owned_birth, heard_birth, first_known}
 use Rattle.bmx_protocol.specs.Changes.{Change, Sets, Makes, Knows, Hears, Gives, Gets, Issues, Takes, after_change, after_changes, with_step}
 use Rattle.bmx_protocol.specs.Rules.{Reaction}
 use Rattle.bmx_protocol.specs.Steps.{rule, letters_of, sent_changes, changes_of, closed}

@@ -12,10 +12,11 @@ use Rattle.bmx_collection.specs.Reach.{is_entry, is_busy, IsRoot, IsBusy, IsReco
 use Rattle.bmx_collection.specs.Forgetting.{known_left, forgotten}
 use Rattle.bmx_collection.specs.ToSpaces.{is_too_large}
 use Rattle.bmx_collection.specs.Tables.{is_stray_table, state_cleaned}
-use Rattle.bmx_collection.specs.Steps.{LinkedNode, CollectorInput, Collect, Sweep, MakeTable, TakeTable, CollectorAnswer, Forgot, Refused, Stray, CollectorTold, CollectorReaction, CollectorDone, unchanged, collected, collect_rule, collector_rule, counted, IsCollectorTold}
+use Rattle.bmx_collection.specs.Steps.{LinkedNode, CollectorInput, Collect, Sweep, MakeTable, TakeTable, CollectorAnswer, Forgot, Refused, Stray, CollectorTold, CollectorReaction, CollectorDone, unchanged, collected, collect_rule, collector_rule, counted, IsCollectorTold, IsCollectorStep}
+use Rattle.bmx_collection.specs.Windows.{window_of_one}
 use Rattle.bmx_collection.specs.Laws.{IsSilent, LeavesTokens, CollectorTouchesNoToken, KeepsItsReach, CollectionKeepsItsReach}
 use Rattle.bmx_collection.proofs.Rising.{listed, listed_there}
-use Rattle.bmx_collection.proofs.Reaching.{reach_may_be_kept}
+use Rattle.bmx_collection.proofs.Reaching.{reach_may_be_kept, reached_then, reached_in_one}
 
 -- ## what stays of one entry
 
@@ -143,11 +144,11 @@ collector_touches_no_token st me stamp i n n' d step =
 
 -- a node that was collected keeps the reach
 collected_keeps : (me : ℕ) (n : LinkedNode) (t : CollectorTold) (bunch : ℕ) → AreAll (IsReachedHere n.state n.links bunch) t.kept →
-    KeepsItsReach n (counted (collected me n t bunch)) bunch
+    KeepsItsReach n (counted (collected me n t bunch)) (window_of_one n) bunch
 collected_keeps me n t bunch all = record {
   kept = λ name reached.
       ap (λ (b : Bool). known_left bunch b (n.state.known name)) (listed t.kept name ((all.all name).1 reached)) ∙ kept_stays bunch (n.state.known name);
-  no_more = λ name stands. (all.all name).0 (listed_there t.kept name (stands_kept bunch (is_listed t.kept name) (n.state.known name) stands));
+  no_more = λ name stands. reached_in_one n bunch name ((all.all name).0 (listed_there t.kept name (stands_kept bunch (is_listed t.kept name) (n.state.known name) stands)));
   others = λ name other. other_stays bunch (is_listed t.kept name) (n.state.known name) other;
 }
 
@@ -158,10 +159,14 @@ either_keeps : (me : ℕ) (n : LinkedNode) (t : CollectorTold) (bunch entries : 
 either_keeps me n t bunch entries true r is answered = cc
 either_keeps me n t bunch entries false r is answered = is
 
-pub collection_keeps_its_reach : CollectionKeepsItsReach
-collection_keeps_its_reach st me stamp bunch entries n n' d step answered =
+finished : (st : Setting) (me stamp bunch entries : ℕ) (n n' : LinkedNode) (d : CollectorDone) →
+    IsCollectorStep st me n stamp (Collect bunch) d n' → d.answer ≡ Forgot entries → KeepsItsReach n n' (window_of_one n) bunch
+finished st me stamp bunch entries n n' d step answered =
     let node : (collect_rule st me n step.told bunch).node ≡ collected me n step.told bunch =
     either_keeps me n step.told bunch entries (is_too_large st.limit n.state n.places step.told.owned) _ refl
     (sym (ap (λ (x : CollectorDone). x.answer) step.outcome) ∙ answered) in
-    subst (λ (m : LinkedNode). KeepsItsReach n m bunch) (sym (step.node ∙ ap counted node))
+    subst (λ (m : LinkedNode). KeepsItsReach n m (window_of_one n) bunch) (sym (step.node ∙ ap counted node))
     (collected_keeps me n step.told bunch step.is_told.kept)
+
+pub collection_keeps_its_reach : CollectionKeepsItsReach
+collection_keeps_its_reach = record { finished = finished; window = λ n bunch name. (reached_then n bunch name, reached_in_one n bunch name) }

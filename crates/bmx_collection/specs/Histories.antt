@@ -9,13 +9,30 @@ use Rattle.bmx_protocol.specs.declared.inputs.Input.{Input}
 use Rattle.bmx_protocol.specs.declared.inputs.Done.{Done}
 use Rattle.bmx_protocol.specs.declared.events.Event.{Event}
 use Rattle.bmx_protocol.specs.Nodes.{Setting}
+use Rattle.bmx_protocol.specs.Steps.{stamp_after}
 use Rattle.bmx_protocol.specs.Histories.{IsInputOf, IsNext, IsLater, IsAgain, waits_with}
-use Rattle.bmx_collection.specs.Steps.{LinkedNode, first_linked, CollectorInput, Collect, Sweep, MakeTable, TakeTable, CollectorDone, IsCollectorStep, IsLinkedStep}
+use Rattle.bmx_collection.specs.Steps.{LinkedNode, first_linked, CollectorInput, Collect, Sweep, MakeTable, TakeTable, CollectorDone, IsCollectorStep, IsLinkedStep, stamp_after_it}
 
--- what a node does in an event, and its outcome: without its collector, or by it
+-- the inputs of a node: those that it has without a collector, a command, a serve or a letter; and the four of its
+-- collector, to collect a bunch, to drop segments, to make a table and to take one
+pub data NodeInput : Type 0 where
+  WithoutCollector : Input → NodeInput
+  ByCollector : CollectorInput → NodeInput
+
+-- what a node does in an event: such an input, with its outcome
 pub data Deed : Type 0 where
   Plain : (input : Input) (done : Done) → Deed
   Collector : (input : CollectorInput) (done : CollectorDone) → Deed
+
+-- the input of what a node does
+abbrev pub input_of : Deed → NodeInput
+input_of (Plain i d) = WithoutCollector i
+input_of (Collector i d) = ByCollector i
+
+-- a node's stamp after an input
+abbrev pub stamp_after_input : ℕ → NodeInput → ℕ
+stamp_after_input stamp (WithoutCollector i) = stamp_after stamp i
+stamp_after_input stamp (ByCollector i) = stamp_after_it stamp i
 
 -- one step of one node
 pub record LinkedEvent : Type 0 where
@@ -67,7 +84,7 @@ times_taken t history = count_by (λ e. option_map_or (is_same_table t) (table_t
 
 -- ## what is said of one event, with those before it
 
--- nodes and bunches that an input names are of the store
+-- nodes and bunches that an input of a collector names are of the store
 abbrev pub IsCollectorInputOf : Setting → CollectorInput → Type 0
 IsCollectorInputOf st (Collect bunch) = bunch < bunches_of st.births
 IsCollectorInputOf st Sweep = Unit {0}
@@ -108,7 +125,7 @@ pub record FitsLinked (st : Setting) (past : List LinkedEvent) (e : LinkedEvent)
 
 -- ## legal histories
 
--- an event is the step of its node from one to another
+-- a step of a node at a stamp, by whatever input: from a node to an outcome and a node
 abbrev pub IsDeed : Setting → ℕ → LinkedNode → ℕ → Deed → LinkedNode → Type 0
 IsDeed st me old stamp (Plain i d) new = IsLinkedStep st me old stamp i d new
 IsDeed st me old stamp (Collector i d) new = IsCollectorStep st me old stamp i d new
@@ -124,6 +141,7 @@ pub record IsLegalLinked (st : Setting) (history : List LinkedEvent) : Type 0 wh
   pub fits : (past rest : List LinkedEvent) (e : LinkedEvent) → past ++ e ∷ rest ≡ history → FitsLinked st past e
   pub steps : (nodes : ℕ → LinkedNode) × ReplaysLinked st (first_linked st) history nodes
 
--- no event is a collector's: laws that were proved without collectors speak of these histories
+-- no event is a collector's: what is proved of places and of the graph without collectors is said of these histories
+-- alone, under this name
 abbrev pub IsWithoutCollector : List LinkedEvent → Type 0
 IsWithoutCollector history = length (plain_events history) ≡ length history

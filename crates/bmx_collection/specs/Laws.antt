@@ -1,5 +1,5 @@
 -- What holds of a collector's step by the definitions alone, whatever came before it.
-use Rattle.std.specs.Prelude.{◌≡◌, ℕ, suc, ◌+◌, ◌^◌, ◌++◌, ◌<◌, ◌≤◌, ◌↔◌, false, true, List, map, Some, None}
+use Rattle.std.specs.Prelude.{◌≡◌, ℕ, suc, ◌+◌, ◌^◌, ◌++◌, ◌<◌, ◌≤◌, ◌↔◌, false, true, List, [], map, Some, None}
 use Rattle.bmx_types.specs.Openings.{IsOpening}
 use Rattle.bmx_table.specs.declared.tables.Table.{Table}
 use Rattle.bmx_clean.specs.declared.cleaner.Applied.TheVariants.{Early, Removed}
@@ -7,12 +7,14 @@ use Rattle.bmx_protocol.specs.Nodes.{Setting, NodeState, Known, AreAll}
 use Rattle.bmx_protocol.specs.Places.{Places}
 use Rattle.bmx_protocol.specs.declared.events.Event.{Event}
 use Rattle.bmx_protocol.specs.Histories.{AreAfter, IsLegal}
-use Rattle.bmx_collection.specs.Links.{Links}
+use Rattle.bmx_protocol.specs.Laws.{IsRefusal}
+use Rattle.bmx_collection.specs.Links.{Links, LinkView, ShowsLinks, AreShownAlike}
 use Rattle.bmx_collection.specs.Reach.{is_entry, refers, is_busy, IsRoot, IsReachedHere, MayBeKept}
 use Rattle.bmx_collection.specs.Steps.{LinkedNode, unlinked, first_linked, CollectorInput, Collect, Sweep, TakeTable, CollectorAnswer, Forgot, Swept, Cleaned, Nil, Refused, Stray, CollectorDone, MakeTable, IsCollectorTold, IsCollectorStep, counted}
 use Rattle.bmx_owner.specs.declared.entering.Record.{Record}
+use Rattle.bmx_collection.specs.Windows.{IsReachedIn, window_of_one}
 use Rattle.bmx_collection.specs.Finding.{reached_in, found}
-use Rattle.bmx_collection.specs.Histories.{LinkedEvent, plainly, plain_events, ReplaysLinked, IsLegalLinked, IsWithoutCollector}
+use Rattle.bmx_collection.specs.Histories.{Deed, Plain, Collector, input_of, LinkedEvent, plainly, plain_events, IsDeed, ReplaysLinked, IsLegalLinked, IsWithoutCollector}
 use Rattle.bmx_collection.specs.Worlds.{LinkedWorld, linked_world_of, PairsStand, StubsHaveScions, NoTableEndsAScion}
 
 -- ## one step
@@ -37,6 +39,31 @@ abbrev pub CollectorRefusalKeeps : Type 0
 CollectorRefusalKeeps =
     (st : Setting) (me stamp : ℕ) (i : CollectorInput) (n n' : LinkedNode) (d : CollectorDone) →
     IsCollectorStep st me n stamp i d n' → IsCollectorRefusal d.answer → (d.table ≡ None) × (n' ≡ counted n)
+
+-- ## one step, by any input
+
+-- a step makes one outcome and one node of a node, an input and a stamp, whichever input it is
+abbrev pub EachStepIsDetermined : Type 0
+EachStepIsDetermined =
+    (st : Setting) (me stamp : ℕ) (n n' m' : LinkedNode) (c d : Deed) → input_of c ≡ input_of d →
+    IsDeed st me n stamp c n' → IsDeed st me n stamp d m' → (c ≡ d) × (n' ≡ m')
+
+-- what a node did was refused
+abbrev pub IsRefusedDeed : Deed → Type 0
+IsRefusedDeed (Plain i d) = IsRefusal d.answer
+IsRefusedDeed (Collector i d) = IsCollectorRefusal d.answer
+
+-- no letter was issued, and no table made
+abbrev pub IsSilentDeed : Deed → Type 0
+IsSilentDeed (Plain i d) = d.letters ≡ []
+IsSilentDeed (Collector i d) = d.table ≡ None
+
+-- a refused step, by whatever input, issues no letter, makes no table, and changes nothing of the node but that it is
+-- counted
+abbrev pub EachRefusalKeeps : Type 0
+EachRefusalKeeps =
+    (st : Setting) (me stamp : ℕ) (n n' : LinkedNode) (d : Deed) →
+    IsDeed st me n stamp d n' → IsRefusedDeed d → IsSilentDeed d × (n' ≡ counted n)
 
 -- ## tokens
 
@@ -73,17 +100,19 @@ ReachWithoutReferencesIsRoots =
     (s : NodeState) (l : Links) (bunch : ℕ) → ((from name : ℕ) → refers s from name ≡ false) →
     (name : ℕ) → IsReachedHere s l bunch name → (is_entry s bunch name ≡ true) × IsRoot s l bunch name
 
--- what a collection of the bunch leaves: each entry that is reached, none of the bunch that isn't, and all others
-pub record KeepsItsReach (old new : LinkedNode) (bunch : ℕ) : Type 0 where
+-- what a collection of the bunch with that window leaves of a node that was so just before it was finished: each entry
+-- that was reached then, none of the bunch that wasn't reached in the window, and all others
+pub record KeepsItsReach (old new : LinkedNode) (window : List LinkedNode) (bunch : ℕ) : Type 0 where
   pub kept : (name : ℕ) → IsReachedHere old.state old.links bunch name → new.state.known name ≡ old.state.known name
-  pub no_more : (name : ℕ) → is_entry new.state bunch name ≡ true → IsReachedHere old.state old.links bunch name
+  pub no_more : (name : ℕ) → is_entry new.state bunch name ≡ true → IsReachedIn window bunch name
   pub others : (name : ℕ) → is_entry old.state bunch name ≡ false → new.state.known name ≡ old.state.known name
 
--- a collection that forgot so many entries kept exactly its reach
-abbrev pub CollectionKeepsItsReach : Type 0
-CollectionKeepsItsReach =
-    (st : Setting) (me stamp bunch entries : ℕ) (n n' : LinkedNode) (d : CollectorDone) →
-    IsCollectorStep st me n stamp (Collect bunch) d n' → d.answer ≡ Forgot entries → KeepsItsReach n n' bunch
+-- a collection that forgot so many entries kept its reach, and nothing outside its window; and the window of one in one
+-- event holds its reach and nothing else
+pub record CollectionKeepsItsReach : Type 0 where
+  pub finished : (st : Setting) (me stamp bunch entries : ℕ) (n n' : LinkedNode) (d : CollectorDone) →
+      IsCollectorStep st me n stamp (Collect bunch) d n' → d.answer ≡ Forgot entries → KeepsItsReach n n' (window_of_one n) bunch
+  pub window : (n : LinkedNode) (bunch name : ℕ) → IsReachedIn (window_of_one n) bunch name ↔ IsReachedHere n.state n.links bunch name
 
 -- ## tables
 
@@ -177,3 +206,12 @@ abbrev pub PairsAlwaysStand : Type 0
 PairsAlwaysStand =
     (st : Setting) (history : List LinkedEvent) (nodes : ℕ → LinkedNode) → IsOpening st.nodes st.limit st.births → IsLegalLinked st history →
     ReplaysLinked st (first_linked st) history nodes → PairsStand st (linked_world_of nodes history)
+
+-- ## links
+
+-- a node's links have at most one view, a view shows one value of links, and after each legal history the links of each
+-- node have one
+pub record LinksHaveOneView : Type 0 where
+  pub one_view : (nodes : ℕ) (l : Links) (v w : LinkView) → ShowsLinks nodes v l → ShowsLinks nodes w l → v ≡ w
+  pub one_value : (nodes : ℕ) (v : LinkView) (l m : Links) → ShowsLinks nodes v l → ShowsLinks nodes v m → AreShownAlike nodes l m
+  pub always : AlwaysLinked (λ w. (n nodes : ℕ) → (v : LinkView) × ShowsLinks nodes v (w.links n))

@@ -5,6 +5,7 @@ pub mod ToSpaces
 pub mod Sweeps
 pub mod Tables
 pub mod Steps
+pub mod Windows
 pub mod Histories
 pub mod Worlds
 pub mod Finding

@@ -1,6 +1,6 @@
 -- What a node keeps of references between bunches, beside its state: a stub and a scion for each, and how many
 -- tables it has made. A store and a grant make them.
-use Rattle.std.specs.Prelude.{◌≡◌, refl, ℕ, ◌+◌, if◌then◌else◌, List, [], ◌∷◌, filter_map, Option, None}
+use Rattle.std.specs.Prelude.{◌≡◌, refl, ℕ, ◌+◌, ◌<◌, if◌then◌else◌, List, [], ◌∷◌, filter_map, Option, None}
 use Rattle.std.specs.Option.{option_map, option_map_or}
 use Rattle.std.specs.List.{fold}
 use Rattle.bmx_types.specs.declared.addresses.Info.{Info}
@@ -33,13 +33,27 @@ pub record Links : Type 0 where
 abbrev pub no_links : Links
 no_links = record { stubs = []; scions = []; tables = λ n. 0 }
 
--- a view of a node of so many lists them: the stubs and scions, in order, and a number of tables for each node
-pub record ShowsLinks (nodes : ℕ) (stubs : List Stub) (scions : List Scion) (tables : List ℕ) (l : Links) : Type 0 where
-  pub all_stubs : stubs ≡ l.stubs
-  pub all_scions : scions ≡ l.scions
-  pub stubs_in_order : IsInOrder stub_pair stubs
-  pub scions_in_order : IsInOrder scion_pair scions
-  pub made : AreNumbers nodes tables l.tables
+-- the view of a node's links: its stubs, its scions, and how many tables it made for each node
+pub record LinkView : Type 0 where
+  pub stubs : List Stub
+  pub scions : List Scion
+  pub tables : List ℕ
+
+-- a view shows the links of a node of so many: it lists the stubs and the scions, in order, and a number of tables for
+-- each node
+pub record ShowsLinks (nodes : ℕ) (view : LinkView) (l : Links) : Type 0 where
+  pub all_stubs : view.stubs ≡ l.stubs
+  pub all_scions : view.scions ≡ l.scions
+  pub stubs_in_order : IsInOrder stub_pair view.stubs
+  pub scions_in_order : IsInOrder scion_pair view.scions
+  pub made : AreNumbers nodes view.tables l.tables
+
+-- links of nodes of so many are one but for tables for what is no node: the same stubs and scions, and as many tables
+-- for each node
+pub record AreShownAlike (nodes : ℕ) (l m : Links) : Type 0 where
+  pub stubs : l.stubs ≡ m.stubs
+  pub scions : l.scions ≡ m.scions
+  pub tables : (n : ℕ) → n < nodes → l.tables n ≡ m.tables n
 
 -- ## pairs
 

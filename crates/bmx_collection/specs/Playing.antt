@@ -9,11 +9,11 @@ use Rattle.bmx_protocol.specs.declared.inputs.NodeAnswer.{NodeAnswer}
 use Rattle.bmx_protocol.specs.declared.inputs.Sending.{Sending}
 use Rattle.bmx_protocol.specs.Nodes.{Setting}
 use Rattle.bmx_protocol.specs.Rules.{Reaction}
-use Rattle.bmx_protocol.specs.Steps.{rule, done_of, closed, stamp_after}
+use Rattle.bmx_protocol.specs.Steps.{rule, done_of, closed}
 use Rattle.bmx_protocol.specs.Cases.{Move, mover, input_of, told_at, places_after}
 use Rattle.bmx_collection.specs.Links.{links_after}
-use Rattle.bmx_collection.specs.Steps.{LinkedNode, unlinked, first_linked, CollectorInput, TakeTable, CollectorAnswer, CollectorReaction, collector_rule, outcome_of, counted, stamp_after_it}
-use Rattle.bmx_collection.specs.Histories.{Deed, Plain, Collector, LinkedEvent, plain_events, tables_made}
+use Rattle.bmx_collection.specs.Steps.{LinkedNode, unlinked, first_linked, CollectorInput, TakeTable, CollectorAnswer, CollectorReaction, collector_rule, outcome_of, counted}
+use Rattle.bmx_collection.specs.Histories.{WithoutCollector, ByCollector, Deed, Plain, Collector, stamp_after_input, LinkedEvent, plain_events, tables_made}
 use Rattle.bmx_collection.specs.Finding.{found}
 
 -- what comes next: a move without a collector, what a node's collector does, or a node takes the table that was made
@@ -62,7 +62,7 @@ with_reaction p me stamp i o = record {
 
 abbrev pub with_move : Setting → LinkedPlay → ℕ → Input → LinkedPlay
 with_move st p me i =
-    with_reaction p me (stamp_after (last_stamp me p.history) i) i
+    with_reaction p me (stamp_after_input (last_stamp me p.history) (WithoutCollector i)) i
     (rule st me (p.nodes me).state (told_at st me (unlinked (p.nodes me)) i) i)
 
 -- one step more of a collector
@@ -74,7 +74,7 @@ with_reaction_of p me stamp i r = record {
 
 abbrev pub with_collector : Setting → LinkedPlay → ℕ → CollectorInput → LinkedPlay
 with_collector st p me i =
-    let stamp : ℕ = stamp_after_it (last_stamp me p.history) i in
+    let stamp : ℕ = stamp_after_input (last_stamp me p.history) (ByCollector i) in
     with_reaction_of p me stamp i (collector_rule st me (p.nodes me) (found 8 me (p.nodes me) i) stamp i)
 
 -- a table is taken, where it was made

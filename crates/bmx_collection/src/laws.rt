@@ -1,5 +1,5 @@
 //! The laws of the rules of collection, each a public function with an empty body.
-ghost use Rattle.bmx_collection.specs.Laws.{CollectorStepIsDetermined, CollectorRefusalKeeps, CollectorTouchesNoToken, ReachMayBeKept, ReachWithoutReferencesIsRoots, CollectionKeepsItsReach, SecondTakingRemovesNothing, FoundIsTold, PrefixIsLegalLinked, LinkedReplayIsDetermined, WithoutCollectorsAlike, StubsAreAnswered, ScionsAreSafe, PairsAlwaysStand};
+ghost use Rattle.bmx_collection.specs.Laws.{CollectorStepIsDetermined, CollectorRefusalKeeps, CollectorTouchesNoToken, ReachMayBeKept, ReachWithoutReferencesIsRoots, CollectionKeepsItsReach, SecondTakingRemovesNothing, FoundIsTold, PrefixIsLegalLinked, LinkedReplayIsDetermined, WithoutCollectorsAlike, StubsAreAnswered, ScionsAreSafe, PairsAlwaysStand, EachStepIsDetermined, EachRefusalKeeps, LinksHaveOneView};
 ghost use Rattle.bmx_collection.specs.Telling.{RunsTell, WorkedRunsAreLegalLinked};
 
 /// The law that a collector's step makes one outcome and one node of a node, an input and a stamp. It does nothing.
@@ -11,6 +11,18 @@ pub fn collector_step_is_determined()
 /// nothing.
 pub fn collector_refusal_keeps()
     ensures { CollectorRefusalKeeps }
+{}
+
+/// The law that a step of a node makes one outcome and one node of a node, an input and a stamp, whichever input it is: a
+/// command, a serve, a letter, or one of its collector's. It does nothing.
+pub fn each_step_is_determined()
+    ensures { EachStepIsDetermined }
+{}
+
+/// The law that a refused step of a node, by whichever input, issues no letter, makes no table and changes nothing but
+/// the count of steps. It does nothing.
+pub fn each_refusal_keeps()
+    ensures { EachRefusalKeeps }
 {}
 
 /// The law that a collector's step issues no letter and touches no token: an entry that stands is as it was, and one
@@ -29,8 +41,9 @@ pub fn reach_without_references_is_roots()
     ensures { ReachWithoutReferencesIsRoots }
 {}
 
-/// The law that a collection that isn't refused keeps exactly what is reached of its bunch, and all of others. It does
-/// nothing.
+/// The law that a collection that isn't refused keeps all that is reached of its bunch, nothing of it that isn't reached
+/// in its window, and all of others; and that the window of a collection in one event holds what is reached and nothing
+/// else. It does nothing.
 pub fn collection_keeps_its_reach()
     ensures { CollectionKeepsItsReach }
 {}
@@ -88,4 +101,10 @@ pub fn scions_are_safe()
 /// its scion there where it is of another bunch. It does nothing.
 pub fn pairs_always_stand()
     ensures { PairsAlwaysStand }
+{}
+
+/// The law that a node's links have at most one view, that a view shows one value of links, and that after each legal
+/// history the links of each node have one. It does nothing.
+pub fn links_have_one_view()
+    ensures { LinksHaveOneView }
 {}

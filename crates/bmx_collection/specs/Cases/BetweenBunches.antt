@@ -1,14 +1,15 @@
 -- An object to which only an object of another bunch refers is kept by a scion; a sweep then drops the segment that it left.
-use Rattle.std.specs.Prelude.{◌≡◌, pos, List, [], ◌∷◌, map, Some, None, refl}
+use Rattle.std.specs.Prelude.{◌≡◌, pos, List, [], ◌∷◌, map, replicate, Some, None, refl}
 use Rattle.bmx_types.specs.declared.values.Val.TheVariants as val
 use Rattle.bmx_types.specs.declared.commands.Operand.TheVariants as operand
 use Rattle.bmx_types.specs.declared.commands.Command.TheVariants as command
 use Rattle.bmx_clean.specs.declared.cleaner.Applied.TheVariants.{Removed}
 use Rattle.bmx_protocol.specs.declared.inputs.NodeAnswer.TheVariants as answer
+use Rattle.bmx_protocol.specs.declared.views.ViewField.TheVariants as field
 use Rattle.bmx_protocol.specs.Cases.{Do}
 use Rattle.bmx_collection.specs.Steps.{Collect, Sweep, MakeTable, Forgot, Swept, Cleaned, Nil}
 use Rattle.bmx_collection.specs.Playing.{Of, By, Takes, NodeSays, CollectorSays, LinkedLine, by, IsSaidOf, LinkedPlay, played_linked}
-use Rattle.bmx_collection.specs.Cases.Stores.{two_bunches, pair, table, lives, went, left_at}
+use Rattle.bmx_collection.specs.Cases.Stores.{two_bunches, pair, table, owned, lies, lives, went, left_at}
 
 -- what comes next, and what is to be said of it
 abbrev pub lines : List LinkedLine
@@ -46,18 +47,41 @@ lines =
 between_bunches : IsSaidOf (two_bunches 1) lines
 between_bunches = refl
 
--- the nodes at the end
+-- the nodes at the end, and all that each of them has then
 abbrev pub at_the_end : LinkedPlay
 at_the_end = played_linked (two_bunches 1) (map (λ l. l.move) lines)
 
 left_at_node_0 :
-    left_at (at_the_end.nodes 0) (1 ∷ 2 ∷ 3 ∷ []) (0x100000000 ∷ 0x200000000 ∷ 0x200000024 ∷ 0x400000000 ∷ 0x500000000 ∷ 0x500000024 ∷ []) []
+    left_at 1 (at_the_end.nodes 0)
     ≡ record {
-      clock = 28;
-      places = (Some (record { address = 0x400000000; moves = 1 }) ∷ Some (record { address = 0x500000000; moves = 2 }) ∷ Some (record { address = 0x500000024; moves = 2 }) ∷ []);
-      headers = (went 1 32 0x400000000 ∷ went 2 32 0x300000000 ∷ went 3 1 0x300000024 ∷ lives 1 32 1 ∷ lives 2 32 2 ∷ lives 3 1 2 ∷ []);
+      counts = record { clock = 28; made = 3; segments = 5; issued = 0 ∷ []; taken = 0 ∷ []; tables = 3 ∷ [] };
+      registers = replicate 16 val.Null;
+      entries =
+          (1, owned 0 32 (replicate 32 field.Null) [])
+          ∷ (2, owned 1 32 (replicate 32 field.Null) [])
+          ∷ (3, owned 1 1 (field.Int (pos 9) ∷ []) [])
+          ∷ [];
+      places =
+          (1, lies 0x400000000 1)
+          ∷ (2, lies 0x500000000 2)
+          ∷ (3, lies 0x500000024 2)
+          ∷ [];
       records = [];
-      stubs = (record { source = 1; bunch = 0; target = 3 } ∷ []);
-      scions = (record { target = 3; source = 1; bunch = 0; clock = 6 } ∷ []);
+      stubs = record { source = 1; bunch = 0; target = 3 } ∷ [];
+      scions = record { target = 3; source = 1; bunch = 0; clock = 6 } ∷ [];
+      mapped =
+          0x100000000
+          ∷ 0x200000000
+          ∷ 0x400000000
+          ∷ 0x500000000
+          ∷ [];
+      headers =
+          (0x100000000, went 1 32 0x400000000)
+          ∷ (0x200000000, went 2 32 0x300000000)
+          ∷ (0x200000024, went 3 1 0x300000024)
+          ∷ (0x400000000, lives 1 32 1)
+          ∷ (0x500000000, lives 2 32 2)
+          ∷ (0x500000024, lives 3 1 2)
+          ∷ [];
     }
 left_at_node_0 = refl

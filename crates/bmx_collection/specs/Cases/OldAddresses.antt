@@ -7,10 +7,11 @@ use Rattle.bmx_msg.specs.declared.letters.Field.TheVariants as msg_field
 use Rattle.bmx_msg.specs.declared.letters.Msg.TheVariants as msg
 use Rattle.bmx_clean.specs.declared.cleaner.Applied.TheVariants.{Removed}
 use Rattle.bmx_protocol.specs.declared.inputs.NodeAnswer.TheVariants as answer
+use Rattle.bmx_protocol.specs.declared.views.ViewField.TheVariants as field
 use Rattle.bmx_protocol.specs.Cases.{Do, Serve, Next, one_bunch}
 use Rattle.bmx_collection.specs.Steps.{Collect, MakeTable, Forgot, Cleaned, Nil}
 use Rattle.bmx_collection.specs.Playing.{Of, By, Takes, NodeSays, CollectorSays, LinkedLine, by, IsSaidOf, LinkedPlay, played_linked}
-use Rattle.bmx_collection.specs.Cases.Stores.{object, letter, table, lives, went, left_at}
+use Rattle.bmx_collection.specs.Cases.Stores.{object, letter, table, owned, asked_of, recorded, lies, lives, went, left_at}
 
 -- what comes next, and what is to be said of it
 abbrev pub lines : List LinkedLine
@@ -67,30 +68,70 @@ lines =
 old_addresses : IsSaidOf (one_bunch 2) lines
 old_addresses = refl
 
--- the nodes at the end
+-- the nodes at the end, and all that each of them has then
 abbrev pub at_the_end : LinkedPlay
 at_the_end = played_linked (one_bunch 2) (map (λ l. l.move) lines)
 
 left_at_node_0 :
-    left_at (at_the_end.nodes 0) (1 ∷ 2 ∷ []) (0x100000000 ∷ 0x100000024 ∷ 0x200000000 ∷ 0x200000024 ∷ 0x300000000 ∷ 0x300000024 ∷ []) ((1, 1) ∷ (2, 1) ∷ [])
+    left_at 2 (at_the_end.nodes 0)
     ≡ record {
-      clock = 28;
-      places = (Some (record { address = 0x300000000; moves = 2 }) ∷ Some (record { address = 0x300000024; moves = 2 }) ∷ []);
-      headers = (went 1 32 0x200000000 ∷ went 2 1 0x200000024 ∷ went 1 32 0x300000000 ∷ went 2 1 0x300000024 ∷ lives 1 32 2 ∷ lives 2 1 2 ∷ []);
-      records = (Some (record { name = 1; bunch = 0; from = 1; sent = 3; got = 0 }) ∷ Some (record { name = 2; bunch = 0; from = 1; sent = 4; got = 0 }) ∷ []);
+      counts = record { clock = 28; made = 2; segments = 3; issued = 0 ∷ 4 ∷ []; taken = 0 ∷ 4 ∷ []; tables = 2 ∷ 2 ∷ [] };
+      registers = val.Ref 2 ∷ replicate 15 val.Null;
+      entries =
+          (1, owned 0 32 (field.Ref 2 ∷ field.Ref 2 ∷ replicate 30 field.Null) (1 ∷ []))
+          ∷ (2, owned 0 1 (field.Int (pos 42) ∷ []) (1 ∷ []))
+          ∷ [];
+      places =
+          (1, lies 0x300000000 2)
+          ∷ (2, lies 0x300000024 2)
+          ∷ [];
+      records =
+          recorded 1 0 1 3 0
+          ∷ recorded 2 0 1 4 0
+          ∷ [];
       stubs = [];
       scions = [];
+      mapped =
+          0x100000000
+          ∷ 0x200000000
+          ∷ 0x300000000
+          ∷ [];
+      headers =
+          (0x100000000, went 1 32 0x200000000)
+          ∷ (0x100000024, went 2 1 0x200000024)
+          ∷ (0x200000000, went 1 32 0x300000000)
+          ∷ (0x200000024, went 2 1 0x300000024)
+          ∷ (0x300000000, lives 1 32 2)
+          ∷ (0x300000024, lives 2 1 2)
+          ∷ [];
     }
 left_at_node_0 = refl
 
 left_at_node_1 :
-    left_at (at_the_end.nodes 1) (1 ∷ 2 ∷ []) (0x100000000 ∷ 0x100000024 ∷ 0x300000000 ∷ 0x300000024 ∷ []) []
+    left_at 2 (at_the_end.nodes 1)
     ≡ record {
-      clock = 19;
-      places = (Some (record { address = 0x300000000; moves = 2 }) ∷ Some (record { address = 0x300000024; moves = 2 }) ∷ []);
-      headers = (went 1 32 0x300000000 ∷ went 2 1 0x300000024 ∷ lives 1 32 2 ∷ lives 2 1 2 ∷ []);
+      counts = record { clock = 19; made = 0; segments = 0; issued = 4 ∷ 0 ∷ []; taken = 4 ∷ 0 ∷ []; tables = 0 ∷ 0 ∷ [] };
+      registers = val.Ref 2 ∷ val.Ref 2 ∷ replicate 14 val.Null;
+      entries =
+          (1, asked_of 0 0 32 (Some (field.Ref 2 ∷ field.Ref 2 ∷ replicate 30 field.Null)))
+          ∷ (2, asked_of 0 0 1 (Some (field.Int (pos 42) ∷ [])))
+          ∷ [];
+      places =
+          (1, lies 0x300000000 2)
+          ∷ (2, lies 0x300000024 2)
+          ∷ [];
       records = [];
       stubs = [];
       scions = [];
+      mapped =
+          0x100000000
+          ∷ 0x300000000
+          ∷ [];
+      headers =
+          (0x100000000, went 1 32 0x300000000)
+          ∷ (0x100000024, went 2 1 0x300000024)
+          ∷ (0x300000000, lives 1 32 2)
+          ∷ (0x300000024, lives 2 1 2)
+          ∷ [];
     }
 left_at_node_1 = refl

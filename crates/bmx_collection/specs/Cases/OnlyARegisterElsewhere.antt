@@ -7,10 +7,11 @@ use Rattle.bmx_msg.specs.declared.letters.Field.TheVariants as msg_field
 use Rattle.bmx_msg.specs.declared.letters.Msg.TheVariants as msg
 use Rattle.bmx_clean.specs.declared.cleaner.Applied.TheVariants.{Removed}
 use Rattle.bmx_protocol.specs.declared.inputs.NodeAnswer.TheVariants as answer
+use Rattle.bmx_protocol.specs.declared.views.ViewField.TheVariants as field
 use Rattle.bmx_protocol.specs.Cases.{Do, Serve, Next, one_bunch}
 use Rattle.bmx_collection.specs.Steps.{Collect, MakeTable, Forgot, Cleaned, Nil}
 use Rattle.bmx_collection.specs.Playing.{Of, By, Takes, NodeSays, CollectorSays, LinkedLine, by, IsSaidOf, LinkedPlay, played_linked}
-use Rattle.bmx_collection.specs.Cases.Stores.{object, letter, table, lives, went, left_at}
+use Rattle.bmx_collection.specs.Cases.Stores.{object, letter, table, owned, asked_of, recorded, lies, lives, went, left_at}
 
 -- what comes next, and what is to be said of it
 abbrev pub lines : List LinkedLine
@@ -55,30 +56,66 @@ lines =
 pub only_a_register_elsewhere : IsSaidOf (one_bunch 2) lines
 only_a_register_elsewhere = refl
 
--- the nodes at the end
+-- the nodes at the end, and all that each of them has then
 abbrev pub at_the_end : LinkedPlay
 at_the_end = played_linked (one_bunch 2) (map (λ l. l.move) lines)
 
 left_at_node_0 :
-    left_at (at_the_end.nodes 0) (1 ∷ 2 ∷ []) (0x100000000 ∷ 0x100000024 ∷ 0x200000000 ∷ 0x200000024 ∷ []) ((1, 1) ∷ (2, 1) ∷ [])
+    left_at 2 (at_the_end.nodes 0)
     ≡ record {
-      clock = 23;
-      places = (Some (record { address = 0x200000000; moves = 1 }) ∷ Some (record { address = 0x200000024; moves = 1 }) ∷ []);
-      headers = (went 1 32 0x200000000 ∷ went 2 1 0x200000024 ∷ lives 1 32 1 ∷ lives 2 1 1 ∷ []);
-      records = (Some (record { name = 1; bunch = 0; from = 1; sent = 1; got = 0 }) ∷ Some (record { name = 2; bunch = 0; from = 1; sent = 3; got = 0 }) ∷ []);
+      counts = record { clock = 23; made = 2; segments = 2; issued = 0 ∷ 3 ∷ []; taken = 0 ∷ 3 ∷ []; tables = 1 ∷ 1 ∷ [] };
+      registers = replicate 16 val.Null;
+      entries =
+          (1, owned 0 32 (replicate 32 field.Null) [])
+          ∷ (2, owned 0 1 (field.Int (pos 42) ∷ []) (1 ∷ []))
+          ∷ [];
+      places =
+          (1, lies 0x200000000 1)
+          ∷ (2, lies 0x200000024 1)
+          ∷ [];
+      records =
+          recorded 1 0 1 1 0
+          ∷ recorded 2 0 1 3 0
+          ∷ [];
       stubs = [];
       scions = [];
+      mapped =
+          0x100000000
+          ∷ 0x200000000
+          ∷ [];
+      headers =
+          (0x100000000, went 1 32 0x200000000)
+          ∷ (0x100000024, went 2 1 0x200000024)
+          ∷ (0x200000000, lives 1 32 1)
+          ∷ (0x200000024, lives 2 1 1)
+          ∷ [];
     }
 left_at_node_0 = refl
 
 left_at_node_1 :
-    left_at (at_the_end.nodes 1) (1 ∷ 2 ∷ []) (0x100000000 ∷ 0x100000024 ∷ 0x200000024 ∷ []) []
+    left_at 2 (at_the_end.nodes 1)
     ≡ record {
-      clock = 12;
-      places = (Some (record { address = 0x100000000; moves = 0 }) ∷ Some (record { address = 0x200000024; moves = 1 }) ∷ []);
-      headers = (lives 1 32 0 ∷ went 2 1 0x200000024 ∷ lives 2 1 1 ∷ []);
+      counts = record { clock = 12; made = 0; segments = 0; issued = 3 ∷ 0 ∷ []; taken = 3 ∷ 0 ∷ []; tables = 0 ∷ 0 ∷ [] };
+      registers = val.Ref 2 ∷ replicate 15 val.Null;
+      entries =
+          (1, asked_of 0 0 32 None)
+          ∷ (2, asked_of 0 0 1 (Some (field.Int (pos 42) ∷ [])))
+          ∷ [];
+      places =
+          (1, lies 0x100000000 0)
+          ∷ (2, lies 0x200000024 1)
+          ∷ [];
       records = [];
       stubs = [];
       scions = [];
+      mapped =
+          0x100000000
+          ∷ 0x200000000
+          ∷ [];
+      headers =
+          (0x100000000, lives 1 32 0)
+          ∷ (0x100000024, went 2 1 0x200000024)
+          ∷ (0x200000024, lives 2 1 1)
+          ∷ [];
     }
 left_at_node_1 = refl

@@ -7,10 +7,11 @@ use Rattle.bmx_msg.specs.declared.letters.Field.TheVariants as msg_field
 use Rattle.bmx_msg.specs.declared.letters.Msg.TheVariants as msg
 use Rattle.bmx_clean.specs.declared.cleaner.Applied.TheVariants.{Removed}
 use Rattle.bmx_protocol.specs.declared.inputs.NodeAnswer.TheVariants as answer
+use Rattle.bmx_protocol.specs.declared.views.ViewField.TheVariants as field
 use Rattle.bmx_protocol.specs.Cases.{Do, Serve, Next}
 use Rattle.bmx_collection.specs.Steps.{Collect, Sweep, MakeTable, Forgot, Swept, Cleaned, Nil}
 use Rattle.bmx_collection.specs.Playing.{Of, By, Takes, NodeSays, CollectorSays, LinkedLine, by, IsSaidOf, LinkedPlay, played_linked}
-use Rattle.bmx_collection.specs.Cases.Stores.{two_bunches, object, letter, pair, table, lives, went, left_at}
+use Rattle.bmx_collection.specs.Cases.Stores.{two_bunches, object, letter, pair, table, owned, asked_of, recorded, lies, lives, went, left_at}
 
 -- what comes next, and what is to be said of it
 abbrev pub lines : List LinkedLine
@@ -71,30 +72,75 @@ lines =
 pairs_at_two_nodes : IsSaidOf (two_bunches 2) lines
 pairs_at_two_nodes = refl
 
--- the nodes at the end
+-- the nodes at the end, and all that each of them has then
 abbrev pub at_the_end : LinkedPlay
 at_the_end = played_linked (two_bunches 2) (map (λ l. l.move) lines)
 
 left_at_node_0 :
-    left_at (at_the_end.nodes 0) (1 ∷ 2 ∷ 3 ∷ []) (0x100000000 ∷ 0x200000000 ∷ 0x200000024 ∷ 0x300000000 ∷ 0x400000000 ∷ 0x400000024 ∷ []) ((1, 1) ∷ (2, 1) ∷ (3, 1) ∷ [])
+    left_at 2 (at_the_end.nodes 0)
     ≡ record {
-      clock = 33;
-      places = (Some (record { address = 0x300000000; moves = 1 }) ∷ Some (record { address = 0x400000000; moves = 1 }) ∷ Some (record { address = 0x400000024; moves = 1 }) ∷ []);
-      headers = (went 1 32 0x300000000 ∷ went 2 32 0x400000000 ∷ went 3 1 0x400000024 ∷ lives 1 32 1 ∷ lives 2 32 1 ∷ lives 3 1 1 ∷ []);
-      records = (Some (record { name = 1; bunch = 0; from = 1; sent = 0; got = 2 }) ∷ Some (record { name = 2; bunch = 1; from = 1; sent = 0; got = 0 }) ∷ Some (record { name = 3; bunch = 1; from = 1; sent = 1; got = 0 }) ∷ []);
-      stubs = (record { source = 1; bunch = 0; target = 3 } ∷ []);
-      scions = (record { target = 3; source = 1; bunch = 0; clock = 12 } ∷ []);
+      counts = record { clock = 33; made = 3; segments = 4; issued = 0 ∷ 2 ∷ []; taken = 0 ∷ 2 ∷ []; tables = 2 ∷ 2 ∷ [] };
+      registers = replicate 16 val.Null;
+      entries =
+          (1, owned 0 32 (field.Null ∷ field.Int (pos 1) ∷ field.Int (pos 2) ∷ replicate 29 field.Null) [])
+          ∷ (2, owned 1 32 (replicate 32 field.Null) [])
+          ∷ (3, owned 1 1 (field.Int (pos 9) ∷ []) [])
+          ∷ [];
+      places =
+          (1, lies 0x300000000 1)
+          ∷ (2, lies 0x400000000 1)
+          ∷ (3, lies 0x400000024 1)
+          ∷ [];
+      records =
+          recorded 1 0 1 0 2
+          ∷ recorded 2 1 1 0 0
+          ∷ recorded 3 1 1 1 0
+          ∷ [];
+      stubs = record { source = 1; bunch = 0; target = 3 } ∷ [];
+      scions = record { target = 3; source = 1; bunch = 0; clock = 12 } ∷ [];
+      mapped =
+          0x100000000
+          ∷ 0x200000000
+          ∷ 0x300000000
+          ∷ 0x400000000
+          ∷ [];
+      headers =
+          (0x100000000, went 1 32 0x300000000)
+          ∷ (0x200000000, went 2 32 0x400000000)
+          ∷ (0x200000024, went 3 1 0x400000024)
+          ∷ (0x300000000, lives 1 32 1)
+          ∷ (0x400000000, lives 2 32 1)
+          ∷ (0x400000024, lives 3 1 1)
+          ∷ [];
     }
 left_at_node_0 = refl
 
 left_at_node_1 :
-    left_at (at_the_end.nodes 1) (1 ∷ 2 ∷ 3 ∷ []) (0x100000000 ∷ 0x200000000 ∷ 0x200000024 ∷ []) []
+    left_at 2 (at_the_end.nodes 1)
     ≡ record {
-      clock = 18;
-      places = (Some (record { address = 0x100000000; moves = 0 }) ∷ Some (record { address = 0x200000000; moves = 0 }) ∷ Some (record { address = 0x200000024; moves = 0 }) ∷ []);
-      headers = (lives 1 32 0 ∷ lives 2 32 0 ∷ lives 3 1 0 ∷ []);
+      counts = record { clock = 18; made = 0; segments = 0; issued = 2 ∷ 0 ∷ []; taken = 2 ∷ 0 ∷ []; tables = 2 ∷ 2 ∷ [] };
+      registers = replicate 16 val.Null;
+      entries =
+          (1, asked_of 0 0 32 None)
+          ∷ (2, asked_of 0 1 32 None)
+          ∷ (3, asked_of 0 1 1 None)
+          ∷ [];
+      places =
+          (1, lies 0x100000000 0)
+          ∷ (2, lies 0x200000000 0)
+          ∷ (3, lies 0x200000024 0)
+          ∷ [];
       records = [];
       stubs = [];
       scions = [];
+      mapped =
+          0x100000000
+          ∷ 0x200000000
+          ∷ [];
+      headers =
+          (0x100000000, lives 1 32 0)
+          ∷ (0x200000000, lives 2 32 0)
+          ∷ (0x200000024, lives 3 1 0)
+          ∷ [];
     }
 left_at_node_1 = refl
