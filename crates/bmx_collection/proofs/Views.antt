@@ -60,9 +60,9 @@ are_numbers nodes f = record { each = as_many f 0 nodes; same = λ m less. each_
 
 -- ## lists in order
 
-record AreInOrder (l : Links) : Type 0 where
-  stubs : IsInOrder stub_pair l.stubs
-  scions : IsInOrder scion_pair l.scions
+pub record AreInOrder (l : Links) : Type 0 where
+  pub stubs : IsInOrder stub_pair l.stubs
+  pub scions : IsInOrder scion_pair l.scions
 
 pairs_ordered : (clock : ℕ) (xs : List Stub) (l : Links) → AreInOrder l → AreInOrder (fold (with_pair clock) l xs)
 pairs_ordered clock [] l k = k
@@ -85,26 +85,24 @@ rule_ordered st me stamp n t (TakeTable table) k =
     either_ordered (is_stray_table st me table) (unchanged n Stray) _ k
     (record { stubs = k.stubs; scions = IsInOrder-filter scion_pair (λ q. not (ends_scion (n.state.taken table.from) table q)) n.links.scions k.scions })
 
-deed_ordered : (st : Setting) (me stamp : ℕ) (n m : LinkedNode) (d : Deed) → IsDeed st me n stamp d m → AreInOrder n.links → AreInOrder m.links
+pub deed_ordered : (st : Setting) (me stamp : ℕ) (n m : LinkedNode) (d : Deed) → IsDeed st me n stamp d m → AreInOrder n.links → AreInOrder m.links
 deed_ordered st me stamp n m (Plain i d) step k = subst AreInOrder (sym step.links) (pairs_ordered (n.state.clock + 1) (pairs_of me n.state i d.answer) n.links k)
 deed_ordered st me stamp n m (Collector i d) step k = subst (λ (x : LinkedNode). AreInOrder x.links) (sym step.node) (rule_ordered st me stamp n step.told i k)
 
-one_more : (b : Bool) (n m : LinkedNode) → AreInOrder n.links → AreInOrder m.links → AreInOrder (cond b n m).links
-one_more true n m x y = x
-one_more false n m x y = y
+pub order_either : (b : Bool) (n m : LinkedNode) → AreInOrder n.links → AreInOrder m.links → AreInOrder (cond b n m).links
+order_either true n m x y = x
+order_either false n m x y = y
 
-pub AllInOrder : (ℕ → LinkedNode) → Type 0
+abbrev pub AllInOrder : (ℕ → LinkedNode) → Type 0
 AllInOrder nodes = (k : ℕ) → AreInOrder (nodes k).links
 
 replay_ordered : (st : Setting) (events : List LinkedEvent) (nodes last : ℕ → LinkedNode) → AllInOrder nodes → ReplaysLinked st nodes events last → AllInOrder last
-unfolding AllInOrder
 replay_ordered st [] nodes last all r = subst AllInOrder r all
 replay_ordered st (e ∷ events) nodes last all r =
     replay_ordered st events (put nodes e.node r.0) last
-    (λ k. one_more (e.node == k) r.0 (nodes k) (deed_ordered st e.node e.stamp (nodes e.node) r.0 e.deed r.1 (all e.node)) (all k)) r.2
+    (λ k. order_either (e.node == k) r.0 (nodes k) (deed_ordered st e.node e.stamp (nodes e.node) r.0 e.deed r.1 (all e.node)) (all k)) r.2
 
-first_ordered : (st : Setting) → AllInOrder (first_linked st)
-unfolding AllInOrder
+pub first_ordered : (st : Setting) → AllInOrder (first_linked st)
 first_ordered st k = record { stubs = λ i j d less within. absurd (omega (arith, within)); scions = λ i j d less within. absurd (omega (arith, within)) }
 
 -- ## views
@@ -136,7 +134,6 @@ one_value nodes v l m a b = record {
 }
 
 pub links_have_one_view : LinksHaveOneView
-unfolding AllInOrder
 links_have_one_view = record {
   one_view = one_view;
   one_value = one_value;

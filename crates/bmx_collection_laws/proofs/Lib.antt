@@ -7,3 +7,5 @@ pub mod Always
 pub mod Lifted
 pub mod Stored
 pub mod Targets
+pub mod Without
+pub mod Tabled

@@ -1,5 +1,5 @@
 -- What copies and letters refer to is known, over legal histories with collectors.
-use Rattle.std.proofs.Common.{◌≡◌, ℕ, ◌<◌, ◌≤◌, ◌==◌, ◌||◌, ◌⊎◌, inl, inr, arith, ap, subst, ◌∙◌, refl, Bool, true, false, List, [], ◌∷◌, map, Contains}
+use Rattle.std.proofs.Common.{◌≡◌, ℕ, ◌<◌, ◌≤◌, ◌||◌, ◌⊎◌, inl, inr, arith, ap, subst, ◌∙◌, refl, Bool, true, false, List, [], ◌∷◌, map, Contains}
 use Rattle.std.specs.Prelude.{Option, Some, None, IsSome, is_some}
 use Rattle.std.specs.Option.{option_map_or}
 use Rattle.std.specs.List.{list_any}

@@ -5,6 +5,7 @@
 mod laws;
 
 pub use laws::{
-    laws_apply, laws_of_stores_stand, ready_is_wanted, records_are_safe, tables_do_no_harm,
-    targets_stand,
+    full_is_at_the_limit, graph_stands_without_collector, laws_apply, laws_of_stores_stand,
+    made_stay_current_without_collector, no_table_strays, places_stand_without_collector,
+    ready_is_wanted, records_are_safe, tables_do_no_harm, targets_stand,
 };
