@@ -1,4 +1,5 @@
--- What holds of a collector's step by the definitions alone, whatever came before it.
+-- What holds of the steps of a node with a collector by the definitions alone, whatever came before them, and of legal
+-- histories of such nodes.
 use Rattle.std.specs.Prelude.{◌≡◌, ℕ, suc, ◌+◌, ◌^◌, ◌++◌, ◌<◌, ◌≤◌, ◌↔◌, false, true, List, [], map, Some, None}
 use Rattle.bmx_types.specs.Openings.{IsOpening}
 use Rattle.bmx_table.specs.declared.tables.Table.{Table}

@@ -1,5 +1,6 @@
-//! What holds of tokens and records after every legal history with collectors, whatever tables are lost, late or taken
-//! again: the laws of stores stand, and no table ends what is needed. It has definitions and laws alone.
+//! What holds after every legal history with collectors, whatever tables are lost, late or taken again: the laws of stores
+//! stand, no table ends what is needed, and none is stray; and, where no collector acts, the laws of places and of the
+//! graph. It has definitions and laws alone.
 #![tactic(auto)]
 
 mod laws;
