@@ -22,6 +22,7 @@ use Rattle.bmx_collection.specs.Sweeps.{has_object, first_word, IsDropped}
 use Rattle.bmx_collection.specs.Finding.{is_value_of, is_root, reached_in, below, records_below, is_dropped, first_words}
 use Rattle.bmx_collection.specs.Laws.{IsRecordBelow, IsWithin, AreWithin, FoundIsTold}
 use Rattle.bmx_collection.proofs.Rising.{listed, listed_there}
+use Rattle.bmx_collection.proofs.Settling.{settles}
 use Rattle.bmx_collection.proofs.Passing.{passing_rises, passes, passed, are_all, none_has}
 use Rattle.bmx_collection.proofs.Listing.{both, clash, behind, in_flat, from_flat, flat_in_order, in_given, from_given, given_in_order, map_is_given, in_filter, from_filter, find_one_of, find_no, rises_by_pairs}
 
@@ -449,10 +450,10 @@ module _ (n me : ℕ) (a : Places) (small : n ≤ 2 ^ 24) (within : AreWithin n 
 
 pub found_is_told : FoundIsTold
 found_is_told = record {
-  collections = λ n me bunch node within settled.
+  collections = λ n me bunch node within.
       let kept : List ℕ = reached_in n n node.state node.links bunch in
       record {
-        kept = are_reached n node.state node.links bunch within n settled;
+        kept = are_reached n node.state node.links bunch within n (settles n node.state node.links bunch);
         owned = are_all (is_owned node.state bunch) n (λ x e. known_within n node.state within _ x e);
         gone = are_all (goes node.state bunch kept) n (λ x e. entry_within n node.state node.links bunch within x (both (is_entry node.state bunch x) (not (is_listed kept x)) e).0);
         children = none_has;

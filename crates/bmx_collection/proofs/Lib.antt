@@ -1,6 +1,7 @@
 pub mod Rising
 pub mod Passing
 pub mod Listing
+pub mod Settling
 pub mod Found
 pub mod Told
 pub mod Steps

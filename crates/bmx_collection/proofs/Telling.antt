@@ -34,7 +34,7 @@ first_collection_is_a_step = record {
   after = counted (collected 0 fresh (found 8 0 fresh (Collect 0)) 0);
   step = record {
     told = found 8 0 fresh (Collect 0);
-    is_told = found_is_told.collections 8 0 0 fresh fresh_within refl;
+    is_told = found_is_told.collections 8 0 0 fresh fresh_within;
     outcome = refl;
     node = refl;
   };

@@ -331,39 +331,20 @@ plain_good st p me i ok next good =
 
 -- ## moves of a collector
 
-pub same_numbers : List ℕ → List ℕ → Bool
-same_numbers [] [] = true
-same_numbers (x ∷ xs) (y ∷ ys) = x == y && same_numbers xs ys
-same_numbers xs ys = false
-
-numbers_same : (xs ys : List ℕ) → same_numbers xs ys ≡ true → xs ≡ ys
-unfolding same_numbers
-numbers_same [] [] e = refl
-numbers_same (x ∷ xs) (y ∷ ys) e =
-    let split : ((x == y) ≡ true) × (same_numbers xs ys ≡ true) = both (x == y) (same_numbers xs ys) e in
-    λ j. eqb_is x y split.0 j ∷ numbers_same xs ys split.1 j
-numbers_same [] (y ∷ ys) e = cc
-numbers_same (x ∷ xs) [] e = cc
-
 -- a collection moves into segments below 8
 pub places_ok : ℕ → LinkedNode → ℕ → CollectorTold → Bool
 places_ok me n bunch t = collection_below 8 me n.state n.places bunch t.owned t.gone (filter (is_listed t.kept) t.owned)
 
 pub told_ok : Setting → LinkedPlay → ℕ → CollectorInput → Bool
 told_ok st p me (Collect bunch) =
-    nat_lt bunch (bunches_of st.births)
-    && (same_numbers (reached_in 9 8 (p.nodes me).state (p.nodes me).links bunch) (reached_in 8 8 (p.nodes me).state (p.nodes me).links bunch)
-    && places_ok me (p.nodes me) bunch (found 8 me (p.nodes me) (Collect bunch)))
+    nat_lt bunch (bunches_of st.births) && places_ok me (p.nodes me) bunch (found 8 me (p.nodes me) (Collect bunch))
 told_ok st p me Sweep = true
 told_ok st p me (MakeTable bunch to) = nat_lt bunch (bunches_of st.births) && nat_lt to st.nodes
 told_ok st p me (TakeTable t) = nat_lt t.from st.nodes && (t.to == me && nat_lt (times_taken t p.history) 3)
 
 is_told : (st : Setting) (p : LinkedPlay) (me : ℕ) (i : CollectorInput) → told_ok st p me i ≡ true → IsGood st p → IsCollectorTold me (p.nodes me) i (found 8 me (p.nodes me) i)
 unfolding told_ok
-is_told st p me (Collect bunch) ok good =
-    found_is_told.collections 8 me bunch (p.nodes me) (good.within me)
-    (numbers_same (reached_in 9 8 (p.nodes me).state (p.nodes me).links bunch) (reached_in 8 8 (p.nodes me).state (p.nodes me).links bunch)
-    (both (same_numbers (reached_in 9 8 (p.nodes me).state (p.nodes me).links bunch) (reached_in 8 8 (p.nodes me).state (p.nodes me).links bunch)) _ (both (nat_lt bunch (bunches_of st.births)) _ ok).1).0)
+is_told st p me (Collect bunch) ok good = found_is_told.collections 8 me bunch (p.nodes me) (good.within me)
 is_told st p me Sweep ok good = found_is_told.sweeps 8 me (p.nodes me) (omega arith) (good.placed me)
 is_told st p me (MakeTable bunch to) ok good = found_is_told.tables 8 me bunch to (p.nodes me) (good.within me)
 is_told st p me (TakeTable t) ok good = found_is_told.takings 8 me t (p.nodes me) (good.within me)
@@ -389,9 +370,7 @@ collector_placed st p me stamp (Collect bunch) ok w = by _ _ (collection_within 
   where
     below : places_ok me (p.nodes me) bunch (found 8 me (p.nodes me) (Collect bunch)) ≡ true
     below =
-        (both (same_numbers (reached_in 9 8 (p.nodes me).state (p.nodes me).links bunch) (reached_in 8 8 (p.nodes me).state (p.nodes me).links bunch))
-        (places_ok me (p.nodes me) bunch (found 8 me (p.nodes me) (Collect bunch)))
-        (both (nat_lt bunch (bunches_of st.births)) _ ok).1).1
+        (both (nat_lt bunch (bunches_of st.births)) (places_ok me (p.nodes me) bunch (found 8 me (p.nodes me) (Collect bunch))) ok).1
 
     by : (b : Bool) (r : CollectorReaction) → AreWithin 8 r.node.places → AreWithin 8 (cond b (unchanged (p.nodes me) (Refused refusal.Full)) r).node.places
     by true r x = w
@@ -530,27 +509,27 @@ legal_by_tests st ms births nodes opening ok =
     none (f ∷ p) r e h = cc
 
 old_addresses_is_legal : IsLegalLinked (one_bunch 2) addresses.at_the_end.history
-unfolding moves_ok move_ok by_itself_ok taking_ok collector_ok told_ok places_ok same_numbers plain_ok event_ok stamps_ok next_ok later_ok again_ok same_command same_operand input_ok command_ok operand_ok address_below placed_below made_below infos_below to_below moves_below births_made_below place_below told_below input_below collection_below opening_below
+unfolding moves_ok move_ok by_itself_ok taking_ok collector_ok told_ok places_ok plain_ok event_ok stamps_ok next_ok later_ok again_ok same_command same_operand input_ok command_ok operand_ok address_below placed_below made_below infos_below to_below moves_below births_made_below place_below told_below input_below collection_below opening_below
 old_addresses_is_legal = legal_by_tests (one_bunch 2) (map (λ (l : LinkedLine). l.move) addresses.lines) refl refl refl refl
 
 only_a_register_elsewhere_is_legal : IsLegalLinked (one_bunch 2) register_elsewhere.at_the_end.history
-unfolding moves_ok move_ok by_itself_ok taking_ok collector_ok told_ok places_ok same_numbers plain_ok event_ok stamps_ok next_ok later_ok again_ok same_command same_operand input_ok command_ok operand_ok address_below placed_below made_below infos_below to_below moves_below births_made_below place_below told_below input_below collection_below opening_below
+unfolding moves_ok move_ok by_itself_ok taking_ok collector_ok told_ok places_ok plain_ok event_ok stamps_ok next_ok later_ok again_ok same_command same_operand input_ok command_ok operand_ok address_below placed_below made_below infos_below to_below moves_below births_made_below place_below told_below input_below collection_below opening_below
 only_a_register_elsewhere_is_legal = legal_by_tests (one_bunch 2) (map (λ (l : LinkedLine). l.move) register_elsewhere.lines) refl refl refl refl
 
 a_late_table_is_legal : IsLegalLinked (one_bunch 2) late_table.at_the_end.history
-unfolding moves_ok move_ok by_itself_ok taking_ok collector_ok told_ok places_ok same_numbers plain_ok event_ok stamps_ok next_ok later_ok again_ok same_command same_operand input_ok command_ok operand_ok address_below placed_below made_below infos_below to_below moves_below births_made_below place_below told_below input_below collection_below opening_below
+unfolding moves_ok move_ok by_itself_ok taking_ok collector_ok told_ok places_ok plain_ok event_ok stamps_ok next_ok later_ok again_ok same_command same_operand input_ok command_ok operand_ok address_below placed_below made_below infos_below to_below moves_below births_made_below place_below told_below input_below collection_below opening_below
 a_late_table_is_legal = legal_by_tests (one_bunch 2) (map (λ (l : LinkedLine). l.move) late_table.lines) refl refl refl refl
 
 between_bunches_is_legal : IsLegalLinked (two_bunches 1) bunches.at_the_end.history
-unfolding moves_ok move_ok by_itself_ok taking_ok collector_ok told_ok places_ok same_numbers plain_ok event_ok stamps_ok next_ok later_ok again_ok same_command same_operand input_ok command_ok operand_ok address_below placed_below made_below infos_below to_below moves_below births_made_below place_below told_below input_below collection_below opening_below
+unfolding moves_ok move_ok by_itself_ok taking_ok collector_ok told_ok places_ok plain_ok event_ok stamps_ok next_ok later_ok again_ok same_command same_operand input_ok command_ok operand_ok address_below placed_below made_below infos_below to_below moves_below births_made_below place_below told_below input_below collection_below opening_below
 between_bunches_is_legal = legal_by_tests (two_bunches 1) (map (λ (l : LinkedLine). l.move) bunches.lines) refl refl refl refl
 
 pairs_at_two_nodes_is_legal : IsLegalLinked (two_bunches 2) pairs.at_the_end.history
-unfolding moves_ok move_ok by_itself_ok taking_ok collector_ok told_ok places_ok same_numbers plain_ok event_ok stamps_ok next_ok later_ok again_ok same_command same_operand input_ok command_ok operand_ok address_below placed_below made_below infos_below to_below moves_below births_made_below place_below told_below input_below collection_below opening_below
+unfolding moves_ok move_ok by_itself_ok taking_ok collector_ok told_ok places_ok plain_ok event_ok stamps_ok next_ok later_ok again_ok same_command same_operand input_ok command_ok operand_ok address_below placed_below made_below infos_below to_below moves_below births_made_below place_below told_below input_below collection_below opening_below
 pairs_at_two_nodes_is_legal = legal_by_tests (two_bunches 2) (map (λ (l : LinkedLine). l.move) pairs.lines) refl refl refl refl
 
 a_full_collection_is_legal : IsLegalLinked (record (one_bunch 1) { limit = 2 }) full_collection.at_the_end.history
-unfolding moves_ok move_ok by_itself_ok taking_ok collector_ok told_ok places_ok same_numbers plain_ok event_ok stamps_ok next_ok later_ok again_ok same_command same_operand input_ok command_ok operand_ok address_below placed_below made_below infos_below to_below moves_below births_made_below place_below told_below input_below collection_below opening_below
+unfolding moves_ok move_ok by_itself_ok taking_ok collector_ok told_ok places_ok plain_ok event_ok stamps_ok next_ok later_ok again_ok same_command same_operand input_ok command_ok operand_ok address_below placed_below made_below infos_below to_below moves_below births_made_below place_below told_below input_below collection_below opening_below
 a_full_collection_is_legal = legal_by_tests (record (one_bunch 1) { limit = 2 }) (map (λ (l : LinkedLine). l.move) full_collection.lines) refl refl refl refl
 
 pub worked_runs_are_legal_linked : WorkedRunsAreLegalLinked

@@ -1,6 +1,6 @@
 -- What holds of the steps of a node with a collector by the definitions alone, whatever came before them, and of legal
 -- histories of such nodes.
-use Rattle.std.specs.Prelude.{◌≡◌, ℕ, suc, ◌+◌, ◌^◌, ◌++◌, ◌<◌, ◌≤◌, ◌↔◌, false, true, List, [], map, Some, None}
+use Rattle.std.specs.Prelude.{◌≡◌, ℕ, ◌+◌, ◌^◌, ◌++◌, ◌<◌, ◌≤◌, ◌↔◌, false, true, List, [], map, Some, None}
 use Rattle.bmx_types.specs.Openings.{IsOpening}
 use Rattle.bmx_table.specs.declared.tables.Table.{Table}
 use Rattle.bmx_clean.specs.declared.cleaner.Applied.TheVariants.{Early, Removed}
@@ -14,7 +14,7 @@ use Rattle.bmx_collection.specs.Reach.{is_entry, refers, is_busy, IsRoot, IsReac
 use Rattle.bmx_collection.specs.Steps.{LinkedNode, unlinked, first_linked, CollectorInput, Collect, Sweep, TakeTable, CollectorAnswer, Forgot, Swept, Cleaned, Nil, Refused, Stray, CollectorDone, MakeTable, IsCollectorTold, IsCollectorStep, counted}
 use Rattle.bmx_owner.specs.declared.entering.Record.{Record}
 use Rattle.bmx_collection.specs.Windows.{IsReachedIn, window_of_one}
-use Rattle.bmx_collection.specs.Finding.{reached_in, found}
+use Rattle.bmx_collection.specs.Finding.{found}
 use Rattle.bmx_collection.specs.Histories.{Deed, Plain, Collector, input_of, LinkedEvent, plainly, plain_events, IsDeed, ReplaysLinked, IsLegalLinked, IsWithoutCollector}
 use Rattle.bmx_collection.specs.Worlds.{LinkedWorld, linked_world_of, PairsStand, StubsHaveScions, NoTableEndsAScion}
 
@@ -153,13 +153,9 @@ pub record AreWithin (n : ℕ) (a : Places) : Type 0 where
   pub mapped : (home segment : ℕ) → a.mapped home segment ≡ true → (home < n) × (segment < n)
   pub opened : (bunch segment : ℕ) → a.opened bunch ≡ Some segment → bunch < n
 
--- no step more reaches another name
-abbrev pub IsSettled : ℕ → LinkedNode → ℕ → Type 0
-IsSettled n node bunch = reached_in (suc n) n node.state node.links bunch ≡ reached_in n n node.state node.links bunch
-
 -- what is found below n is what a collector's step is to be told, where the node has nothing else
 pub record FoundIsTold : Type 0 where
-  pub collections : (n me bunch : ℕ) (node : LinkedNode) → IsWithin n node.state → IsSettled n node bunch →
+  pub collections : (n me bunch : ℕ) (node : LinkedNode) → IsWithin n node.state →
       IsCollectorTold me node (Collect bunch) (found n me node (Collect bunch))
   pub sweeps : (n me : ℕ) (node : LinkedNode) → n ≤ 2 ^ 24 → AreWithin n node.places →
       IsCollectorTold me node Sweep (found n me node Sweep)
