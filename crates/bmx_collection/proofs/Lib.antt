@@ -19,3 +19,4 @@ pub mod References
 pub mod Referring
 pub mod Standing
 pub mod Views
+pub mod Finite
