@@ -1,6 +1,5 @@
--- After each legal history each node knows finitely many names; so there is what a collection, a table and the taking of one
--- are told.
-use Rattle.std.proofs.Common.{◌≡◌, ℕ, ◌+◌, ◌<◌, ◌≤◌, ◌==◌, ◌&&◌, nat_lt, Bool, true, false, cond, List, [], ◌∷◌, refl, sym, subst, arith}
+-- After each legal history each node knows finitely many names; so its collector has a step by each input.
+use Rattle.std.proofs.Common.{◌≡◌, ℕ, ◌+◌, ◌^◌, ◌<◌, ◌≤◌, ◌==◌, ◌&&◌, nat_lt, Bool, true, false, cond, List, [], ◌∷◌, filter, refl, sym, subst, arith}
 use Rattle.std.proofs.lemmas.Bool.Decides.{nat_tests}
 use Rattle.bmx_types.specs.Updates.{put}
 use Rattle.bmx_types.specs.declared.openings.Birth.{Birth}
@@ -10,13 +9,15 @@ use Rattle.bmx_protocol.specs.Changes.{Change, Sets, Makes, Knows, Hears, Gives,
 use Rattle.bmx_protocol.specs.Steps.{rule, changes_of}
 use Rattle.bmx_collection.specs.ToSpaces.{is_too_large}
 use Rattle.bmx_collection.specs.Tables.{is_stray_table}
-use Rattle.bmx_collection.specs.Steps.{LinkedNode, first_linked, CollectorInput, Collect, Sweep, MakeTable, TakeTable, CollectorTold, CollectorReaction, Refused, Stray, unchanged, collector_rule, IsCollectorTold}
+use Rattle.bmx_collection.specs.Steps.{LinkedNode, first_linked, CollectorInput, Collect, Sweep, MakeTable, TakeTable, CollectorTold, CollectorReaction, Refused, Stray, unchanged, collector_rule, CollectorDone, outcome_of, counted, IsCollectorTold, IsCollectorStep}
 use Rattle.bmx_collection.specs.Histories.{Deed, Plain, Collector, LinkedEvent, IsDeed, ReplaysLinked}
-use Rattle.bmx_collection.specs.Finding.{found}
-use Rattle.bmx_collection.specs.Laws.{IsRecordBelow, IsWithin, CollectorsAreTold}
+use Rattle.bmx_collection.specs.Finding.{found, told_nothing, is_dropped, first_words}
+use Rattle.bmx_collection.specs.Laws.{IsRecordBelow, IsWithin, CollectorsCanStep}
 use Rattle.bmx_collection.proofs.Listing.{both}
 use Rattle.bmx_collection.proofs.Within.{births_below, first_within, change_below, changes_below, changes_within, step_within, forgotten_within, cleaned_within}
-use Rattle.bmx_collection.proofs.Found.{found_is_told}
+use Rattle.bmx_collection.proofs.Passing.{none_has}
+use Rattle.bmx_collection.proofs.Found.{found_is_told, dropped_found}
+use Rattle.bmx_collection.proofs.Few.{Few, always_few}
 
 -- ## bounds
 
@@ -146,14 +147,35 @@ first_finite st k =
     let births : (n : ℕ) × (births_below n st.births ≡ true) = births_bound st.births in
     (births.0 + st.nodes, first_within (births.0 + st.nodes) st k (births_more births.0 (births.0 + st.nodes) st.births (omega arith) births.1) (omega arith))
 
-told_of : (me : ℕ) (n : LinkedNode) (i : CollectorInput) → (i ≡ Sweep → ⊥) → Finite n.state → (t : CollectorTold) × IsCollectorTold me n i t
-told_of me n (Collect bunch) other k = (found k.0 me n (Collect bunch), found_is_told.collections k.0 me bunch n k.1)
-told_of me n Sweep other k = absurd (other refl)
-told_of me n (MakeTable bunch to) other k = (found k.0 me n (MakeTable bunch to), found_is_told.tables k.0 me bunch to n k.1)
-told_of me n (TakeTable table) other k = (found k.0 me n (TakeTable table), found_is_told.takings k.0 me table n k.1)
+-- a sweep is told the segments of so many homes
+sweep_told : (me : ℕ) (n : LinkedNode) → Few n.places → (t : CollectorTold) × IsCollectorTold me n Sweep t
+sweep_told me n k = (
+  record told_nothing { dropped = filter (is_dropped k.0 me n.places) (first_words k.0 (2 ^ 24)) },
+  record {
+    kept = none_has;
+    owned = none_has;
+    gone = none_has;
+    children = none_has;
+    records = refl;
+    dropped = dropped_found k.0 (2 ^ 24) me n.places (omega arith) k.1.bunches (λ home segment less e. (k.1.homes home segment e, less));
+  },
+)
 
-pub collectors_are_told : CollectorsAreTold
-collectors_are_told = record {
-  finite = λ st history nodes legal r n. replay_finite st history (first_linked st) nodes (first_finite st) r n;
-  told = λ st history nodes legal r me i other. told_of me (nodes me) i other (replay_finite st history (first_linked st) nodes (first_finite st) r me);
+told_of : (me : ℕ) (n : LinkedNode) (i : CollectorInput) → Finite n.state → Few n.places → (t : CollectorTold) × IsCollectorTold me n i t
+told_of me n (Collect bunch) k f = (found k.0 me n (Collect bunch), found_is_told.collections k.0 me bunch n k.1)
+told_of me n Sweep k f = sweep_told me n f
+told_of me n (MakeTable bunch to) k f = (found k.0 me n (MakeTable bunch to), found_is_told.tables k.0 me bunch to n k.1)
+told_of me n (TakeTable table) k f = (found k.0 me n (TakeTable table), found_is_told.takings k.0 me table n k.1)
+
+a_step : (st : Setting) (me stamp : ℕ) (n : LinkedNode) (i : CollectorInput) → (t : CollectorTold) × IsCollectorTold me n i t → (d : CollectorDone) × (m : LinkedNode) × IsCollectorStep st me n stamp i d m
+a_step st me stamp n i t =
+    let r : CollectorReaction = collector_rule st me n t.0 stamp i in
+    (outcome_of r, counted r.node, record { told = t.0; is_told = t.1; outcome = refl; node = refl })
+
+pub collectors_can_step : CollectorsCanStep
+collectors_can_step = record {
+  names = λ st history nodes legal r n. replay_finite st history (first_linked st) nodes (first_finite st) r n;
+  places = λ st history nodes legal r n. always_few st history nodes r n;
+  steps = λ st history nodes legal r me stamp i.
+      a_step st me stamp (nodes me) i (told_of me (nodes me) i (replay_finite st history (first_linked st) nodes (first_finite st) r me) (always_few st history nodes r me));
 }

@@ -20,7 +20,7 @@ use Rattle.bmx_collection.specs.Reach.{is_known_as, is_entry, is_owned, is_child
 use Rattle.bmx_collection.specs.Forgetting.{goes}
 use Rattle.bmx_collection.specs.Sweeps.{has_object, first_word, IsDropped}
 use Rattle.bmx_collection.specs.Finding.{is_value_of, is_root, reached_in, below, records_below, is_dropped, first_words}
-use Rattle.bmx_collection.specs.Laws.{IsRecordBelow, IsWithin, AreWithin, FoundIsTold}
+use Rattle.bmx_collection.specs.Laws.{IsRecordBelow, IsWithin, FoundIsTold}
 use Rattle.bmx_collection.proofs.Rising.{listed, listed_there}
 use Rattle.bmx_collection.proofs.Settling.{settles}
 use Rattle.bmx_collection.proofs.Passing.{passing_rises, passes, passed, are_all, none_has}
@@ -328,20 +328,20 @@ is_at_home n home x c =
     some_is : {a b : ℕ} → Some a ≡ Some b → a ≡ b
     some_is e = cc
 
-in_first_words : (n home g : ℕ) → home < n → g < n → Contains (first_words n) (address_word home g 0)
-in_first_words n home g hb gb =
-    in_flat (at_home n) 0 n home (address_word home g 0) (omega arith) (omega (arith, hb))
+in_first_words : (m n home g : ℕ) → home < m → g < n → Contains (first_words m n) (address_word home g 0)
+in_first_words m n home g hb gb =
+    in_flat (at_home n) 0 m home (address_word home g 0) (omega arith) (omega (arith, hb))
     (subst (λ (l : List ℕ). Contains l (address_word home g 0)) (sym (map_is_given (λ g. address_word home g 0) (below n)))
     (in_given (λ g. Some (address_word home g 0)) 0 n g (address_word home g 0) (omega arith) (omega (arith, gb)) refl))
 
-is_first_word : (n x : ℕ) → Contains (first_words n) x → (home : ℕ) × (g : ℕ) × (g < n) × (address_word home g 0 ≡ x)
-is_first_word n x c =
-    let a : (h : ℕ) × (0 ≤ h) × (h < 0 + n) × Contains (at_home n h) x = from_flat (at_home n) 0 n x c in
+is_first_word : (m n x : ℕ) → Contains (first_words m n) x → (home : ℕ) × (g : ℕ) × (g < n) × (address_word home g 0 ≡ x)
+is_first_word m n x c =
+    let a : (h : ℕ) × (0 ≤ h) × (h < 0 + m) × Contains (at_home n h) x = from_flat (at_home n) 0 m x c in
     let b : (g : ℕ) × (g < n) × (address_word a.0 g 0 ≡ x) = is_at_home n a.0 x a.3 in
     (a.0, b.0, b.1, b.2)
 
-first_words_rise : (n : ℕ) → n ≤ 2 ^ 24 → AllPairs (λ x y. x < y) (first_words n)
-first_words_rise n small =
+first_words_rise : (m n : ℕ) → n ≤ 2 ^ 24 → AllPairs (λ x y. x < y) (first_words m n)
+first_words_rise m n small =
     flat_in_order (at_home n) (λ x y. x < y)
     (λ h. subst (AllPairs (λ x y. x < y)) (sym (map_is_given (λ g. address_word h g 0) (below n)))
     (given_in_order (λ g. Some (address_word h g 0)) (λ x y. x < y) (λ i j x y lt a b. rise h i j x y lt a b) 0 n))
@@ -349,7 +349,7 @@ first_words_rise n small =
     apart h j (slice_index_or (at_home n h) i d) (slice_index_or (at_home n j) i' d') lt
     (is_at_home n h (slice_index_or (at_home n h) i d) (All-contains_itself (at_home n h) i d within))
     (is_at_home n j (slice_index_or (at_home n j) i' d') (All-contains_itself (at_home n j) i' d' within')))
-    0 n
+    0 m
   where
     rise : (h i j x y : ℕ) → i < j → Some (address_word h i 0) ≡ Some x → Some (address_word h j 0) ≡ Some y → x < y
     rise h i j x y lt a b =
@@ -364,6 +364,10 @@ first_words_rise n small =
         let l : a.0 < n = a.1 in
         omega (arith, lt, p, q, l, small)
 
+-- the number of a segment is of 24 bits
+below_words : (word : ℕ) → segment_of word < 2 ^ 24
+below_words word = omega arith
+
 not_true : (b : Bool) → not b ≡ true → b ≡ false
 not_true true e = cc
 not_true false e = refl
@@ -372,7 +376,8 @@ not_false : (b : Bool) → (b ≡ true → ⊥) → not b ≡ true
 not_false true never = absurd (never refl)
 not_false false never = refl
 
-module _ (n me : ℕ) (a : Places) (small : n ≤ 2 ^ 24) (within : AreWithin n a) where
+module _ (n segments me : ℕ) (a : Places) (small : segments ≤ 2 ^ 24) (opened_below : (bunch segment : ℕ) → a.opened bunch ≡ Some segment → bunch < n)
+    (mapped_below : (home segment : ℕ) → segment < 2 ^ 24 → a.mapped home segment ≡ true → (home < n) × (segment < segments)) where
   -- some bunch has the segment open
   abbrev open_here : ℕ → Bool
   open_here first = home_of first == me && any_below n (λ bunch. option_map_or (λ segment. segment == segment_of first) (a.opened bunch) false)
@@ -420,30 +425,30 @@ module _ (n me : ℕ) (a : Places) (small : n ≤ 2 ^ 24) (within : AreWithin n 
           let at : (home_of first == me) ≡ true = grind (arith, nat_tests, home) in
           pass_both (home_of first == me) (any_below n (λ bunch. option_map_or (λ segment. segment == segment_of first) (a.opened bunch) false)) at
           (below_some n (λ bunch. option_map_or (λ segment. segment == segment_of first) (a.opened bunch) false) bunch
-          (within.opened bunch (segment_of first) opened) (is_opened first (a.opened bunch) opened))
+          (opened_below bunch (segment_of first) opened) (is_opened first (a.opened bunch) opened))
 
-  dropped_found : AreAll (IsDropped me a) (filter (is_dropped n me a) (first_words n))
+  pub dropped_found : AreAll (IsDropped me a) (filter (is_dropped n me a) (first_words n segments))
   dropped_found = record {
-    rising = rises_by_pairs (filter (is_dropped n me a) (first_words n))
-        (AllPairs-filter (λ x y. x < y) (is_dropped n me a) (first_words n) (first_words_rise n small));
+    rising = rises_by_pairs (filter (is_dropped n me a) (first_words n segments))
+        (AllPairs-filter (λ x y. x < y) (is_dropped n me a) (first_words n segments) (first_words_rise n segments small));
     all = λ first. (is first, has first);
   }
     where
-      is : (first : ℕ) → Contains (filter (is_dropped n me a) (first_words n)) first → IsDropped me a first
+      is : (first : ℕ) → Contains (filter (is_dropped n me a) (first_words n segments)) first → IsDropped me a first
       is first c =
-          let both : Contains (first_words n) first × (is_dropped n me a first ≡ true) = from_filter (is_dropped n me a) (first_words n) first c in
-          let w : (home : ℕ) × (g : ℕ) × (g < n) × (address_word home g 0 ≡ first) = is_first_word n first both.0 in
-          let lt : w.1 < n = w.2 in
+          let both : Contains (first_words n segments) first × (is_dropped n me a first ≡ true) = from_filter (is_dropped n me a) (first_words n segments) first c in
+          let w : (home : ℕ) × (g : ℕ) × (g < segments) × (address_word home g 0 ≡ first) = is_first_word n segments first both.0 in
+          let lt : w.1 < segments = w.2 in
           let less : w.1 < 2 ^ 24 = omega (arith, lt, small) in
           let again : first_word (address_word w.0 w.1 0) ≡ address_word w.0 w.1 0 =
           (λ j. address_word (home_of_first w.0 w.1 less j) (segment_of_first w.0 w.1 less j) 0) in
           passes_dropped first (subst (λ (x : ℕ). first_word x ≡ x) w.3 again) both.1
 
-      has : (first : ℕ) → IsDropped me a first → Contains (filter (is_dropped n me a) (first_words n)) first
+      has : (first : ℕ) → IsDropped me a first → Contains (filter (is_dropped n me a) (first_words n segments)) first
       has first d =
-          let within_both : (home_of first < n) × (segment_of first < n) = within.mapped (home_of first) (segment_of first) d.mapped in
-          in_filter (is_dropped n me a) (first_words n) first
-          (subst (Contains (first_words n)) d.is_first (in_first_words n (home_of first) (segment_of first) within_both.0 within_both.1))
+          let within_both : (home_of first < n) × (segment_of first < segments) = mapped_below (home_of first) (segment_of first) (below_words first) d.mapped in
+          in_filter (is_dropped n me a) (first_words n segments) first
+          (subst (Contains (first_words n segments)) d.is_first (in_first_words n segments (home_of first) (segment_of first) within_both.0 within_both.1))
           (dropped_passes first d)
 
 -- ## the law
@@ -470,7 +475,7 @@ found_is_told = record {
         dropped = none_has;
       };
   sweeps = λ n me node small within.
-      record { kept = none_has; owned = none_has; gone = none_has; children = none_has; records = refl; dropped = dropped_found n me node.places small within };
+      record { kept = none_has; owned = none_has; gone = none_has; children = none_has; records = refl; dropped = dropped_found n n me node.places small within.opened (λ home segment lt e. within.mapped home segment e) };
   takings = λ n me t node within.
       record {
         kept = none_has;

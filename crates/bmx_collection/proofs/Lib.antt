@@ -19,4 +19,5 @@ pub mod References
 pub mod Referring
 pub mod Standing
 pub mod Views
+pub mod Few
 pub mod Finite

@@ -58,9 +58,9 @@ is_dropped n me a first =
     && not (home_of first == me && any_below n (λ bunch. option_map_or (λ segment. segment == segment_of first) (a.opened bunch) false))
     && not (has_object a (home_of first) (segment_of first))
 
--- the first words of the segments below n of homes below n, rising
-abbrev pub first_words : ℕ → List ℕ
-first_words n = flat_map (λ home. map (λ segment. address_word home segment 0) (below n)) (below n)
+-- the first words of so many segments of so many homes, rising
+abbrev pub first_words : ℕ → ℕ → List ℕ
+first_words homes segments = flat_map (λ home. map (λ segment. address_word home segment 0) (below segments)) (below homes)
 
 -- told no list
 abbrev pub told_nothing : CollectorTold
@@ -77,6 +77,6 @@ told_kept n node bunch kept = record told_nothing {
 -- what an input is told at node me
 abbrev pub found : ℕ → ℕ → LinkedNode → CollectorInput → CollectorTold
 found n me node (Collect bunch) = told_kept n node bunch (reached_in n n node.state node.links bunch)
-found n me node Sweep = record told_nothing { dropped = filter (is_dropped n me node.places) (first_words n) }
+found n me node Sweep = record told_nothing { dropped = filter (is_dropped n me node.places) (first_words n n) }
 found n me node (MakeTable bunch to) = record told_nothing { children = passing (is_child node.state bunch to) 0 n }
 found n me node (TakeTable table) = record told_nothing { records = records_below n node.state }

@@ -11,7 +11,7 @@ use Rattle.bmx_protocol.specs.Histories.{AreAfter, IsLegal}
 use Rattle.bmx_protocol.specs.Laws.{IsRefusal}
 use Rattle.bmx_collection.specs.Links.{Links, LinkView, ShowsLinks, AreShownAlike}
 use Rattle.bmx_collection.specs.Reach.{is_entry, refers, is_busy, IsRoot, IsReachedHere, MayBeKept}
-use Rattle.bmx_collection.specs.Steps.{LinkedNode, unlinked, first_linked, CollectorInput, Collect, Sweep, TakeTable, CollectorAnswer, Forgot, Swept, Cleaned, Nil, Refused, Stray, CollectorDone, MakeTable, CollectorTold, IsCollectorTold, IsCollectorStep, counted}
+use Rattle.bmx_collection.specs.Steps.{LinkedNode, unlinked, first_linked, CollectorInput, Collect, Sweep, TakeTable, CollectorAnswer, Forgot, Swept, Cleaned, Nil, Refused, Stray, CollectorDone, MakeTable, IsCollectorTold, IsCollectorStep, counted}
 use Rattle.bmx_owner.specs.declared.entering.Record.{Record}
 use Rattle.bmx_collection.specs.Windows.{IsReachedIn, window_of_one}
 use Rattle.bmx_collection.specs.Finding.{found}
@@ -190,13 +190,19 @@ AlwaysLinked Holds =
     (st : Setting) (history : List LinkedEvent) (nodes : ℕ → LinkedNode) → IsLegalLinked st history →
     ReplaysLinked st (first_linked st) history nodes → Holds (linked_world_of nodes history)
 
--- after each legal history each node knows finitely many names; and so there is what each input of a collector but a sweep
--- is told: a node can collect, make tables and take them whatever came before
-pub record CollectorsAreTold : Type 0 where
-  pub finite : AlwaysLinked (λ w. (node : ℕ) → (n : ℕ) × IsWithin n (w.world.state node))
-  pub told : (st : Setting) (history : List LinkedEvent) (nodes : ℕ → LinkedNode) → IsLegalLinked st history →
-      ReplaysLinked st (first_linked st) history nodes → (me : ℕ) (i : CollectorInput) → (i ≡ Sweep → ⊥) →
-      (t : CollectorTold) × IsCollectorTold me (nodes me) i t
+-- the homes of mapped segments, and the bunches that have one open, are below n
+pub record AreOfFew (n : ℕ) (a : Places) : Type 0 where
+  pub homes : (home segment : ℕ) → a.mapped home segment ≡ true → home < n
+  pub bunches : (bunch segment : ℕ) → a.opened bunch ≡ Some segment → bunch < n
+
+-- after each legal history each node has finitely many names, homes and bunches; and so there is what its collector is told
+-- of each input: whatever came before, it has a step by it
+pub record CollectorsCanStep : Type 0 where
+  pub names : AlwaysLinked (λ w. (node : ℕ) → (n : ℕ) × IsWithin n (w.world.state node))
+  pub places : AlwaysLinked (λ w. (node : ℕ) → (n : ℕ) × AreOfFew n (w.world.places node))
+  pub steps : (st : Setting) (history : List LinkedEvent) (nodes : ℕ → LinkedNode) → IsLegalLinked st history →
+      ReplaysLinked st (first_linked st) history nodes → (me stamp : ℕ) (i : CollectorInput) →
+      (d : CollectorDone) × (n : LinkedNode) × IsCollectorStep st me (nodes me) stamp i d n
 
 -- each stub has its scion
 abbrev pub StubsAreAnswered : Type 0

@@ -1,5 +1,5 @@
 //! The laws of the rules of collection, each a public function with an empty body.
-ghost use Rattle.bmx_collection.specs.Laws.{CollectorStepIsDetermined, CollectorRefusalKeeps, CollectorTouchesNoToken, ReachMayBeKept, ReachWithoutReferencesIsRoots, CollectionKeepsItsReach, SecondTakingRemovesNothing, FoundIsTold, PrefixIsLegalLinked, LinkedReplayIsDetermined, WithoutCollectorsAlike, StubsAreAnswered, ScionsAreSafe, PairsAlwaysStand, EachStepIsDetermined, EachRefusalKeeps, LinksHaveOneView, CollectorsAreTold};
+ghost use Rattle.bmx_collection.specs.Laws.{CollectorStepIsDetermined, CollectorRefusalKeeps, CollectorTouchesNoToken, ReachMayBeKept, ReachWithoutReferencesIsRoots, CollectionKeepsItsReach, SecondTakingRemovesNothing, FoundIsTold, PrefixIsLegalLinked, LinkedReplayIsDetermined, WithoutCollectorsAlike, StubsAreAnswered, ScionsAreSafe, PairsAlwaysStand, EachStepIsDetermined, EachRefusalKeeps, LinksHaveOneView, CollectorsCanStep};
 ghost use Rattle.bmx_collection.specs.Telling.{RunsTell, WorkedRunsAreLegalLinked};
 
 /// The law that a collector's step makes one outcome and one node of a node, an input and a stamp. It does nothing.
@@ -59,10 +59,10 @@ pub fn found_is_told()
     ensures { FoundIsTold }
 {}
 
-/// The law that after each legal history each node knows finitely many names, so that there is what a collection, a
-/// table and the taking of one are told. It does nothing.
-pub fn collectors_are_told()
-    ensures { CollectorsAreTold }
+/// The law that after each legal history each node has finitely many names, homes of mapped segments and bunches with an
+/// open one, so that its collector has a step by each of its inputs. It does nothing.
+pub fn collectors_can_step()
+    ensures { CollectorsCanStep }
 {}
 
 /// The law that the definitions say something: the first collection of a fresh store is a step, and three worked runs

@@ -109,7 +109,7 @@ listed of numbers = filter_map (λ n. option_map (λ x. (n, x)) (of n)) numbers
 
 -- the first words of the segments that are mapped
 abbrev pub mapped_at : Places → List ℕ
-mapped_at a = filter (λ first. a.mapped (home_of first) (segment_of first)) (first_words 8)
+mapped_at a = filter (λ first. a.mapped (home_of first) (segment_of first)) (first_words 8 8)
 
 -- all that a node of so many has: its counts, its registers, what it knows of each name and where it lies, its records,
 -- stubs and scions, the segments that are mapped, by their first words, and each header in them, by its address
