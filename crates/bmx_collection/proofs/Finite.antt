@@ -100,7 +100,7 @@ births_bound (b ∷ bs) =
 
 -- ## a step
 
-abbrev Finite : NodeState → Type 0
+abbrev pub Finite : NodeState → Type 0
 Finite s = (n : ℕ) × IsWithin n s
 
 either_finite : (b : Bool) (r q : CollectorReaction) → Finite r.node.state → Finite q.node.state → Finite (cond b r q).node.state
@@ -147,6 +147,9 @@ first_finite st k =
     let births : (n : ℕ) × (births_below n st.births ≡ true) = births_bound st.births in
     (births.0 + st.nodes, first_within (births.0 + st.nodes) st k (births_more births.0 (births.0 + st.nodes) st.births (omega arith) births.1) (omega arith))
 
+pub always_finite : (st : Setting) (history : List LinkedEvent) (nodes : ℕ → LinkedNode) → ReplaysLinked st (first_linked st) history nodes → (n : ℕ) → Finite (nodes n).state
+always_finite st history nodes r n = replay_finite st history (first_linked st) nodes (first_finite st) r n
+
 -- a sweep is told the segments of so many homes
 sweep_told : (me : ℕ) (n : LinkedNode) → Few n.places → (t : CollectorTold) × IsCollectorTold me n Sweep t
 sweep_told me n k = (
@@ -174,8 +177,8 @@ a_step st me stamp n i t =
 
 pub collectors_can_step : CollectorsCanStep
 collectors_can_step = record {
-  names = λ st history nodes legal r n. replay_finite st history (first_linked st) nodes (first_finite st) r n;
+  names = λ st history nodes legal r n. always_finite st history nodes r n;
   places = λ st history nodes legal r n. always_few st history nodes r n;
   steps = λ st history nodes legal r me stamp i.
-      a_step st me stamp (nodes me) i (told_of me (nodes me) i (replay_finite st history (first_linked st) nodes (first_finite st) r me) (always_few st history nodes r me));
+      a_step st me stamp (nodes me) i (told_of me (nodes me) i (always_finite st history nodes r me) (always_few st history nodes r me));
 }

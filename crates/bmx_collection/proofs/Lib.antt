@@ -21,3 +21,4 @@ pub mod Standing
 pub mod Views
 pub mod Few
 pub mod Finite
+pub mod Counted

@@ -1,13 +1,14 @@
 -- What holds of the steps of a node with a collector by the definitions alone, whatever came before them, and of legal
 -- histories of such nodes.
-use Rattle.std.specs.Prelude.{◌≡◌, ℕ, ◌+◌, ◌^◌, ◌++◌, ◌<◌, ◌≤◌, ◌↔◌, false, true, List, [], map, Some, None}
+use Rattle.std.specs.Prelude.{◌≡◌, ℕ, ◌+◌, ◌^◌, ◌++◌, ◌<◌, ◌≤◌, ◌↔◌, false, true, List, [], ◌∷◌, length, map, Some, None}
 use Rattle.bmx_types.specs.Openings.{IsOpening}
 use Rattle.bmx_table.specs.declared.tables.Table.{Table}
 use Rattle.bmx_clean.specs.declared.cleaner.Applied.TheVariants.{Early, Removed}
 use Rattle.bmx_protocol.specs.Nodes.{Setting, NodeState, Known, AreAll}
 use Rattle.bmx_protocol.specs.Places.{Places}
 use Rattle.bmx_protocol.specs.declared.events.Event.{Event}
-use Rattle.bmx_protocol.specs.Histories.{AreAfter, IsLegal}
+use Rattle.bmx_protocol.specs.Histories.{issued, AreAfter, IsLegal}
+use Rattle.bmx_protocol.specs.Runs.Programs.{CanServe}
 use Rattle.bmx_protocol.specs.Laws.{IsRefusal}
 use Rattle.bmx_collection.specs.Links.{Links, LinkView, ShowsLinks, AreShownAlike}
 use Rattle.bmx_collection.specs.Reach.{is_entry, refers, is_busy, IsRoot, IsReachedHere, MayBeKept}
@@ -175,6 +176,16 @@ abbrev pub LinkedReplayIsDetermined : Type 0
 LinkedReplayIsDetermined =
     (st : Setting) (history : List LinkedEvent) (nodes others : ℕ → LinkedNode) →
     ReplaysLinked st (first_linked st) history nodes → ReplaysLinked st (first_linked st) history others → nodes ≡ others
+
+-- the other laws of histories stand with collectors as without: that of no event is legal; no stamp of a legal one is larger
+-- than its event's place; a node counts the letters that its history issued; the names that can be served can be listed
+pub record LawsOfHistoriesStand : Type 0 where
+  pub empty : (st : Setting) → IsLegalLinked st []
+  pub stamps : (st : Setting) (past rest : List LinkedEvent) (e : LinkedEvent) → IsLegalLinked st (past ++ e ∷ rest) → e.stamp ≤ length past + 1
+  pub letters : (st : Setting) (history : List LinkedEvent) (nodes : ℕ → LinkedNode) → ReplaysLinked st (first_linked st) history nodes →
+      (n m : ℕ) → (nodes n).state.issued m ≡ length (issued n m (plain_events history))
+  pub serves : (st : Setting) (history : List LinkedEvent) (nodes : ℕ → LinkedNode) → ReplaysLinked st (first_linked st) history nodes →
+      (n : ℕ) → (names : List ℕ) × AreAll (CanServe n (nodes n).state) names
 
 -- a history without collectors is legal exactly where its events are legal by the rules without them, and leads to
 -- nodes of the same states and places; each history by those rules is such a one

@@ -1,5 +1,5 @@
 //! The laws of the rules of collection, each a public function with an empty body.
-ghost use Rattle.bmx_collection.specs.Laws.{CollectorStepIsDetermined, CollectorRefusalKeeps, CollectorTouchesNoToken, ReachMayBeKept, ReachWithoutReferencesIsRoots, CollectionKeepsItsReach, SecondTakingRemovesNothing, FoundIsTold, PrefixIsLegalLinked, LinkedReplayIsDetermined, WithoutCollectorsAlike, StubsAreAnswered, ScionsAreSafe, PairsAlwaysStand, EachStepIsDetermined, EachRefusalKeeps, LinksHaveOneView, CollectorsCanStep};
+ghost use Rattle.bmx_collection.specs.Laws.{CollectorStepIsDetermined, CollectorRefusalKeeps, CollectorTouchesNoToken, ReachMayBeKept, ReachWithoutReferencesIsRoots, CollectionKeepsItsReach, SecondTakingRemovesNothing, FoundIsTold, PrefixIsLegalLinked, LinkedReplayIsDetermined, WithoutCollectorsAlike, StubsAreAnswered, ScionsAreSafe, PairsAlwaysStand, EachStepIsDetermined, EachRefusalKeeps, LinksHaveOneView, CollectorsCanStep, LawsOfHistoriesStand};
 ghost use Rattle.bmx_collection.specs.Telling.{RunsTell, WorkedRunsAreLegalLinked};
 
 /// The law that a collector's step makes one outcome and one node of a node, an input and a stamp. It does nothing.
@@ -79,6 +79,13 @@ pub fn prefix_is_legal_linked()
 /// The law that a history with collectors leads to one world of nodes. It does nothing.
 pub fn linked_replay_is_determined()
     ensures { LinkedReplayIsDetermined }
+{}
+
+/// The law that the other laws of histories stand with collectors: that of no event is legal, no stamp is larger than its
+/// event's place, a node counts the letters that it issued, and the names that can be served can be listed. It does
+/// nothing.
+pub fn laws_of_histories_stand()
+    ensures { LawsOfHistoriesStand }
 {}
 
 /// The law that a history without collectors is legal exactly where it is legal by the rules without them, and leads
