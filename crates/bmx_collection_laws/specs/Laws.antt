@@ -117,8 +117,8 @@ EachNextIsTaken st w =
     w.channel from me ≡ l ∷ rest → IsStep st me (record { state = w.state me; places = w.places me }) stamp (input.Take from l) done after →
     done.answer ≡ answer.Nil
 
--- the laws of places: blocks of words are kept, a name has one bunch and size and with its number of moves one address, of
--- which nobody has heard a larger one than the owner's; no Info clashes, the next letter of a pair is taken, none is stray
+-- the laws of places: blocks of words are kept; a name has one bunch and size, and with its number of moves one address,
+-- and nobody has heard of more moves than its owner has; no Info clashes, the next letter of a pair is taken, none is stray
 pub record PlacesStand (st : Setting) (history : List LinkedEvent) (w : LinkedWorld) : Type 0 where
   pub blocks : HasLedger st w.world
   pub shapes : ShapesAgree w.world
@@ -143,9 +143,10 @@ abbrev pub GraphStandsWithoutCollector : Type 0
 GraphStandsWithoutCollector = AlwaysWithoutCollector GraphStands
 
 -- where no collector acts each name that a node has made has its current copy, too, reached or not. A collection ends
--- that: this is to stay a law of these histories
+-- that, so this law is to keep the premise, and has it by itself
 abbrev pub MadeStayCurrentWithoutCollector : Type 0
-MadeStayCurrentWithoutCollector = AlwaysWithoutCollector (λ st history w. AreCurrent st w.world (graph_after st (plain_events history)))
+MadeStayCurrentWithoutCollector =
+    AlwaysStored (λ st history w. IsWithoutCollector history → AreCurrent st w.world (graph_after st (plain_events history)))
 
 -- ## a history to which the laws apply
 
