@@ -1,35 +1,22 @@
 -- Each law applies to runs worked by hand, and tells them from the same with one outcome changed.
-use Rattle.std.proofs.Common.{◌≡◌, ℕ, ◌<◌, arith, refl, ap, sym, subst, ◌∙◌, Bool, true, false, cond, List, [], ◌∷◌, replicate, drop, length, zero, suc}
-use Rattle.std.specs.Prelude.{◌==◌, ◌&&◌, nat_lt, Option, Some, None, is_some}
-use Rattle.std.specs.Option.{option_map, option_map_or}
-use Rattle.bmx_types.specs.Updates.{put}
-use Rattle.bmx_types.specs.declared.openings.Birth.{Birth}
-use Rattle.bmx_types.specs.declared.commands.Command.TheVariants as command
-use Rattle.bmx_token.specs.Transitions.{can_serve}
-use Rattle.bmx_protocol.specs.Nodes.{Known, first_known, birth_of, is_anchor, owned_birth, heard_birth}
-use Rattle.bmx_protocol.specs.Histories.{in_flight, waits_with, taken}
-use Rattle.bmx_protocol.specs.Runs.Programs.{CanServe}
-use Rattle.bmx_protocol.specs.Runs.Turns.{is_ready}
-use Rattle.bmx_types.specs.declared.values.Val.{Val}
-use Rattle.bmx_types.specs.declared.values.Val.TheVariants as val
-use Rattle.bmx_types.specs.declared.numbers.Mode.{Mode}
-use Rattle.bmx_types.specs.declared.numbers.Mode.TheVariants as mode
-use Rattle.bmx_types.specs.declared.commands.Command.{Command}
-use Rattle.bmx_graph.specs.declared.answers.Answer.TheVariants as graph
-use Rattle.bmx_msg.specs.declared.letters.Field.TheVariants as msg_field
-use Rattle.bmx_msg.specs.declared.letters.Letter.{Letter}
-use Rattle.bmx_protocol.specs.Steps.{first_node}
-use Rattle.bmx_protocol.specs.Worlds.{world_of, IsCurrent}
-use Rattle.bmx_protocol.specs.Cases.{Play, anchor, the_anchor, told_of_the_object, written_by_its_taker}
-use Rattle.bmx_protocol.proofs.Basics.{some_same, none_some, Two, Same, Apart, two, put_apart}
-use Rattle.bmx_store_laws.proofs.Applied.{laws_apply}
+use Rattle.bmx_store_laws.proofs.Words.{◌≡◌, ℕ, refl, ap, sym, subst, ◌∙◌, Bool, true, false, cond, List, [], ◌∷◌, ◌<◌, arith, drop, length, zero, suc, option_map, option_map_or, Option, Some, None, is_some, ◌==◌, ◌&&◌, nat_lt}
+use Rattle.bmx_store_laws.proofs.Words.{put, Command, Mode, Read, Write, Birth, Val, Letter}
+use Rattle.bmx_store_laws.proofs.Words.{can_serve}
+use Rattle.bmx_store_laws.proofs.Words.{some_same, none_some, Two, Same, Apart, two, put_apart, Play, anchor, the_anchor, told_of_the_object, written_by_its_taker, in_flight, waits_with, taken, Known, first_known, birth_of, is_anchor, owned_birth, heard_birth}
+use Rattle.bmx_store_laws.proofs.Words.{CanServe, is_ready, first_node, world_of, IsCurrent}
+use Rattle.bmx_store_laws.proofs.Words.{laws_apply, put_each}
+use Rattle.bmx_store_laws.proofs.Words.command
+use Rattle.bmx_store_laws.proofs.Words.val
+use Rattle.bmx_store_laws.proofs.Words.msg_field
+use Rattle.bmx_store_laws.proofs.Words.graph
+use Rattle.std.proofs.Common.{replicate}
 use Rattle.bmx_coherence.specs.Graphs.{graph_after}
 use Rattle.bmx_coherence.specs.Waits.{WaitsFor}
 use Rattle.bmx_coherence.specs.Stuck.{IsStuck, IsHeldElsewhere, StuckNamesHolders}
 use Rattle.bmx_coherence.specs.Laws.{HasGraph}
 use Rattle.bmx_coherence.specs.Cases.{store, old_fields, read_while_written, never_made, granted, granted_of_old, waiting, never_asked}
 use Rattle.bmx_coherence.specs.Telling.{LawsTell, WrongRulesBreak}
-use Rattle.bmx_coherence.proofs.Parts.{held_of, put_each}
+use Rattle.bmx_coherence.proofs.Parts.{held_of}
 use Rattle.bmx_coherence.proofs.Stated.{free_first}
 
 -- the first field refers to an object
@@ -108,7 +95,7 @@ stuck = record {
 
 -- node 1 waits for the anchor, and nobody holds it
 no_holder : StuckNamesHolders store (world_of waiting.nodes never_asked) never_asked → ⊥
-no_holder named = unheld (named (record { no_letter = none; no_serve = idle; not_ready = unready }) 1 mode.Write 1 (omega arith)
+no_holder named = unheld (named (record { no_letter = none; no_serve = idle; not_ready = unready }) 1 Write 1 (omega arith)
     (record { command = command.Write anchor; operand = anchor; waits = refl; takes = refl; means = refl }))
   where
     empty : (b : Bool) → cond {A = List Letter} b [] [] ≡ []
@@ -143,7 +130,7 @@ laws_tell = record {
   current = λ c. (let current : IsCurrent (world_of told_of_the_object.nodes never_made) (graph_after store never_made) 2 = c.made 0 2 (omega arith) (omega arith) (omega arith) in
       let both : false ≡ true = ap (λ (o : Option (List Val)). is_some o) current.in_graph in cc);
   targets = λ t. (let both : false ≡ true = (t.letters 0 1 2 _ (0, omega arith, refl) (1, omega arith, refl)).0 in cc);
-  waits = λ i. (let w : WaitsFor (world_of written_by_its_taker.nodes read_while_written) read_while_written 0 mode.Read 1 = i.wanted 0 mode.Read 1 (omega arith) (record { known = _; knows = refl; want = refl }) in
+  waits = λ i. (let w : WaitsFor (world_of written_by_its_taker.nodes read_while_written) read_while_written 0 Read 1 = i.wanted 0 Read 1 (omega arith) (record { known = _; knows = refl; want = refl }) in
       let both : false ≡ true = ap (λ (c : Option Command). is_some c) w.waits in cc);
   holders = no_holder;
 }

@@ -1,63 +1,29 @@
 -- What stands after one more event of a legal history: nodes are parts of the graph, grants in flight bring its fields,
 -- wants are waited for, and the commands so far are a run.
-use Rattle.std.proofs.Common.{◌≡◌, ◌⊎◌, inl, inr, ℕ, ◌+◌, ◌≤◌, arith, refl, ap, sym, subst, ◌∙◌, Bool, true, false, cond, not, List, [], ◌∷◌, ◌++◌, map, length, zero, suc}
-use Rattle.std.specs.Prelude.{◌==◌, ◌&&◌, ◌||◌, nat_le, Contains, Option, Some, None, IsSome, IfSome, is_some, slice_get}
-use Rattle.std.specs.Option.{option_map, option_map_or, option_and_then}
-use Rattle.std.specs.List.{flat_map, cons_option}
-use Rattle.std.proofs.lemmas.Bool.Decides.{nat_tests}
-use Rattle.std.proofs.lemmas.List.{append-nil}
-use Rattle.std.proofs.lemmas.List.Elements.{filter_map-append, Contains-append_cases}
-use Rattle.bmx_types.specs.Words.{name_word}
-use Rattle.bmx_types.specs.declared.values.Val.{Val}
-use Rattle.bmx_types.specs.declared.numbers.Mode.{Mode}
-use Rattle.bmx_types.specs.declared.numbers.Mode.TheVariants as mode
-use Rattle.bmx_types.specs.declared.addresses.Place.{Place}
-use Rattle.bmx_types.specs.declared.commands.Command.{Command}
-use Rattle.bmx_graph.specs.State.{State, opening_state}
-use Rattle.bmx_types.specs.Updates.{put}
-use Rattle.bmx_graph.specs.Step.{changed, state_after, state_after_all, Act, IsRun}
-use Rattle.bmx_graph.specs.declared.effects.Effect.{Effect}
-use Rattle.bmx_graph.specs.declared.effects.Effect.TheVariants.{Nothing, Makes as MakesOne}
-use Rattle.bmx_graph.specs.Inside.Parts.{excludes, is_excluded}
-use Rattle.bmx_graph.proofs.Excluded.{is_excluded-none}
-use Rattle.bmx_graph.specs.declared.answers.Answer.{Answer}
-use Rattle.bmx_msg.specs.declared.letters.Letter.{Letter}
-use Rattle.bmx_msg.specs.declared.letters.Msg.{Msg}
-use Rattle.bmx_msg.specs.declared.letters.Msg.TheVariants as msg
-use Rattle.bmx_token.specs.Transitions.{Transition, Serves, note_transition}
-use Rattle.bmx_protocol.specs.declared.inputs.Input.{Input}
-use Rattle.bmx_protocol.specs.declared.inputs.Input.TheVariants as input
-use Rattle.bmx_protocol.specs.declared.inputs.NodeAnswer.{NodeAnswer}
-use Rattle.bmx_protocol.specs.declared.inputs.NodeAnswer.TheVariants as answer
-use Rattle.bmx_protocol.specs.declared.inputs.Sending.{Sending}
-use Rattle.bmx_protocol.specs.declared.inputs.Done.{Done}
-use Rattle.bmx_protocol.specs.declared.events.Event.{Event}
-use Rattle.bmx_protocol.specs.declared.views.ViewField.{ViewField}
-use Rattle.bmx_protocol.specs.Nodes.{Setting, NodeState, Known, fields_known, value_in, share_of}
-use Rattle.bmx_protocol.specs.Changes.{after_changes, with_step}
-use Rattle.bmx_protocol.specs.Rules.{Draft, Reaction, only, name_in, note_in, operation_rule, copy_after, took, take_rule, command_rule, about}
-use Rattle.bmx_protocol.specs.Strays.{too_large, is_no_node, is_bad_msg, is_bad_letter}
-use Rattle.bmx_protocol.specs.Steps.{Node, command_in, rule, numbered, letters_of, sent_changes, closed, IsStep}
-use Rattle.bmx_protocol.specs.Histories.{letters_to, issued, arrived, in_flight, IsNext, is_wait, waits_after, waits_with, IsAgain, IsInputOf, Fits}
-use Rattle.bmx_protocol.proofs.Changing.{after_append}
-use Rattle.bmx_store_laws.specs.Inside.Seen.{seen_known}
-use Rattle.bmx_protocol.proofs.Basics.{eqb_is, eqb_not, eqb_of, eqb_apart, Two, Same, Apart, two, put_same}
-use Rattle.bmx_store_laws.proofs.Copies.{GrantsNothing, note_grants}
-use Rattle.bmx_store_laws.proofs.Sends.{IsLeft, letters_left}
-use Rattle.bmx_store_laws.proofs.Shares.{shares_changed, all_spared}
-use Rattle.bmx_store_laws.proofs.Lifted.{write_excludes}
+use Rattle.bmx_store_laws.proofs.Words.{◌≡◌, ℕ, refl, ap, sym, subst, ◌∙◌, true, false, cond, List, [], ◌∷◌, arith, zero, suc, ◌⊎◌, inl, inr, ◌+◌, ◌≤◌, ◌++◌, append-nil, filter_map-append, Contains-append_cases, cons_option, option_map, option_and_then, Option}
+use Rattle.bmx_store_laws.proofs.Words.{Some, None, is_some, ◌==◌, ◌&&◌, ◌||◌, nat_le, Contains, IsSome}
+use Rattle.bmx_store_laws.proofs.Words.{IsOpening, put, name_word, Command, Mode, Read, Write, Val, Letter}
+use Rattle.bmx_store_laws.proofs.Words.{is_excluded-none, is_excluded, excludes, State, opening_state, changed, state_after, state_after_all, Act, IsRun, Answer, Effect, Nothing, MakesOne}
+use Rattle.bmx_store_laws.proofs.Words.{Transition, note_transition}
+use Rattle.bmx_store_laws.proofs.Words.{eqb_same, put_same, none_some, Same, Apart, two, put_apart, eqb_is, eqb_not, eqb_apart, after_changes, in_flight, waits_with, letters_to, IsNext, waits_after, IsAgain, IsInputOf, Setting, NodeState, Known}
+use Rattle.bmx_store_laws.proofs.Words.{share_of, Draft, Reaction, grant_in, knows, only, name_in, note_in, took, take_rule, Node, command_in, rule, too_large, is_no_node, is_bad_msg, is_bad_letter, Event, Input, Do, Serve, Take, NodeAnswer, Sending}
+use Rattle.bmx_store_laws.proofs.Words.{tested, either, put_each, every_map, every_there, first_there, flight_more, IsOneMore, step_letters, step_answer, step_leaves, numbered_each, issued_to, GrantsNothing, note_grants, first_letter, good_letter}
+use Rattle.bmx_store_laws.proofs.Words.{write_excludes, IsLeft, shares_changed, all_spared, seen_known}
+use Rattle.bmx_store_laws.proofs.Words.answer
+use Rattle.std.proofs.Common.{not}
 use Rattle.bmx_coherence.specs.Graphs.{graph_answer, act_of, acts_of, graph_after}
-use Rattle.bmx_coherence.proofs.Moments.{flight_more, taken_flies, IsMoment, came, sound, real, aware, new_unknown, IsAlonePer, alone_per, beside, knows_it}
-use Rattle.bmx_coherence.proofs.Parts.{held_of, want_of, known_of, put_each, IsPart, Leaves, parts_left, fields_kept, object_kept, part_else, HasKept, wanted_at, waited, IsWaitingWith, alike_waits, Before, Fresh, Again}
-use Rattle.bmx_coherence.proofs.Answers.{Ungranting, IsOwnStore, IsShown, IsSteady, notes_ungranting, NamesIt, command_shown}
-use Rattle.bmx_coherence.proofs.Transitions.{LeavesIt, served_each, took_each, BringsFields, EachBrings, heard_values, served_brings}
+use Rattle.std.specs.Prelude.{IfSome}
+use Rattle.bmx_coherence.proofs.Answers.{Ungranting, IsSteady, command_shown, IsShown, NamesIt, waiting_after, notes_ungranting}
+use Rattle.bmx_coherence.proofs.Moments.{sound, aware, came, new_unknown, real, alone_per, beside, IsAlone, IsMoment, knows_it, IsAlonePer, unknown}
+use Rattle.bmx_coherence.proofs.Parts.{IsOwnStore, known_of, IsWaiting, wants, held_of, object_kept, IsBeside, FitsAt, IsPart, waiting_else, part_else}
+use Rattle.bmx_coherence.proofs.Transitions.{took_part, BringsFields, served_part, EachBrings}
 
 -- what stands after events
 pub record Stands (st : Setting) (past : List Event) (nodes : ℕ → Node) : Type 0 where
   pub now : IsMoment st past nodes
-  pub parts : (n : ℕ) → IsPart n (nodes n).state (graph_after st past)
+  pub parts : (n : ℕ) → IsPart n (nodes n).state (graph_after st past) (wants (graph_after st past) n (waits_with n None past))
+  pub waits : (n : ℕ) → IfSome (waits_with n None past) (IsWaiting (graph_after st past) n)
   pub grants : (n m : ℕ) (l : Letter) → Contains (in_flight n m past) l → BringsFields (graph_after st past) l.msg
-  pub waits : (n : ℕ) → IsWaitingWith n (nodes n).state (waits_with n None past)
   pub each : (e : Event) → Contains past e → IfSome (command_in e.input) (λ c. IsSome (act_of e))
   pub run : IsRun (opening_state st.births) (acts_of past)
   -- each name that a node has counted is known to it
@@ -81,49 +47,26 @@ waits_more : (n : ℕ) (w : Option Command) (past : List Event) (e : Event) →
 waits_more n w [] e = refl
 waits_more n w (f ∷ past) e = waits_more n (cond (f.node == n) (waits_after w f.input f.done.answer) w) past e
 
--- ## letters
-
 ungranted_brings : (g : State) (drafts : List Draft) → Ungranting drafts → EachBrings g drafts
-ungranted_brings g [] none = tt
-ungranted_brings g (d ∷ drafts) none = (λ info fields e. (let both : None ≡ Some (info, fields) = sym none.0 ∙ e in absurd cc), ungranted_brings g drafts none.1)
-
-drafts_brought : (g : State) (counts : ℕ → ℕ) (stamp : ℕ) (drafts : List Draft) (m : ℕ) (l : Letter) → EachBrings g drafts → Contains (letters_to m (numbered counts stamp drafts)) l → BringsFields g l.msg
-drafts_brought g counts stamp [] m l brings c = absurd (omega (arith, c.1))
-drafts_brought g counts stamp (d ∷ drafts) m l brings c = by_test (d.to == m) c (drafts_brought g (put counts d.to (counts d.to + 1)) stamp drafts m l brings.1)
-  where
-    first : Letter
-    first = record { seq = counts d.to + 1; stamp = stamp; msg = d.msg }
-
-    more : List Letter
-    more = letters_to m (numbered (put counts d.to (counts d.to + 1)) stamp drafts)
-
-    by_test : (b : Bool) → Contains (cond b (first ∷ more) more) l → (Contains more l → BringsFields g l.msg) → BringsFields g l.msg
-    by_test true (zero, below, is) rest = subst (λ (k : Letter). BringsFields g k.msg) is brings.0
-    by_test true (suc k, below, is) rest = rest (k, omega arith, is)
-    by_test false there rest = rest there
+ungranted_brings g = every_map (λ (d : Draft). grant_in d.msg ≡ None) (λ (d : Draft). BringsFields g d.msg) (λ d none info fields e. none_some (sym none ∙ e))
 
 -- ## what an event is for the graph
 
 -- an event has an effect on the graph, or none; its node is as the graph is then, and so are the grants that it issues
-pub record IsSeen (st : Setting) (past : List Event) (nodes : ℕ → Node) (e : Event) (after : Node) (o : Reaction) : Type 0 where
+pub record IsSeen (st : Setting) (past : List Event) (nodes : ℕ → Node) (e : Event) (o : Reaction) : Type 0 where
   pub effect_is : Effect
   pub graph : graph_after st (past ++ e ∷ []) ≡ changed (graph_after st past) e.node effect_is
   pub some : IfSome (command_in e.input) (λ c. IsSome (act_of e))
   pub run : IsRun (opening_state st.births) (acts_of (past ++ e ∷ []))
   pub part : IsPart e.node (after_changes (nodes e.node).state o.changes) (changed (graph_after st past) e.node effect_is)
+      (wants (changed (graph_after st past) e.node effect_is) e.node (waits_after (waits_with e.node None past) e.input e.done.answer))
+  pub waits : IfSome (waits_after (waits_with e.node None past) e.input e.done.answer) (IsWaiting (changed (graph_after st past) e.node effect_is) e.node)
   pub brings : EachBrings (changed (graph_after st past) e.node effect_is) o.drafts
   pub own : IsOwnStore e.node (graph_after st past) effect_is
   pub names : NamesIt e.node (nodes e.node).state (after_changes (nodes e.node).state o.changes) effect_is
-  pub waits : IsWaitingWith e.node (after_changes (nodes e.node).state o.changes) (waits_after (waits_with e.node None past) e.input e.done.answer)
 
--- an event with its step, between two moments
-pub record IsEvent (st : Setting) (past : List Event) (nodes : ℕ → Node) (e : Event) (after : Node) : Type 0 where
-  pub stands : Stands st past nodes
-  pub fits : Fits st past e
-  pub step : IsStep st e.node (nodes e.node) e.stamp e.input e.done after
-  pub next : IsMoment st (past ++ e ∷ []) (put nodes e.node after)
-
-module _ (st : Setting) (past : List Event) (nodes : ℕ → Node) (e : Event) (after : Node) (ev : IsEvent st past nodes e after) where
+module _ (st : Setting) (opening : IsOpening st.nodes st.limit st.births) (past : List Event) (nodes : ℕ → Node) (e : Event) (after : Node) (ev : IsOneMore st past nodes e after)
+    (stands : Stands st past nodes) where
   abbrev me : ℕ
   me = e.node
 
@@ -136,270 +79,205 @@ module _ (st : Setting) (past : List Event) (nodes : ℕ → Node) (e : Event) (
   abbrev waiting : Option Command
   waiting = waits_with me None past
 
+  abbrev nodes_after : ℕ → Node
+  nodes_after = put nodes me after
+
+  next : IsMoment st (past ++ e ∷ []) nodes_after
+  next = record { opening = opening; legal = ev.then_legal; after = ev.then_reached }
+
   -- ## after the step
 
   module _ (o : Reaction) (is : o ≡ rule st me s ev.step.told e.input) where
     abbrev own_state : NodeState
     own_state = after_changes s o.changes
 
-    letters_are : e.done.letters ≡ letters_of e.stamp s o
-    letters_are = ap (λ (d : Done). d.letters) ev.step.outcome ∙ ap (letters_of e.stamp s) (sym is)
+    left : IsLeft own_state after.state
+    left = step_leaves ev.step o is
 
-    pub answer_same : e.done.answer ≡ o.answer
-    answer_same = ap (λ (d : Done). d.answer) ev.step.outcome ∙ ap (λ (p : Reaction). p.answer) (sym is)
+    module _ (seen : IsSeen st past nodes e o) where
+      abbrev h : State
+      h = changed g me seen.effect_is
 
-    left : IsLeft own_state (after_changes own_state (flat_map sent_changes (letters_of e.stamp s o)))
-    left = letters_left (letters_of e.stamp s o) own_state
+      alone : IsAlonePer st past nodes stands.now me g seen.effect_is
+      alone = alone_per st past nodes stands.now me g (wants g me waiting) seen.effect_is ev.fits.few (stands.parts me) seen.own
 
-    leads : after.state ≡ with_step (after_changes own_state (flat_map sent_changes (letters_of e.stamp s o)))
-    leads = ev.step.state ∙ ap (closed e.stamp s) (sym is) ∙ ap with_step (after_append s o.changes (flat_map sent_changes (letters_of e.stamp s o)))
+      beside_it : (x : ℕ) → (IsAlone past nodes me x → ⊥) → IsBeside g me x seen.effect_is
+      beside_it = beside st past nodes stands.now me g seen.effect_is alone
 
-    pub known_after : after.state.known ≡ own_state.known
-    known_after = ap (λ (t : NodeState). t.known) leads ∙ left.known
+      -- each node's part, and what it waits for, with the graph and the history as they are then
+      abbrev Parts : ℕ → Node → Option Command → Type 0
+      Parts n z w = IsPart n z.state h (wants h n w) × IfSome w (IsWaiting h n)
 
-    register_after : after.state.register ≡ own_state.register
-    register_after = ap (λ (t : NodeState). t.register) leads ∙ left.register
+      part_after : Parts me after (waits_after waiting e.input e.done.answer)
+      part_after = (
+        record {
+          register = λ r. ap (λ (f : ℕ → Val). f r) left.register ∙ seen.part.register r;
+          known = λ x. subst (λ (f : ℕ → Option Known). FitsAt me h (wants h me (waits_after waiting e.input e.done.answer) x) x (f x)) (sym left.known) (seen.part.known x);
+          made = left.made ∙ seen.part.made;
+        },
+        seen.waits,
+      )
 
-    made_after : after.state.made ≡ own_state.made
-    made_after = ap (λ (t : NodeState). t.made) leads ∙ left.made
+      part_of : (n : ℕ) → Parts n (nodes_after n) (waits_with n None (past ++ e ∷ []))
+      part_of n = rw (waits_more n None past e) (elim (two me n) [
+        | Same q ↦ subst (λ (k : ℕ). Parts k (nodes_after k) (cond (me == k) (waits_after (waits_with k None past) e.input e.done.answer) (waits_with k None past))) q
+            (rw (eqb_same me) part_after)
+        | Apart q d ↦ rw q (
+          part_else me n g seen.effect_is q (nodes n).state (waits_with n None past)
+              (λ x fields has. beside_it x (λ a. a.copies n (λ same. d (sym same)) fields has)) (stands.parts n),
+          waiting_else me n g seen.effect_is q (waits_with n None past) (stands.waits n),
+        )
+      ])
 
-    part_after : (h : State) → IsPart me own_state h → IsPart me after.state h
-    part_after h p = record {
-      register = λ r. ap (λ (f : ℕ → Val). f r) register_after ∙ p.register r;
-      held = λ x. ap (λ (f : ℕ → Option Known). held_of (f x)) known_after ∙ p.held x;
-      made = made_after ∙ p.made;
-      copies = λ x fields has. p.copies x fields (ap (λ (f : ℕ → Option Known). fields_known (f x)) (sym known_after) ∙ has);
-    }
+      grant_of : (n m : ℕ) (l : Letter) → Contains (in_flight n m past) l ⊎ ((me ≡ n) × Contains (letters_to m e.done.letters) l) → BringsFields h l.msg
+      grant_of n m l (inl there) info fields grants =
+          object_kept g me info.name seen.effect_is (beside_it info.name (λ a. a.grants n m l info fields there grants refl)) ∙ stands.grants n m l there info fields grants
+      grant_of n m l (inr new) info fields grants = every_there (λ (k : Letter). BringsFields h k.msg) _ l (issued_to (λ (k : Letter). BringsFields h k.msg) m _
+          (numbered_each (λ (k : Letter). BringsFields h k.msg) e.stamp o.drafts s.issued (every_map _ _ (λ d brings seq. brings) o.drafts seen.brings)))
+          (subst (λ (k : List Sending). Contains (letters_to m k) l) (step_letters ev.step o is) new.1) info fields grants
 
-    waits_now : (h : State) → IsPart me own_state h → (w : Option Command) → IsWaitingWith me own_state w → IsWaitingWith me after.state w
-    waits_now h p w i = alike_waits me own_state h after.state w p
-        (record { part = part_after h p; wants = λ y. ap (λ (f : ℕ → Option Known). want_of (f y)) known_after }) i
+      event_of : (f : Event) → Contains past f ⊎ Contains (e ∷ []) f → IfSome (command_in f.input) (λ c. IsSome (act_of f))
+      event_of f (inl there) = stands.each f there
+      event_of f (inr (zero, below, same)) = subst (λ (k : Event). IfSome (command_in k.input) (λ c. IsSome (act_of k))) same seen.some
+      event_of f (inr (suc k, below, same)) = absurd (omega arith)
 
-    pub stands_more : IsSeen st past nodes e after o → Stands st (past ++ e ∷ []) (put nodes me after)
-    stands_more seen = record {
-      now = ev.next;
-      parts = λ n. subst (IsPart n (put nodes me after n).state) (sym seen.graph) (put_each (λ k z. IsPart k z.state h) nodes me after (part_after h seen.part) part n);
-      grants = λ n m l there. subst (λ (h : State). BringsFields h l.msg) (sym seen.graph)
-          (by_letter n m l (flight_more n m past e l ((came st past nodes ev.stands.now 0).channels.within n m) there));
-      waits = λ n. subst (IsWaitingWith n (put nodes me after n).state) (sym (waits_more n None past e)) (wait n (me == n) (eqb_is me n));
-      each = λ f there. by_event f (Contains-append_cases past (e ∷ []) f there);
-      run = seen.run;
-      makers = put_each (λ n z. (count : ℕ) → 1 ≤ count → count ≤ z.state.made → is_some (z.state.known (name_word n count)) ≡ true) nodes me after
-          (λ count one most. ap (λ (f : ℕ → Option Known). is_some (f (name_word me count))) known_after ∙ counted count seen.effect_is seen.names seen.part.made one (omega (arith, most, made_after)))
-          (λ n _. ev.stands.makers n);
-    }
-      where
-        h : State
-        h = changed g me seen.effect_is
+      -- an entry stays
+      still : (x : ℕ) → is_some (s.known x) ≡ true → is_some (own_state.known x) ≡ true
+      still x knows = knows_it (own_state.known x) (λ at. (let none : s.known x ≡ None =
+          unknown (s.known x) (all_spared x o.changes (seen_known (s.known x)) (sym (shares_changed x o.changes s) ∙ ap seen_known at)).0 in
+          let both : false ≡ true = ap (λ (k : Option Known). is_some k) (sym none) ∙ knows in cc))
 
-        alone : IsAlonePer st past nodes ev.stands.now me g seen.effect_is
-        alone = alone_per st past nodes ev.stands.now me g seen.effect_is ev.fits.few (ev.stands.parts me) seen.own
+      counted : (count : ℕ) (f : Effect) → NamesIt me s own_state f → own_state.made ≡ (changed g me f).made me → 1 ≤ count → count ≤ own_state.made → is_some (own_state.known (name_word me count)) ≡ true
+      counted count (MakesOne register bunch size) names made one most =
+          let now : own_state.made ≡ s.made + 1 = made ∙ put_same g.made me (g.made me + 1) ∙ ap (λ (n : ℕ). n + 1) (sym (stands.parts me).made) in
+          elim (two count (s.made + 1)) [
+            | Same same ↦ ap (λ (c : ℕ). is_some (own_state.known (name_word me c))) same ∙ names
+            | Apart f d ↦ still (name_word me count) (stands.makers me count one (omega (arith, most, now, d)))
+          ]
+      counted count _ names made one most = still (name_word me count) (stands.makers me count one (omega (arith, most, made, (stands.parts me).made)))
 
-        part : (n : ℕ) → (me == n) ≡ false → IsPart n (nodes n).state h
-        part n q = part_else me n (nodes n).state g seen.effect_is q
-            (λ x fields has. beside st past nodes ev.stands.now me g seen.effect_is alone x (λ a. a.copies n (λ same. eqb_not me n q (sym same)) fields has)) (ev.stands.parts n)
-
-        by_letter : (n m : ℕ) (l : Letter) → Contains (in_flight n m past) l ⊎ ((me ≡ n) × Contains (letters_to m e.done.letters) l) → BringsFields h l.msg
-        by_letter n m l (inl there) info fields grants =
-            object_kept g me info.name seen.effect_is (beside st past nodes ev.stands.now me g seen.effect_is alone info.name (λ a. a.grants n m l info fields there grants refl))
-            ∙ ev.stands.grants n m l there info fields grants
-        by_letter n m l (inr new) info fields grants = drafts_brought h s.issued e.stamp o.drafts m l seen.brings (subst (λ (k : List Sending). Contains (letters_to m k) l) letters_are new.1) info fields grants
-
-        wait : (n : ℕ) (b : Bool) → (b ≡ true → me ≡ n) →
-            IsWaitingWith n (cond b after (nodes n)).state (cond b (waits_after (waits_with n None past) e.input e.done.answer) (waits_with n None past))
-        wait n true q = subst (λ (k : ℕ). IsWaitingWith k after.state (waits_after (waits_with k None past) e.input e.done.answer)) (q refl) (waits_now h seen.part _ seen.waits)
-        wait n false q = ev.stands.waits n
-
-        by_event : (f : Event) → Contains past f ⊎ Contains (e ∷ []) f → IfSome (command_in f.input) (λ c. IsSome (act_of f))
-        by_event f (inl there) = ev.stands.each f there
-        by_event f (inr (zero, below, same)) = subst (λ (k : Event). IfSome (command_in k.input) (λ c. IsSome (act_of k))) same seen.some
-        by_event f (inr (suc k, below, same)) = absurd (omega arith)
-
-        -- an entry stays
-        still : (x : ℕ) → is_some (s.known x) ≡ true → is_some (own_state.known x) ≡ true
-        still x knows = knows_it (own_state.known x) (λ at.
-            (let gone : (seen_known (s.known x) ≡ None) × _ = all_spared x o.changes (seen_known (s.known x)) (sym (shares_changed x o.changes s) ∙ ap seen_known at) in
-            lost (s.known x) gone.0 knows))
-          where
-            lost : (k : Option Known) → seen_known k ≡ None → is_some k ≡ true → ⊥
-            lost None a b = cc
-            lost (Some k) a b = cc
-
-        counted : (count : ℕ) (f : Effect) → NamesIt me s own_state f → own_state.made ≡ (changed g me f).made me → 1 ≤ count → count ≤ own_state.made → is_some (own_state.known (name_word me count)) ≡ true
-        counted count (MakesOne register bunch size) names made one most = by_two (two count (s.made + 1))
-          where
-            now : own_state.made ≡ s.made + 1
-            now = made ∙ put_same g.made me (g.made me + 1) ∙ ap (λ (n : ℕ). n + 1) (sym (ev.stands.parts me).made)
-
-            by_two : Two count (s.made + 1) → is_some (own_state.known (name_word me count)) ≡ true
-            by_two (Same same) = ap (λ (c : ℕ). is_some (own_state.known (name_word me c))) same ∙ names
-            by_two (Apart f d) = still (name_word me count) (ev.stands.makers me count one (omega (arith, most, now, d)))
-        counted count _ names made one most = still (name_word me count) (ev.stands.makers me count one (omega (arith, most, made, (ev.stands.parts me).made)))
+      stands_more : Stands st (past ++ e ∷ []) nodes_after
+      stands_more = record {
+        now = next;
+        parts = λ n. rw seen.graph ((part_of n).0);
+        waits = λ n. rw seen.graph ((part_of n).1);
+        grants = λ n m l there. rw seen.graph (grant_of n m l (flight_more n m past e l ((came st past nodes stands.now 0).channels.within n m) there));
+        each = λ f there. event_of f (Contains-append_cases past (e ∷ []) f there);
+        run = seen.run;
+        makers = put_each (λ n z. (count : ℕ) → 1 ≤ count → count ≤ z.state.made → is_some (z.state.known (name_word n count)) ≡ true) nodes me after
+            (λ count one most. ap (λ (f : ℕ → Option Known). is_some (f (name_word me count))) left.known ∙ counted count seen.effect_is seen.names seen.part.made one (omega (arith, most, left.made)))
+            (λ n _. stands.makers n);
+      }
 
   -- ## events that are no command
 
-  no_act : command_in e.input ≡ None → acts_of (past ++ e ∷ []) ≡ acts_of past
-  no_act none = acts_more past e None
-      (ap (λ (c : Option Command). option_and_then (λ (d : Command). option_map (λ (a : Answer). record { node = me; command = d; answer = a }) (graph_answer e.done.answer)) c) none)
-      ∙ append-nil (acts_of past)
-
   -- with no effect on the graph
-  silent_seen : (o : Reaction) → command_in e.input ≡ None → HasKept me s g (after_changes s o.changes) → EachBrings g o.drafts → IsSeen st past nodes e after o
-  silent_seen o none kept brings = record {
+  silent_seen : (o : Reaction) → command_in e.input ≡ None → IsPart me (after_changes s o.changes) g (wants g me waiting) → EachBrings g o.drafts → IsSeen st past nodes e o
+  silent_seen o none part brings = record {
     effect_is = Nothing;
-    graph = ap (state_after_all (opening_state st.births)) (no_act none);
-    some = subst (λ (c : Option Command). IfSome c (λ d. IsSome (act_of e))) (sym none) tt;
-    run = subst (IsRun (opening_state st.births)) (sym (no_act none)) ev.stands.run;
-    part = kept.part;
+    graph = ap (state_after_all (opening_state st.births)) no_act;
+    some = rw none tt;
+    run = rw no_act stands.run;
+    part = rw none part;
+    waits = rw none (stands.waits me);
     brings = brings;
     own = tt;
     names = tt;
-    waits = subst (IsWaitingWith me (after_changes s o.changes)) (ap (λ (c : Option Command). option_map_or (λ d. cond (is_wait e.done.answer) (Some d) None) c waiting) (sym none))
-        (alike_waits me s g (after_changes s o.changes) waiting (ev.stands.parts me) kept (ev.stands.waits me));
   }
-
-  -- what is left of a name by a transition fits the graph, if its fields do
-  left_fits : (name : ℕ) (k : Known) (fields : Option (List ViewField)) → s.known name ≡ Some k →
-      ((l : List Val) → option_map (map value_in) fields ≡ Some l → g.object name ≡ Some l) → LeavesIt (Leaves me s g) name k fields
-  left_fits name k fields is there h held want = (
-    record {
-      held = held ∙ ap held_of (sym is) ∙ (ev.stands.parts me).held name;
-      fields = λ l has. there l (fields_kept k fields h.copy l has);
-    },
-    want ∙ ap want_of (sym is),
-  )
-
-  copy_there : (name : ℕ) (k : Known) → s.known name ≡ Some k → (l : List Val) → option_map (map value_in) k.copy ≡ Some l → g.object name ≡ Some l
-  copy_there name k is l has = (ev.stands.parts me).copies name l (ap fields_known is ∙ has)
-
-  serve_seen : (lies : ℕ → Place) (unknown : NodeAnswer) (name : ℕ) → command_in e.input ≡ None → IsSeen st past nodes e after (operation_rule me s lies Serves unknown name (s.known name))
-  serve_seen lies unknown name none = silent_seen o none
-      (parts_left me s g o.changes (served_each (Leaves me s g) me s lies unknown name (s.known name) (λ k is. left_fits name k k.copy is (copy_there name k is))) (ev.stands.parts me))
-      (served_brings g me s lies unknown name (s.known name) refl (λ k is owns. (sound st past nodes ev.stands.now me name k is).owner_has owns)
-      (λ l has. (ev.stands.parts me).copies name l has))
     where
-      o : Reaction
-      o = operation_rule me s lies Serves unknown name (s.known name)
+      no_act : acts_of (past ++ e ∷ []) ≡ acts_of past
+      no_act = acts_more past e None
+          (ap (λ (c : Option Command). option_and_then (λ (d : Command). option_map (λ (a : Answer). record { node = me; command = d; answer = a }) (graph_answer e.done.answer)) c) none)
+          ∙ append-nil (acts_of past)
 
-  stray_seen : command_in e.input ≡ None → IsSeen st past nodes e after (only answer.Stray)
-  stray_seen none = silent_seen (only answer.Stray) none (record { part = ev.stands.parts me; wants = λ y. refl }) tt
-
-  -- the fields that a letter leaves of its object are the graph's
-  letter_fields : (m : Msg) (k : Known) → BringsFields g m → ((l : List Val) → option_map (map value_in) k.copy ≡ Some l → g.object (name_in m) ≡ Some l) →
-      (l : List Val) → option_map (map value_in) (copy_after m (Some k)) ≡ Some l → g.object (name_in m) ≡ Some l
-  letter_fields (msg.ReadGrant info fields) k brings copy l has = brings info fields refl ∙ ap Some (sym (heard_values fields)) ∙ has
-  letter_fields (msg.WriteGrant info fields) k brings copy l has = brings info fields refl ∙ ap Some (sym (heard_values fields)) ∙ has
-  letter_fields _ k brings copy l has = copy l has
-
-  take_seen : (lies : ℕ → Place) (from : ℕ) (l : Letter) → command_in e.input ≡ None → BringsFields g l.msg → IsSeen st past nodes e after (take_rule me s lies from l.seq l.msg)
-  take_seen lies from l none brings = silent_seen o none
-      (parts_left me s g o.changes (took_each (Leaves me s g) me s lies from l.seq l.msg (s.known (name_in l.msg)) (λ info. tt) (λ name. tt) tt
-      (λ k is. left_fits (name_in l.msg) k (copy_after l.msg (Some k)) is (letter_fields l.msg k brings (copy_there (name_in l.msg) k is)))) (ev.stands.parts me))
-      (by_transition (note_transition me from (note_in l.msg) (option_map share_of (s.known (name_in l.msg)))) (note_grants me from (note_in l.msg) (option_map share_of (s.known (name_in l.msg)))))
+  letter_seen : (from : ℕ) (l : Letter) → e.input ≡ Take from l → IsSeen st past nodes e (rule st me s ev.step.told (Take from l))
+  letter_seen from l is = either (IsSeen st past nodes e) (is_bad_letter st me s from l || ev.step.told.clash) _ _ (λ _. silent_seen (only answer.Stray) (ap command_in is) (stands.parts me) tt) taken
     where
-      o : Reaction
-      o = take_rule me s lies from l.seq l.msg
-
-      by_transition : (t : Option Transition) → GrantsNothing t → EachBrings g (took s lies from l.seq l.msg (s.known (name_in l.msg)) t).drafts
+      by_transition : (t : Option Transition) → GrantsNothing t → EachBrings g (took s ev.step.told.lies from l.seq l.msg (s.known (name_in l.msg)) t).drafts
       by_transition None none = tt
-      by_transition (Some t) none = ungranted_brings g _ (notes_ungranting s lies (name_in l.msg) t.sends none)
+      by_transition (Some t) none = ungranted_brings g _ (notes_ungranting s ev.step.told.lies (name_in l.msg) t.sends none)
 
-  -- a letter that isn't bad has the next number
-  good_number : (a b t c d f : Bool) → (a || b || not t || c || d || f) ≡ false → t ≡ true
-  good_number a b t c d f h = grind (arith, nat_tests)
+      taken : (is_bad_letter st me s from l || ev.step.told.clash) ≡ false → IsSeen st past nodes e (take_rule me s ev.step.told.lies from l.seq l.msg)
+      taken fine =
+          let number : (l.seq == s.taken from + 1) ≡ true = (good_letter (from == me) (is_no_node st from) (l.seq == s.taken from + 1) (nat_le too_large l.stamp) (is_bad_msg st me s l.msg) ev.step.told.clash fine).1 in
+          let there : Contains (in_flight from me past) l = first_there _ l _ (first_letter past nodes me from l (came st past nodes stands.now 0).channels (subst (IsNext past me) is ev.fits.next)
+          (eqb_is l.seq (s.taken from + 1) number)) in
+          silent_seen (take_rule me s ev.step.told.lies from l.seq l.msg) (ap command_in is)
+          (took_part me s g (wants g me waiting) ev.step.told.lies (stands.parts me) from l.seq l.msg (s.known (name_in l.msg)) refl (stands.grants from me l there) _ refl)
+          (by_transition (note_transition me from (note_in l.msg) (option_map share_of (s.known (name_in l.msg)))) (note_grants me from (note_in l.msg) (option_map share_of (s.known (name_in l.msg)))))
 
-  letter_seen : (from : ℕ) (l : Letter) → e.input ≡ input.Take from l → (o : Reaction) → o ≡ rule st me s ev.step.told (input.Take from l) → IsSeen st past nodes e after o
-  letter_seen from l is o same = subst (IsSeen st past nodes e after) (sym same) (by_test (is_bad_letter st me s from l || ev.step.told.clash) refl)
-    where
-      none : command_in e.input ≡ None
-      none = ap command_in is
-
-      next : slice_get (issued from me past) (length (arrived from me past)) ≡ Some l
-      next = subst (IsNext past me) is ev.fits.next
-
-      by_test : (b : Bool) → (is_bad_letter st me s from l || ev.step.told.clash) ≡ b → IsSeen st past nodes e after (cond b (only answer.Stray) (take_rule me s ev.step.told.lies from l.seq l.msg))
-      by_test true h = stray_seen none
-      by_test false h = take_seen ev.step.told.lies from l none (ev.stands.grants from me l (taken_flies past nodes me from l (came st past nodes ev.stands.now 0).channels next
-          (eqb_is l.seq (s.taken from + 1) (good_number (from == me) (is_no_node st from) (l.seq == s.taken from + 1) (nat_le too_large l.stamp) (is_bad_msg st me s l.msg) ev.step.told.clash h))))
+  serve_seen : (name : ℕ) → e.input ≡ Serve name → IsSeen st past nodes e (rule st me s ev.step.told (Serve name))
+  serve_seen name is =
+      let served = served_part me s g (wants g me waiting) ev.step.told.lies (stands.parts me) name (s.known name) refl (λ k at owns. (sound st past nodes stands.now me name k at).owner_has owns) in
+      silent_seen (rule st me s ev.step.told (Serve name)) (ap command_in is) served.0 served.1
 
   -- ## commands
 
-  steady : IsSteady st me s g
+  steady : IsSteady st me s g waiting
   steady = record {
-    part = ev.stands.parts me;
-    copied = λ x k m is held. (sound st past nodes ev.stands.now me x k is).holder_has m held;
-    new = new_unknown st past nodes ev.stands.now me ev.fits.few me;
-    aware = λ on x of means. aware st past nodes ev.stands.now me x on g ev.fits.a_node (ev.stands.parts me) of means;
+    part = stands.parts me;
+    waits = stands.waits me;
+    copied = λ x k m is held. (sound st past nodes stands.now me x k is).holder_has m held;
+    new = new_unknown st past nodes stands.now me ev.fits.few me;
+    aware = λ on x of means. aware st past nodes stands.now me x on g ev.fits.a_node (stands.parts me).register of means;
   }
-
-  -- the command is the one that the node waits with, if it waits
-  before : (c : Command) → e.input ≡ input.Do c → Before me s c
-  before c is = by_waiting waiting refl
-    where
-      by_waiting : (w : Option Command) → waiting ≡ w → Before me s c
-      by_waiting None at = Fresh (λ y. (ev.stands.waits me).wants y ∙ ap (λ (w : Option Command). wanted_at (waited me s w) y) at)
-      by_waiting (Some d) at = Again (subst (IsWaitingWith me s) (at ∙ ap (λ (f : Command). Some f) (sym (subst (λ (w : Option Command). IsAgain w (input.Do c)) at (subst (IsAgain waiting) is ev.fits.again)))) (ev.stands.waits me))
 
   -- where it then holds an object, no other node keeps it from it
   free : (o : Reaction) → o ≡ rule st me s ev.step.told e.input → (m : Mode) (x : ℕ) → held_of ((after_changes s o.changes).known x) ≡ Some m → is_excluded m g me x ≡ false
-  free o is m x held = is_excluded-none m g me x (λ k below. by_node k (k == me) refl)
+  free o is m x held = is_excluded-none m g me x (λ k below. by_node k (tested (k == me)))
     where
-      nodes_after : ℕ → Node
-      nodes_after = put nodes me after
+      mine : held_of ((nodes_after me).state.known x) ≡ Some m
+      mine = (λ i. held_of ((put_same nodes me after i).state.known x)) ∙ ap (λ (f : ℕ → Option Known). held_of (f x)) (left o is).known ∙ held
 
-      here : held_of ((nodes_after me).state.known x) ≡ Some m
-      here = (λ i. held_of ((cond (eqb_of {a = me} refl i) after (nodes me)).state.known x)) ∙ ap (λ (f : ℕ → Option Known). held_of (f x)) (known_after o is) ∙ held
-
-      some_held : (j : Known) (n : Mode) → j.part.held ≡ Some n → IsSome j.part.held
-      some_held j n h = subst (λ (o : Option Mode). IsSome o) (sym h) refl
-
-      -- both hold it, and one of them for writing
-      both : (n k : ℕ) (b : Mode) → held_of ((nodes_after n).state.known x) ≡ Some mode.Write → held_of ((nodes_after k).state.known x) ≡ Some b → k ≡ n
+      -- two nodes hold it, and one of them for writing
+      both : (n k : ℕ) (b : Mode) → held_of ((nodes_after n).state.known x) ≡ Some Write → held_of ((nodes_after k).state.known x) ≡ Some b → k ≡ n
       both n k b writes holds =
-          let i : (j : Known) × ((nodes_after n).state.known x ≡ Some j) × (j.part.held ≡ Some mode.Write) = known_of (λ l. l.part.held) _ mode.Write writes in
-          let j : (j : Known) × ((nodes_after k).state.known x ≡ Some j) × (j.part.held ≡ Some b) = known_of (λ l. l.part.held) _ b holds in
-          write_excludes st (past ++ e ∷ []) nodes_after ev.next.opening ev.next.legal ev.next.after n k x i.0 j.0
-          (real st (past ++ e ∷ []) nodes_after ev.next n x i.0 i.1) (real st (past ++ e ∷ []) nodes_after ev.next k x j.0 j.1) i.1 j.1 i.2 (some_held j.0 b j.2)
+          let i = known_of (λ l. l.part.held) ((nodes_after n).state.known x) Write writes in
+          let j = known_of (λ l. l.part.held) ((nodes_after k).state.known x) b holds in
+          write_excludes st (past ++ e ∷ []) nodes_after opening ev.then_legal ev.then_reached n k x i.0 j.0
+          (real st (past ++ e ∷ []) nodes_after next n x i.0 i.1) (real st (past ++ e ∷ []) nodes_after next k x j.0 j.1) i.1 j.1 i.2 (subst (λ (o : Option Mode). IsSome o) (sym j.2) refl)
 
-      other : (k : ℕ) → (me == k) ≡ false → (hold : Option Mode) → held_of ((nodes k).state.known x) ≡ hold → held_of ((nodes_after k).state.known x) ≡ hold
-      other k apart hold h = (λ i. held_of ((cond (apart i) after (nodes k)).state.known x)) ∙ h
+      excluded : (k : ℕ) → (k ≡ me → ⊥) → (m : Mode) → held_of ((nodes_after me).state.known x) ≡ Some m → (hold : Option Mode) → held_of ((nodes_after k).state.known x) ≡ hold → excludes m hold ≡ false
+      excluded k d Read mine (Some Write) h = absurd (d (sym (both k me Read h mine)))
+      excluded k d Write mine (Some b) h = absurd (d (both me k b mine h))
+      excluded k d Read mine (Some Read) h = refl
+      excluded k d Read mine None h = refl
+      excluded k d Write mine None h = refl
 
-      excluded : (k : ℕ) → (me == k) ≡ false → (k ≡ me → ⊥) → (m : Mode) → held_of ((nodes_after me).state.known x) ≡ Some m → (hold : Option Mode) → held_of ((nodes k).state.known x) ≡ hold → excludes m hold ≡ false
-      excluded k apart d mode.Read mine (Some mode.Read) h = refl
-      excluded k apart d mode.Read mine (Some mode.Write) h = absurd (d (sym (both k me mode.Read (other k apart (Some mode.Write) h) mine)))
-      excluded k apart d mode.Write mine (Some b) h = absurd (d (both me k b mine (other k apart (Some b) h)))
-      excluded k apart d mode.Read mine None h = refl
-      excluded k apart d mode.Write mine None h = refl
-
-      by_node : (k : ℕ) (b : Bool) → (k == me) ≡ b → (not b && excludes m (g.held k x)) ≡ false
-      by_node k true q = refl
-      by_node k false q =
+      by_node : (k : ℕ) → ((k == me) ≡ true) ⊎ ((k == me) ≡ false) → (not (k == me) && excludes m (g.held k x)) ≡ false
+      by_node k (inl q) = λ i. not (q i) && excludes m (g.held k x)
+      by_node k (inr q) =
           let d : k ≡ me → ⊥ = eqb_not k me q in
-          excluded k (eqb_apart me k (λ same. d (sym same))) d m here (g.held k x) ((ev.stands.parts k).held x)
+          (λ i. not (q i) && excludes m (g.held k x)) ∙ excluded k d m mine (g.held k x)
+          ((λ i. held_of ((put_apart nodes me k after (eqb_apart me k (λ same. d (sym same))) i).state.known x)) ∙ ((stands.parts k).known x).held)
 
-  command_seen : (c : Command) → e.input ≡ input.Do c → (o : Reaction) → o ≡ command_rule me s ev.step.told.full ev.step.told.lies c (about c) → IsSeen st past nodes e after o
-  command_seen c is o same = record {
+  command_seen : (c : Command) → e.input ≡ Do c → IsSeen st past nodes e (rule st me s ev.step.told (Do c))
+  command_seen c is = record {
     effect_is = shown.effect_is;
     graph = ap (state_after_all (opening_state st.births)) acts ∙ after_more (opening_state st.births) (acts_of past) (act ∷ []) ∙ shown.leads;
     some = subst (λ (d : Option Command). IfSome d (λ c. IsSome (act_of e))) (sym (ap command_in is)) (subst (λ (a : Option Act). IsSome a) (sym act_is) refl);
-    run = subst (IsRun (opening_state st.births)) (sym acts) (run_more (opening_state st.births) (acts_of past) (act ∷ []) ev.stands.run (shown.fits, tt));
-    part = shown.part;
+    run = rw acts (run_more (opening_state st.births) (acts_of past) (act ∷ []) stands.run (shown.fits, tt));
+    part = subst (λ (w : Option Command). IsPart me (after_changes s o.changes) (changed g me shown.effect_is) (wants (changed g me shown.effect_is) me w)) after_it shown.part;
+    waits = subst (λ (w : Option Command). IfSome w (IsWaiting (changed g me shown.effect_is) me)) after_it shown.waits;
     brings = ungranted_brings (changed g me shown.effect_is) o.drafts shown.ungranting;
     own = shown.own;
     names = shown.names;
-    waits = subst (IsWaitingWith me (after_changes s o.changes))
-        ((λ i. cond (is_wait (sym answered i)) (Some c) None) ∙ ap (λ (j : Input). waits_after waiting j e.done.answer) (sym is)) shown.waits;
   }
     where
+      o : Reaction
+      o = rule st me s ev.step.told (Do c)
+
       ruled : o ≡ rule st me s ev.step.told e.input
-      ruled = same ∙ ap (rule st me s ev.step.told) (sym is)
+      ruled = ap (rule st me s ev.step.told) (sym is)
 
       answered : e.done.answer ≡ o.answer
-      answered = answer_same o ruled
+      answered = step_answer ev.step o ruled
 
       shown : IsShown me s g c o
-      shown = subst (IsShown me s g c) (sym same) (command_shown st me s g steady ev.step.told.full ev.step.told.lies c (subst (IsInputOf st) is ev.fits.an_input) (before c is)
-          (λ m x held. free o ruled m x (ap (λ (p : Reaction). held_of ((after_changes s p.changes).known x)) same ∙ held)))
+      shown = command_shown st me s g waiting steady ev.step.told.full ev.step.told.lies c (subst (IsInputOf st) is ev.fits.an_input) (subst (IsAgain waiting) is ev.fits.again) (free o ruled)
+
+      after_it : waiting_after c o.answer ≡ waits_after waiting e.input e.done.answer
+      after_it = (λ i. waiting_after c (sym answered i)) ∙ ap (λ (j : Input). waits_after waiting j e.done.answer) (sym is)
 
       act : Act
       act = record { node = me; command = c; answer = shown.answer_is }
@@ -414,12 +292,10 @@ module _ (st : Setting) (past : List Event) (nodes : ℕ → Node) (e : Event) (
 
   -- ## each event
 
-  pub one_more : Stands st (past ++ e ∷ []) (put nodes me after)
-  one_more = by_input e.input refl
-    where
-      by_input : (i : Input) → e.input ≡ i → Stands st (past ++ e ∷ []) (put nodes me after)
-      by_input (input.Do c) is = stands_more (rule st me s ev.step.told e.input) refl (command_seen c is (rule st me s ev.step.told e.input) (ap (rule st me s ev.step.told) is))
-      by_input (input.Serve name) is = stands_more (rule st me s ev.step.told e.input) refl
-          (subst (IsSeen st past nodes e after) (sym (ap (rule st me s ev.step.told) is)) (serve_seen ev.step.told.lies answer.Idle name (ap command_in is)))
-      by_input (input.Take from l) is = stands_more (rule st me s ev.step.told e.input) refl
-          (letter_seen from l is (rule st me s ev.step.told e.input) (ap (rule st me s ev.step.told) is))
+  event_seen : (i : Input) → e.input ≡ i → IsSeen st past nodes e (rule st me s ev.step.told i)
+  event_seen (Do c) is = command_seen c is
+  event_seen (Serve name) is = serve_seen name is
+  event_seen (Take from l) is = letter_seen from l is
+
+  pub one_more : Stands st (past ++ e ∷ []) nodes_after
+  one_more = stands_more (rule st me s ev.step.told e.input) refl (event_seen e.input refl)

@@ -1,5 +1,5 @@
 -- Runs worked by hand, as the graph sees them, and the same with one outcome changed. Each is closed by computing.
-use Rattle.std.specs.Prelude.{◌≡◌, ℕ, zero, suc, List, [], ◌∷◌, replicate, slice_get, Option, Some, None, refl}
+use Rattle.std.specs.Prelude.{◌≡◌, ℕ, zero, suc, List, [], ◌∷◌, replicate, slice_get, Some, refl}
 use Rattle.std.specs.Option.{option_map}
 use Rattle.bmx_types.specs.declared.values.Val.TheVariants as val
 use Rattle.bmx_types.specs.declared.commands.Command.{Command}
@@ -16,8 +16,6 @@ use Rattle.bmx_protocol.specs.declared.inputs.NodeAnswer.TheVariants as answer
 use Rattle.bmx_protocol.specs.declared.inputs.Sending.{Sending}
 use Rattle.bmx_protocol.specs.declared.events.Event.{Event}
 use Rattle.bmx_protocol.specs.Nodes.{Setting}
-use Rattle.bmx_protocol.specs.Steps.{first_node}
-use Rattle.bmx_protocol.specs.Worlds.{World, world_of}
 use Rattle.bmx_protocol.specs.Cases.{Play, Do, Serve, Next, played, one_bunch, anchor, r0, the_anchor, told_of_the_object, written_by_its_taker}
 use Rattle.bmx_coherence.specs.Graphs.{acts_of, graph_after}
 

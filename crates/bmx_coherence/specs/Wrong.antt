@@ -1,25 +1,21 @@
 -- Three wrong rules, each with a run worked by hand that it breaks: a write is granted while a reader still has its
 -- copy; a node takes a grant without hearing of what its fields refer to; a recall drops a copy that is held.
-use Rattle.std.specs.Prelude.{◌≡◌, ℕ, List, [], ◌∷◌, ◌++◌, Option, Some, None, true, refl}
+use Rattle.std.specs.Prelude.{ℕ, List, [], ◌∷◌, ◌++◌, Option, Some, None, true}
 use Rattle.std.specs.Option.{option_map, option_map_or}
 use Rattle.bmx_types.specs.declared.commands.Command.TheVariants as command
-use Rattle.bmx_types.specs.declared.numbers.Mode.TheVariants as mode
 use Rattle.bmx_types.specs.declared.addresses.Place.{Place}
 use Rattle.bmx_msg.specs.declared.letters.Letter.{Letter}
 use Rattle.bmx_token.specs.declared.parts.Ask.{Ask}
 use Rattle.bmx_token.specs.declared.parts.Part.{Part}
-use Rattle.bmx_token.specs.declared.answers.Served.{Served}
 use Rattle.bmx_token.specs.Tokens.{serve_alone}
-use Rattle.bmx_token.specs.Transitions.{Share, Transition, Returns, send, saying, served, without_copy, note_transition}
+use Rattle.bmx_token.specs.Transitions.{Transition, Returns, send, served, without_copy, note_transition}
 use Rattle.bmx_protocol.specs.declared.inputs.Input.{Input}
 use Rattle.bmx_protocol.specs.declared.inputs.Input.TheVariants as input
 use Rattle.bmx_protocol.specs.declared.inputs.NodeAnswer.TheVariants as answer
-use Rattle.bmx_protocol.specs.declared.events.Event.{Event}
-use Rattle.bmx_protocol.specs.Nodes.{Setting, NodeState, Known, share_of}
+use Rattle.bmx_protocol.specs.Nodes.{Setting, NodeState, share_of}
 use Rattle.bmx_protocol.specs.Changes.{Takes}
 use Rattle.bmx_protocol.specs.Rules.{Reaction, only, after_operation, known_change, copy_after, drafts_of, name_in, note_in}
-use Rattle.bmx_protocol.specs.Steps.{Told}
-use Rattle.bmx_protocol.specs.Cases.{Play, Do, Serve, Next, input_of, stamp_of, told_at, with_outcome, play, played, one_bunch, anchor, r0}
+use Rattle.bmx_protocol.specs.Cases.{Play, Do, Serve, Next, told_at, with_outcome, play, played, one_bunch, anchor, r0}
 use Rattle.bmx_protocol.specs.Histories.{in_flight}
 
 abbrev pub three : Setting

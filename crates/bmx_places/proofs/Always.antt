@@ -1,28 +1,12 @@
 -- The laws, over every legal history.
-use Rattle.std.proofs.Common.{◌≡◌, ◌≢◌, ℕ, ◌<◌, arith, refl, ap, sym, subst, ◌∙◌, false, cond, List, [], ◌∷◌, ◌++◌, length, drop, zero, suc}
-use Rattle.std.specs.Prelude.{◌||◌, Option, Some, None, IsSome, Contains}
-use Rattle.std.specs.Option.{option_map}
-use Rattle.std.proofs.lemmas.List.{append-nil}
-use Rattle.bmx_types.specs.Openings.{IsOpening}
-use Rattle.bmx_types.specs.declared.addresses.Place.{Place}
-use Rattle.bmx_types.specs.declared.addresses.Info.{Info}
-use Rattle.bmx_types.specs.Updates.{put}
-use Rattle.bmx_msg.specs.declared.letters.Letter.{Letter}
-use Rattle.bmx_protocol.specs.declared.inputs.NodeAnswer.TheVariants as answer
-use Rattle.bmx_protocol.specs.declared.inputs.Input.TheVariants as input
-use Rattle.bmx_protocol.specs.declared.inputs.Done.{Done}
-use Rattle.bmx_protocol.specs.declared.events.Event.{Event}
-use Rattle.bmx_protocol.specs.Nodes.{Setting, Known, NodeState, share_of}
-use Rattle.bmx_protocol.specs.Rules.{only, infos, name_in, note_in, took}
-use Rattle.bmx_token.specs.Transitions.{Transition, note_transition}
-use Rattle.bmx_protocol.specs.Strays.{some_clash}
-use Rattle.bmx_protocol.specs.Steps.{Node, first_node, IsStep}
-use Rattle.bmx_protocol.specs.Histories.{issued, taken, in_flight, Replays, AreAfter, IsLegal}
-use Rattle.bmx_protocol.specs.Worlds.{World, world_of}
-use Rattle.bmx_protocol.proofs.Prefixes.{joined, prefix_is_legal}
-use Rattle.bmx_store_laws.specs.Inside.Seen.{seen, first_world}
-use Rattle.bmx_store_laws.proofs.Histories.{Came, came_after}
-use Rattle.bmx_store_laws.proofs.Histories as names
+use Rattle.bmx_store_laws.proofs.Words.{◌≡◌, ℕ, refl, ap, sym, subst, ◌∙◌, false, cond, List, [], ◌∷◌, ◌<◌, arith, drop, length, zero, suc, ◌++◌, ◌≢◌, append-nil, option_map, Option, Some, None, ◌||◌, Contains, IsSome}
+use Rattle.bmx_store_laws.proofs.Words.{IsOpening, put, Info, Place, Letter}
+use Rattle.bmx_store_laws.proofs.Words.{Transition, note_transition}
+use Rattle.bmx_store_laws.proofs.Words.{some_same, none_some, Every, joined, prefix_is_legal, in_flight, taken, issued, AreAfter, IsLegal, Replays, Setting, NodeState, Known, share_of, only, name_in, note_in, took, infos, first_node, Node}
+use Rattle.bmx_store_laws.proofs.Words.{IsStep, some_clash, world_of, World, Event, Done, Take}
+use Rattle.bmx_store_laws.proofs.Words.{Came, came_after, seen, first_world}
+use Rattle.bmx_store_laws.proofs.Words.answer
+use Rattle.bmx_store_laws.proofs.Words.names
 use Rattle.bmx_places.specs.Ledger.{Block, block_at, block_of, LiesIn, IsOf, HasLedger}
 use Rattle.bmx_places.specs.Laws.{HasShape, KnownAt, ToldIn, HasPlace, At, Between, NoLetterIsStray}
 use Rattle.bmx_places.specs.Laws as law
@@ -30,7 +14,6 @@ use Rattle.bmx_places.proofs.Blocks.{IsTold, hears_all}
 use Rattle.bmx_places.proofs.Next.{IsIssued, all_issued, IsTakeable, next_is_takeable}
 use Rattle.bmx_places.proofs.Kept.{Kept, one_more}
 use Rattle.bmx_places.proofs.Opened.{first_kept}
-use Rattle.bmx_protocol.proofs.Basics.{Every, none_some, some_same}
 
 -- ## along a history
 
@@ -133,7 +116,7 @@ module _ (st : Setting) (history : List Event) (nodes : ℕ → Node) (opening :
   no_info_clashes from me l there = (hears_all st w k.blocks k.are me from (infos l.msg) (nodes me).state (nodes me).places (letter_right from me l there).right.told (k.keeps me) (λ n. refl)).0
 
   pub next_is_taken : (from me stamp : ℕ) (l : Letter) (rest : List Letter) (done : Done) (then : Node) → from < st.nodes → me < st.nodes → in_flight from me history ≡ l ∷ rest →
-      IsStep st me (nodes me) stamp (input.Take from l) done then → done.answer ≡ answer.Nil
+      IsStep st me (nodes me) stamp (Take from l) done then → done.answer ≡ answer.Nil
   next_is_taken from me stamp l rest done then real real_me first step =
       let t : IsTakeable st k.blocks me from (nodes me) l = next_is_takeable st history nodes opening legal after k.blocks k.are k.still me from (k.keeps me) k.letters l rest first real_me real in
       ap (λ (d : Done). d.answer) step.outcome

@@ -1,28 +1,20 @@
 -- The laws apply to a legal history, and fail in one that isn't.
-use Rattle.std.proofs.Common.{◌≡◌, ℕ, arith, refl, ap, sym, ◌∙◌, true, false, [], drop}
-use Rattle.std.specs.Prelude.{Contains, Some, slice_index_or, unwrap_or}
-use Rattle.bmx_types.specs.declared.addresses.Place.{Place}
-use Rattle.bmx_protocol.specs.declared.inputs.Input.TheVariants as input
-use Rattle.bmx_protocol.specs.declared.inputs.NodeAnswer.TheVariants as answer
-use Rattle.bmx_protocol.specs.declared.events.Event.{Event}
-use Rattle.bmx_protocol.specs.Nodes.{Known}
-use Rattle.bmx_protocol.specs.Changes.{heard_of}
-use Rattle.bmx_protocol.specs.Steps.{rule, done_of, closed}
-use Rattle.bmx_protocol.specs.Cases.{told_at, one_bunch, the_anchor, told_of_the_object}
-use Rattle.bmx_protocol.proofs.Prefixes.{prefix_is_legal}
-use Rattle.bmx_store_laws.proofs.Applied.{laws_apply}
+use Rattle.bmx_store_laws.proofs.Words.{◌≡◌, ℕ, refl, ap, sym, ◌∙◌, true, false, [], arith, drop, Some, unwrap_or, Contains, slice_index_or}
+use Rattle.bmx_store_laws.proofs.Words.{Place}
+use Rattle.bmx_store_laws.proofs.Words.{some_same, prefix_is_legal, the_anchor, told_of_the_object, told_at, one_bunch, heard_of, Known, rule, closed, done_of, Event, Serve, Take}
+use Rattle.bmx_store_laws.proofs.Words.{laws_apply}
+use Rattle.bmx_store_laws.proofs.Words.answer
 use Rattle.bmx_places.specs.Ledger.{HasLedger, LiesIn, block_at, block_of}
 use Rattle.bmx_places.specs.Laws.{KnownAt, ToldIn, At, Between}
 use Rattle.bmx_places.specs.Cases.{granted, LawsApply, mistold, mistold_anchor, mistold_grant, strayed, world_in, LawsFail, LawsTell}
-use Rattle.bmx_protocol.proofs.Basics.{some_same}
 use Rattle.bmx_places.proofs.Always.{no_letter_is_stray}
 
 -- event k of a run, from 0
 abbrev event_at : ℕ → Event
-event_at k = slice_index_or told_of_the_object.past k (record { node = 0; stamp = 0; input = input.Serve 0; done = record { answer = answer.Idle; letters = [] } })
+event_at k = slice_index_or told_of_the_object.past k (record { node = 0; stamp = 0; input = Serve 0; done = record { answer = answer.Idle; letters = [] } })
 
 abbrev last_stray : Event
-last_stray = slice_index_or strayed.past 3 (record { node = 0; stamp = 0; input = input.Serve 0; done = record { answer = answer.Idle; letters = [] } })
+last_stray = slice_index_or strayed.past 3 (record { node = 0; stamp = 0; input = Serve 0; done = record { answer = answer.Idle; letters = [] } })
 
 apply : LawsApply
 apply = record {
@@ -69,9 +61,9 @@ fail = record {
   unplaced = λ p. (let both : false ≡ true = p.placed 1 2 _ refl in cc);
   clash = λ e. (let both : true ≡ false = e in cc);
   next = (
-    done_of 4 (mistold.nodes 1).state (rule (one_bunch 2) 1 (mistold.nodes 1).state (told_at (one_bunch 2) 1 (mistold.nodes 1) (input.Take 0 mistold_grant)) (input.Take 0 mistold_grant)),
-    record { state = closed 4 (mistold.nodes 1).state (rule (one_bunch 2) 1 (mistold.nodes 1).state (told_at (one_bunch 2) 1 (mistold.nodes 1) (input.Take 0 mistold_grant)) (input.Take 0 mistold_grant)); places = (mistold.nodes 1).places },
-    record { told = told_at (one_bunch 2) 1 (mistold.nodes 1) (input.Take 0 mistold_grant); is_told = record { full = refl; clash = refl; lies = λ name. refl }; outcome = refl; state = refl; places = refl },
+    done_of 4 (mistold.nodes 1).state (rule (one_bunch 2) 1 (mistold.nodes 1).state (told_at (one_bunch 2) 1 (mistold.nodes 1) (Take 0 mistold_grant)) (Take 0 mistold_grant)),
+    record { state = closed 4 (mistold.nodes 1).state (rule (one_bunch 2) 1 (mistold.nodes 1).state (told_at (one_bunch 2) 1 (mistold.nodes 1) (Take 0 mistold_grant)) (Take 0 mistold_grant)); places = (mistold.nodes 1).places },
+    record { told = told_at (one_bunch 2) 1 (mistold.nodes 1) (Take 0 mistold_grant); is_told = record { full = refl; clash = refl; lies = λ name. refl }; outcome = refl; state = refl; places = refl },
     refl,
   );
 }

@@ -1,20 +1,9 @@
 -- No Info of a block clashes at a node whose headers are of blocks, and once it is learnt they still are.
-use Rattle.std.proofs.Common.{◌≡◌, ◌≢◌, ℕ, ◌+◌, ◌^◌, ◌<◌, ◌≤◌, arith, refl, ap, sym, subst, ◌∙◌, Bool, true, false, cond, List, [], ◌∷◌, map, length, zero, suc}
-use Rattle.std.specs.Prelude.{◌==◌, ◌&&◌, ◌||◌, not, nat_lt, Option, Some, None, is_some}
-use Rattle.std.specs.Option.{option_map_or}
-use Rattle.std.proofs.lemmas.Bool.{le-ltb}
-use Rattle.std.proofs.lemmas.Bool.Decides.{nat_tests}
-use Rattle.bmx_types.specs.Words.{address_word, home_of, segment_of, index_of}
-use Rattle.bmx_types.specs.declared.addresses.Place.{Place}
-use Rattle.bmx_types.specs.declared.addresses.Info.{Info}
-use Rattle.bmx_types.specs.Updates.{put}
-use Rattle.bmx_protocol.specs.declared.views.ViewField.{ViewField}
-use Rattle.bmx_protocol.specs.Nodes.{Setting, Known, NodeState}
-use Rattle.bmx_protocol.specs.Places.{Lives, Header, Places, with_object, overlaps, any_below, is_in_the_way, is_barred, with_went, with_learnt, learn_at, with_all_learnt, differs, clashes_at}
-use Rattle.bmx_protocol.specs.Changes.{Hears, heard_of, heard, after_change, after_changes}
-use Rattle.bmx_protocol.specs.Strays.{clashes, some_clash}
-use Rattle.bmx_protocol.specs.Worlds.{World}
-use Rattle.bmx_protocol.proofs.Basics.{eqb_of, Two, Same, Apart, two, put_same, put_apart, Every, none_some, some_same}
+use Rattle.bmx_store_laws.proofs.Words.{◌≡◌, ℕ, refl, ap, sym, subst, ◌∙◌, Bool, true, false, cond, List, [], ◌∷◌, map, ◌<◌, arith, length, zero, suc, ◌+◌, ◌≤◌, ◌≢◌, ◌^◌, le-ltb, nat_tests, option_map_or, Option, Some, None, is_some, ◌==◌}
+use Rattle.bmx_store_laws.proofs.Words.{◌&&◌, nat_lt, not, ◌||◌}
+use Rattle.bmx_store_laws.proofs.Words.{put, address_word, home_of, segment_of, index_of, Info, Place}
+use Rattle.bmx_store_laws.proofs.Words.{put_same, some_same, none_some, Two, Same, Apart, two, put_apart, eqb_of, Every, after_changes, Hears, heard_of, after_change, heard, Setting, NodeState, Known, Places, Lives, Header, with_object}
+use Rattle.bmx_store_laws.proofs.Words.{overlaps, any_below, is_in_the_way, is_barred, with_went, with_learnt, learn_at, with_all_learnt, differs, clashes_at, some_clash, clashes, World, ViewField}
 use Rattle.bmx_places.specs.Ledger.{Block, IsBlock, AreBlocks, block_at, block_of, LiesIn, Heads}
 
 -- ## addresses

@@ -1,54 +1,19 @@
 -- What is kept along a legal history: a ledger to which all belongs, and that no letter was stray.
-use Rattle.std.proofs.Common.{◌≡◌, ◌≢◌, ◌⊎◌, inl, inr, ℕ, ◌+◌, ◌*◌, ◌^◌, ◌<◌, ◌≤◌, arith, refl, ap, sym, subst, ◌∙◌, Bool, true, false, cond, List, [], ◌∷◌, ◌++◌, map, length, drop, zero, suc, length-append}
-use Rattle.std.specs.Prelude.{◌==◌, ◌&&◌, ◌||◌, not, nat_lt, nat_le, Option, Some, None, is_some, unwrap_or, slice_get, filter, count_by}
-use Rattle.std.specs.Option.{option_map, option_map_or}
-use Rattle.std.specs.List.{flat_map}
-use Rattle.std.proofs.lemmas.Bool.Decides.{nat_tests}
-use Rattle.std.proofs.lemmas.List.{length-map, length-replicate}
-use Rattle.std.proofs.lemmas.List.Sums.{sum_by-append}
-use Rattle.std.proofs.lemmas.Nat.{div-mul-add, mod-mul-add}
-use Rattle.bmx_types.specs.Words.{maker, count_of}
-use Rattle.bmx_types.specs.Openings.{IsOpening, bunches_of}
-use Rattle.bmx_types.specs.declared.addresses.Place.{Place}
-use Rattle.bmx_types.specs.declared.addresses.Info.{Info}
-use Rattle.bmx_types.specs.declared.values.Val.TheVariants as val
-use Rattle.bmx_types.specs.declared.commands.Command.{Command}
-use Rattle.bmx_types.specs.declared.commands.Command.TheVariants as command
-use Rattle.bmx_types.specs.declared.numbers.Mode.TheVariants as mode
-use Rattle.bmx_types.specs.Updates.{put}
-use Rattle.bmx_msg.specs.declared.letters.Field.{Field}
-use Rattle.bmx_msg.specs.declared.letters.Letter.{Letter}
-use Rattle.bmx_msg.specs.declared.letters.Msg.{Msg}
-use Rattle.bmx_msg.specs.declared.letters.Msg.TheVariants as msg
-use Rattle.bmx_token.specs.declared.parts.Role.TheVariants.{Owner}
-use Rattle.bmx_token.specs.Transitions.{Note, Grants, Serves, note_transition}
-use Rattle.bmx_token_model.proofs.Sound.{IsSoundIf}
-use Rattle.bmx_token_model.proofs.Shared.{IsShared, shared_run}
-use Rattle.bmx_protocol.specs.declared.inputs.Input.{Input}
-use Rattle.bmx_protocol.specs.declared.inputs.Input.TheVariants as input
-use Rattle.bmx_protocol.specs.declared.inputs.NodeAnswer.{NodeAnswer}
-use Rattle.bmx_protocol.specs.declared.inputs.NodeAnswer.TheVariants as answer
-use Rattle.bmx_protocol.specs.declared.inputs.Sending.{Sending}
-use Rattle.bmx_protocol.specs.declared.inputs.Done.{Done}
-use Rattle.bmx_protocol.specs.declared.events.Event.{Event}
-use Rattle.bmx_protocol.specs.declared.views.ViewField.{ViewField}
-use Rattle.bmx_protocol.specs.declared.views.ViewField.TheVariants as field
-use Rattle.bmx_protocol.specs.Nodes.{Setting, NodeState, Known, share_of}
-use Rattle.bmx_protocol.specs.Places.{Places, has_room, with_made, with_learnt, with_all_learnt}
-use Rattle.bmx_protocol.specs.Changes.{Change, Sets, Makes, Knows, Hears, Takes, heard_of, after_change, after_changes}
-use Rattle.bmx_protocol.specs.Rules.{Reaction, only, next_name, new_object, infos, name_in, note_in, heard_field, known_change, copy_after, got_change, took}
-use Rattle.bmx_protocol.specs.Strays.{some_clash}
-use Rattle.bmx_protocol.specs.Steps.{Node, letter_in, command_in, nowhere, finds_full, rule, letters_of, sent_changes, changes_of, closed, is_taken, is_nil, made_places, MovesTo, IsStep}
-use Rattle.bmx_protocol.specs.Histories.{issued, arrived, taken, in_flight, IsInputOf, IsNext, Fits, AreAfter, IsLegal}
-use Rattle.bmx_protocol.specs.Worlds.{World, world_of}
-use Rattle.bmx_protocol.proofs.Changing.{Each, each_append, after_append}
-use Rattle.bmx_store_laws.specs.Inside.Seen.{seen, seen_known, first_world}
-use Rattle.bmx_store_laws.specs.Laws.{IsCounted}
-use Rattle.bmx_protocol.proofs.Basics.{eqb_of, put_same, at_each, Every, every_append, none_some, some_same}
-use Rattle.bmx_store_laws.proofs.Copies.{NoGrants, GrantsNothing, note_grants}
-use Rattle.bmx_store_laws.proofs.Ruled.{FreeOf}
-use Rattle.bmx_store_laws.proofs.Channels.{slice_drop}
-use Rattle.bmx_store_laws.proofs.Histories.{Came, came_after, each_name}
+use Rattle.bmx_store_laws.proofs.Words.{◌≡◌, ℕ, refl, ap, sym, subst, ◌∙◌, Bool, true, false, cond, List, [], ◌∷◌, map, ◌<◌, arith, drop, length, zero, suc, ◌⊎◌, inl, inr, ◌+◌, ◌≤◌, ◌++◌, ◌≢◌, ◌^◌, length-append, ◌*◌, nat_tests, length-map}
+use Rattle.bmx_store_laws.proofs.Words.{length-replicate, sum_by-append, div-mul-add, mod-mul-add, flat_map, option_map, option_map_or, Option, Some, None, is_some, unwrap_or, slice_get, ◌==◌, ◌&&◌, nat_lt, not, ◌||◌, nat_le, count_by}
+use Rattle.bmx_store_laws.proofs.Words.{filter}
+use Rattle.bmx_store_laws.proofs.Words.{IsOpening, bunches_of, put, maker, count_of, Info, Place, Command, Write, Field, Letter, Msg, ReadGrant, WriteGrant}
+use Rattle.bmx_store_laws.proofs.Words.{Note, Grants, Serves, note_transition, Owner, IsShared, shared_run, IsSoundIf}
+use Rattle.bmx_store_laws.proofs.Words.{put_same, some_same, none_some, eqb_of, Every, at_each, every_append, after_append, Each, each_append, Knows, after_changes, Change, Sets, Hears, heard_of, after_change, in_flight, taken, issued}
+use Rattle.bmx_store_laws.proofs.Words.{arrived, IsNext, IsInputOf, Fits, AreAfter, IsLegal, Setting, NodeState, Known, share_of, Places, with_learnt, with_all_learnt, has_room, with_made, Reaction, next_name, new_object, only, name_in}
+use Rattle.bmx_store_laws.proofs.Words.{note_in, copy_after, took, heard_field, infos, known_change, got_change, Node, command_in, rule, letters_of, sent_changes, closed, IsStep, is_taken, finds_full, letter_in, nowhere, changes_of, is_nil}
+use Rattle.bmx_store_laws.proofs.Words.{made_places, MovesTo, some_clash, world_of, World, Event, Done, Input, Do, Serve, Take, NodeAnswer, Sending, ViewField}
+use Rattle.bmx_store_laws.proofs.Words.{slice_drop, NoGrants, GrantsNothing, note_grants, each_name, Came, came_after, FreeOf, seen_known, seen, first_world, IsCounted}
+use Rattle.bmx_store_laws.proofs.Words.command
+use Rattle.bmx_store_laws.proofs.Words.val
+use Rattle.bmx_store_laws.proofs.Words.answer
+use Rattle.bmx_store_laws.proofs.Words.field
+use Rattle.bmx_protocol.specs.Changes.{Makes, Takes}
 use Rattle.bmx_places.specs.Ledger.{Block, AreBlocks, block_of, LiesIn}
 use Rattle.bmx_places.proofs.Blocks.{every_map, IsTold, Keeps, hears_all, learnt_handed, same_shape, put_each, learnt_either}
 use Rattle.bmx_places.proofs.Making.{Grows, keeps_grown, IsLaterThan, blocks_later, IsHome, with_block, made_or_old, home_made, handed_more, made_grows, made_blocks, made_keeps}
@@ -281,7 +246,7 @@ module _ (st : Setting) (past : List Event) (nodes : ℕ → Node) (e : Event) (
 
   -- ## a new object
 
-  module _ (register bunch size : ℕ) (is : e.input ≡ input.Do (command.New register bunch size)) (full : step.told.full ≡ false)
+  module _ (register bunch size : ℕ) (is : e.input ≡ Do (command.New register bunch size)) (full : step.told.full ≡ false)
       (o : Reaction) (from_rule : o ≡ rule st me s step.told e.input)
       (makes : o ≡ record { changes = Knows (next_name me s) (new_object bunch size) ∷ Sets register (val.Ref (next_name me s)) ∷ Makes ∷ []; drafts = []; answer = answer.Nil }) where
     abbrev x : ℕ
@@ -374,17 +339,17 @@ module _ (st : Setting) (past : List Event) (nodes : ℕ → Node) (e : Event) (
 
   -- ## a command
 
-  by_command : (c : Command) → e.input ≡ input.Do c → Comes kept.blocks me s step.told.full c (rule st me s step.told (input.Do c)) → Kept st (past ++ e ∷ []) (put nodes me after)
+  by_command : (c : Command) → e.input ≡ Do c → Comes kept.blocks me s step.told.full c (rule st me s step.told (Do c)) → Kept st (past ++ e ∷ []) (put nodes me after)
   by_command c is (New register bunch size same full makes) =
-      new_kept register bunch size (is ∙ ap (λ (d : Command). input.Do d) same) full (rule st me s step.told (input.Do c)) (ap (rule st me s step.told) (sym is)) makes
-  by_command c is (Plainly p none) = stays (rule st me s step.told (input.Do c)) (ap (rule st me s step.told) (sym is)) p
+      new_kept register bunch size (is ∙ ap (λ (d : Command). Do d) same) full (rule st me s step.told (Do c)) (ap (rule st me s step.told) (sym is)) makes
+  by_command c is (Plainly p none) = stays (rule st me s step.told (Do c)) (ap (rule st me s step.told) (sym is)) p
       (subst (λ (i : Input). MovesTo me here step.told i e.done.answer after.places) is step.places
-      ∙ ap (λ (y : NodeAnswer). cond (is_nil y) (made_places me here c) here.places) (answer_is (rule st me s step.told (input.Do c)) (ap (rule st me s step.told) (sym is)))
+      ∙ ap (λ (y : NodeAnswer). cond (is_nil y) (made_places me here c) here.places) (answer_is (rule st me s step.told (Do c)) (ap (rule st me s step.told) (sym is)))
       ∙ none here)
 
   -- ## a letter
 
-  module _ (from : ℕ) (l : Letter) (is : e.input ≡ input.Take from l) where
+  module _ (from : ℕ) (l : Letter) (is : e.input ≡ Take from l) where
     abbrev m : Msg
     m = l.msg
 
@@ -434,8 +399,8 @@ module _ (st : Setting) (past : List Event) (nodes : ℕ → Node) (e : Event) (
         ap length (sym (some_same e)) ∙ length-map told heard_field ∙ size ∙ sym (same_shape st w kept.blocks kept.are me info of at.place k at.block).1
 
     copy_full : (m : Msg) → IsRight kept.blocks m → (k : Known) → s.known (name_in m) ≡ Some k → (fields : List ViewField) → copy_after m (Some k) ≡ Some fields → length fields ≡ k.size
-    copy_full (msg.ReadGrant info told) right k known fields c = brought info told right.told.0 (right.full (info, told) refl) k known fields c
-    copy_full (msg.WriteGrant info told) right k known fields c = brought info told right.told.0 (right.full (info, told) refl) k known fields c
+    copy_full (ReadGrant info told) right k known fields c = brought info told right.told.0 (right.full (info, told) refl) k known fields c
+    copy_full (WriteGrant info told) right k known fields c = brought info told right.told.0 (right.full (info, told) refl) k known fields c
     copy_full m right k known fields c = (kept.keeps me).full (name_in m) k fields known c
 
     known_plainly : (k : Option Known) → s.known (name_in m) ≡ k → Each (Plain t.known) (known_change (name_in m) k (copy_after m k) takeable.turn.after)
@@ -443,8 +408,8 @@ module _ (st : Setting) (past : List Event) (nodes : ℕ → Node) (e : Event) (
     known_plainly (Some k) e = known_plain t.known (name_in m) k (copy_after m (Some k)) takeable.turn.after (hears_stays from (infos m) s (name_in m) k e) (copy_full m takeable.issued.right k e)
 
     got_plainly : (n : Note) (k : Option Known) → s.known (name_in m) ≡ k → note_transition me from n (option_map share_of k) ≡ Some takeable.turn → Each (Plain t.known) (got_change from l.seq (name_in m) n)
-    got_plainly (Grants mode.Write) None e turns = none_some turns
-    got_plainly (Grants mode.Write) (Some k) e turns = ((k, hears_stays from (infos m) s (name_in m) k e), tt)
+    got_plainly (Grants Write) None e turns = none_some turns
+    got_plainly (Grants Write) (Some k) e turns = ((k, hears_stays from (infos m) s (name_in m) k e), tt)
     got_plainly _ k e turns = tt
 
     silent : NoGrants takeable.turn.sends
@@ -480,11 +445,11 @@ module _ (st : Setting) (past : List Event) (nodes : ℕ → Node) (e : Event) (
             (infos m) here.places (kept.homes me)
 
   by_input : (i : Input) → e.input ≡ i → Kept st (past ++ e ∷ []) (put nodes me after)
-  by_input (input.Do c) is = by_command c is (command_comes kept.blocks me s here.places step.told.full step.told.lies (kept.keeps me) lies_at aware owners c)
-  by_input (input.Serve name) is = stays (rule st me s step.told (input.Serve name)) (ap (rule st me s step.told) (sym is))
+  by_input (Do c) is = by_command c is (command_comes kept.blocks me s here.places step.told.full step.told.lies (kept.keeps me) lies_at aware owners c)
+  by_input (Serve name) is = stays (rule st me s step.told (Serve name)) (ap (rule st me s step.told) (sym is))
       (act_plain kept.blocks me s here.places step.told.full step.told.lies (kept.keeps me) lies_at aware owners Serves answer.Idle (λ h. cc) name (s.known name) refl)
       (subst (λ (i : Input). MovesTo me here step.told i e.done.answer after.places) is step.places)
-  by_input (input.Take from l) is = take_kept from l is
+  by_input (Take from l) is = take_kept from l is
 
   pub one_more : Kept st (past ++ e ∷ []) (put nodes me after)
   one_more = by_input e.input refl

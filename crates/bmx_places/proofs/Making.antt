@@ -1,18 +1,8 @@
 -- An object that is made lies in a new block: words that were never handed out before.
-use Rattle.std.proofs.Common.{◌≡◌, ◌≢◌, ◌⊎◌, inl, inr, ℕ, ◌+◌, ◌<◌, ◌≤◌, arith, refl, ap, sym, subst, ◌∙◌, Bool, true, false, cond, List, length}
-use Rattle.std.specs.Prelude.{nat_le, Option, Some, None}
-use Rattle.std.proofs.lemmas.Bool.{leb-true}
-use Rattle.std.proofs.lemmas.Bool.Decides.{nat_tests}
-use Rattle.bmx_types.specs.Words.{maker, address_word, home_of, segment_of, index_of}
-use Rattle.bmx_types.specs.Openings.{bunches_of}
-use Rattle.bmx_types.specs.declared.addresses.Place.{Place}
-use Rattle.bmx_types.specs.Updates.{put}
-use Rattle.bmx_protocol.specs.declared.views.ViewField.{ViewField}
-use Rattle.bmx_protocol.specs.Nodes.{Setting, Known}
-use Rattle.bmx_protocol.specs.Places.{Header, Places, has_room, with_segment, with_room, with_placed, with_made, overlaps}
-use Rattle.bmx_protocol.specs.Worlds.{World}
-use Rattle.bmx_protocol.proofs.Basics.{put_same, put_apart, some_same}
-use Rattle.bmx_store_laws.specs.Laws.{IsCounted}
+use Rattle.bmx_store_laws.proofs.Words.{◌≡◌, ℕ, refl, ap, sym, subst, ◌∙◌, Bool, true, false, cond, List, ◌<◌, arith, length, ◌⊎◌, inl, inr, ◌+◌, ◌≤◌, ◌≢◌, leb-true, nat_tests, Option, Some, None, nat_le}
+use Rattle.bmx_store_laws.proofs.Words.{bunches_of, put, maker, address_word, home_of, segment_of, index_of, Place}
+use Rattle.bmx_store_laws.proofs.Words.{put_same, some_same, put_apart, Setting, Known, Places, Header, overlaps, has_room, with_made, with_segment, with_room, with_placed, World, ViewField}
+use Rattle.bmx_store_laws.proofs.Words.{IsCounted}
 use Rattle.bmx_places.specs.Ledger.{Block, IsBlock, AreBlocks, LiesIn, Heads}
 use Rattle.bmx_places.proofs.Blocks.{parts_again, KeepsAt, Keeps, object_keeps, put_each}
 

@@ -1,38 +1,13 @@
 -- The first letter in flight between two nodes is taken: nothing that makes a letter stray can be said of it.
-use Rattle.std.proofs.Common.{◌≡◌, ◌≢◌, ℕ, ◌+◌, ◌^◌, ◌<◌, ◌≤◌, arith, refl, ap, sym, subst, ◌∙◌, Bool, true, false, cond, List, [], ◌∷◌, ◌++◌, map, length, drop, zero, suc}
-use Rattle.std.specs.Prelude.{◌==◌, ◌&&◌, ◌||◌, not, nat_lt, Option, Some, None, IsSome, slice_get, Contains}
-use Rattle.std.specs.Option.{option_map, option_map_or}
-use Rattle.std.specs.List.{list_any}
-use Rattle.std.proofs.lemmas.Bool.{ltb-true, ltb-false}
-use Rattle.std.proofs.lemmas.Bool.Decides.{nat_tests}
-use Rattle.std.proofs.lemmas.List.Sums.{sum_by-cons}
-use Rattle.bmx_types.specs.Words.{maker, count_of, home_of}
-use Rattle.bmx_types.specs.Openings.{IsOpening, bunches_of}
-use Rattle.bmx_types.specs.declared.numbers.Mode.{Mode}
-use Rattle.bmx_types.specs.declared.numbers.Mode.TheVariants as mode
-use Rattle.bmx_types.specs.declared.addresses.Info.{Info}
-use Rattle.bmx_msg.specs.declared.letters.Field.{Field}
-use Rattle.bmx_msg.specs.declared.letters.Letter.{Letter}
-use Rattle.bmx_msg.specs.declared.letters.Msg.{Msg}
-use Rattle.bmx_msg.specs.declared.letters.Msg.TheVariants as msg
-use Rattle.bmx_token.specs.Transitions.{Note, Asks, Transition, is_request_of, note_transition}
-use Rattle.bmx_token_model.specs.Machine.{hears, said_transition, letter_transition}
-use Rattle.bmx_token_model.specs.Laws.{NoneIsStray, IsApart}
-use Rattle.bmx_token_model.proofs.Stated.{no_letter_is_stray, nobody_asks_itself}
-use Rattle.bmx_protocol.specs.declared.inputs.Sending.{Sending}
-use Rattle.bmx_protocol.specs.declared.events.Event.{Event}
-use Rattle.bmx_protocol.specs.Nodes.{Setting, NodeState, share_of}
-use Rattle.bmx_protocol.specs.Rules.{name_in, note_in, grant_in, infos}
-use Rattle.bmx_protocol.specs.Strays.{is_no_node, is_no_name, is_bad_info, asker_in, is_bad_msg, is_bad_letter, some_clash}
-use Rattle.bmx_protocol.specs.Steps.{Node}
-use Rattle.bmx_protocol.specs.Histories.{letters_to, issued, taken, in_flight, AreAfter, IsLegal}
-use Rattle.bmx_protocol.specs.Worlds.{World, world_of, Between}
-use Rattle.bmx_store_laws.specs.Inside.Seen.{seen, seen_message, seen_known, first_world}
-use Rattle.bmx_store_laws.specs.Laws.{IsCounted, Asked, letters_about, times_at}
-use Rattle.bmx_protocol.proofs.Basics.{eqb_of, eqb_same, Every, every_append, none_some, some_same}
-use Rattle.bmx_store_laws.proofs.Channels.{numbered_at}
-use Rattle.bmx_store_laws.proofs.Histories.{Came, came_after, each_name}
-use Rattle.bmx_store_laws.proofs.Lifted.{names_are_counted, wants_stand_once}
+use Rattle.bmx_store_laws.proofs.Words.{◌≡◌, ℕ, refl, ap, sym, subst, ◌∙◌, Bool, true, false, cond, List, [], ◌∷◌, map, ◌<◌, arith, drop, length, zero, suc, ◌+◌, ◌≤◌, ◌++◌, ◌≢◌, ◌^◌, ltb-true, ltb-false, nat_tests, sum_by-cons, list_any}
+use Rattle.bmx_store_laws.proofs.Words.{option_map, option_map_or, Option, Some, None, slice_get, ◌==◌, ◌&&◌, nat_lt, not, ◌||◌, Contains, IsSome}
+use Rattle.bmx_store_laws.proofs.Words.{IsOpening, bunches_of, maker, count_of, home_of, Info, Mode, Read, Write, Field, Letter, Msg, ReadReq, WriteReq}
+use Rattle.bmx_store_laws.proofs.Words.{Note, Asks, Transition, note_transition, is_request_of, nobody_asks_itself, NoneIsStray, IsApart, hears, said_transition, letter_transition}
+use Rattle.bmx_store_laws.proofs.Words.{eqb_same, some_same, none_some, eqb_of, Every, every_append, in_flight, taken, letters_to, issued, AreAfter, IsLegal, Setting, NodeState, share_of, grant_in, name_in, note_in, infos, Node}
+use Rattle.bmx_store_laws.proofs.Words.{is_no_node, is_bad_msg, is_bad_letter, some_clash, is_no_name, is_bad_info, asker_in, world_of, World, Event, Sending}
+use Rattle.bmx_store_laws.proofs.Words.{numbered_at, each_name, Came, came_after, wants_stand_once, names_are_counted, seen_known, seen, seen_message, first_world, Asked, letters_about, times_at, IsCounted}
+use Rattle.bmx_token_model.proofs.Stated.{no_letter_is_stray}
+use Rattle.bmx_protocol.specs.Worlds.{Between}
 use Rattle.bmx_places.specs.Ledger.{Block, IsBlock, AreBlocks, block_of}
 use Rattle.bmx_places.proofs.Blocks.{IsTold, Keeps, hears_all}
 use Rattle.bmx_places.proofs.Outcomes.{IsRight}
@@ -170,8 +145,8 @@ module _ (st : Setting) (past : List Event) (nodes : ℕ → Node) (opening : Is
   asks_not m a e = by_test (nat_lt a st.nodes) refl
     where
       self : (m : Mode) → is_request_of m a (Asks m a) ≡ true
-      self mode.Read = eqb_same a
-      self mode.Write = eqb_same a
+      self Read = eqb_same a
+      self Write = eqb_same a
 
       test : Letter → Bool
       test k = (name_in k.msg == x) && is_request_of m a (note_in k.msg)
@@ -193,8 +168,8 @@ module _ (st : Setting) (past : List Event) (nodes : ℕ → Node) (opening : Is
   asker_not = by_msg l.msg refl
     where
       by_msg : (m : Msg) → l.msg ≡ m → option_map_or (is_no_node st) (asker_in m) false ≡ false
-      by_msg (msg.ReadReq name asker) e = asks_not mode.Read asker (ap note_in e)
-      by_msg (msg.WriteReq name asker) e = asks_not mode.Write asker (ap note_in e)
+      by_msg (ReadReq name asker) e = asks_not Read asker (ap note_in e)
+      by_msg (WriteReq name asker) e = asks_not Write asker (ap note_in e)
       by_msg _ e = refl
 
   full_not : option_map_or (λ (g : Info × List Field). not (length g.1 == g.0.size)) (grant_in l.msg) false ≡ false

@@ -1,25 +1,11 @@
 -- The ledger that a store opens with: the blocks of its births, in the order in which they are placed.
-use Rattle.std.proofs.Common.{◌≡◌, ◌≢◌, ◌⊎◌, inl, inr, ℕ, ◌+◌, ◌*◌, ◌^◌, ◌<◌, ◌≤◌, arith, refl, ap, sym, subst, ◌∙◌, Bool, true, false, cond, List, [], ◌∷◌, length, zero, suc, length-append}
-use Rattle.std.specs.Prelude.{not, ◌==◌, ◌&&◌, nat_lt, Option, Some, None, filter, slice_get, unwrap_or}
-use Rattle.std.specs.Option.{option_map}
-use Rattle.std.proofs.lemmas.List.{length-map}
-use Rattle.std.proofs.lemmas.List.Filters.{length-filter_both}
-use Rattle.bmx_types.specs.Words.{maker, count_of}
-use Rattle.bmx_types.specs.Openings.{IsOpening, bunches_of}
-use Rattle.bmx_types.specs.declared.openings.Birth.{Birth}
-use Rattle.bmx_types.specs.declared.addresses.Place.{Place}
-use Rattle.bmx_types.specs.declared.addresses.Info.{Info}
-use Rattle.bmx_types.specs.Updates.{put}
-use Rattle.bmx_owner.specs.declared.entering.Record.{Record}
-use Rattle.bmx_owner.specs.Records.{blank}
-use Rattle.bmx_protocol.specs.Nodes.{Setting, Known, field_of, is_anchor, birth_of, owned_birth, heard_birth, first_known, first_entering}
-use Rattle.bmx_protocol.specs.Places.{Places, has_room, with_segment, with_made, with_placed, no_places, with_births, by_bunch, owner_places, told_place, with_told}
-use Rattle.bmx_protocol.specs.Strays.{clashes}
-use Rattle.bmx_protocol.specs.Steps.{first_node, nowhere}
-use Rattle.bmx_protocol.specs.Worlds.{World, world_of}
-use Rattle.bmx_protocol.proofs.Births.{In, Distinct, every_in, every_of, in_contains, found, numbered_above, in_bunches, of_bunches, all_bunches, distinct_bunches, learns, learns_in, distinct, ordered, known_first, anchors, anchors_of, known_told}
-use Rattle.bmx_store_laws.specs.Laws.{IsCounted}
-use Rattle.bmx_protocol.proofs.Basics.{Every, none_some, some_same, eqb_apart, put_same, put_apart}
+use Rattle.bmx_store_laws.proofs.Words.{◌≡◌, ℕ, refl, ap, sym, subst, ◌∙◌, Bool, true, false, cond, List, [], ◌∷◌, ◌<◌, arith, length, zero, suc, ◌⊎◌, inl, inr, ◌+◌, ◌≤◌, ◌≢◌, ◌^◌, length-append, ◌*◌, length-map, length-filter_both}
+use Rattle.bmx_store_laws.proofs.Words.{option_map, Option, Some, None, unwrap_or, slice_get, ◌==◌, ◌&&◌, nat_lt, not, filter}
+use Rattle.bmx_store_laws.proofs.Words.{IsOpening, bunches_of, put, maker, count_of, Info, Place, Birth, blank, Record}
+use Rattle.bmx_store_laws.proofs.Words.{put_same, some_same, none_some, put_apart, eqb_apart, Every, In, Distinct, every_in, every_of, in_contains, found, numbered_above, in_bunches, of_bunches, all_bunches, distinct_bunches, learns}
+use Rattle.bmx_store_laws.proofs.Words.{learns_in, distinct, ordered, known_first, anchors, anchors_of, known_told, Setting, Known, first_known, birth_of, is_anchor, owned_birth, heard_birth, field_of, first_entering, Places, has_room}
+use Rattle.bmx_store_laws.proofs.Words.{with_made, with_segment, with_placed, no_places, with_births, by_bunch, owner_places, told_place, with_told, first_node, nowhere, clashes, world_of, World}
+use Rattle.bmx_store_laws.proofs.Words.{IsCounted}
 use Rattle.bmx_places.specs.Ledger.{Block, AreBlocks, block_at, LiesIn, IsOf, block_of}
 use Rattle.bmx_places.proofs.Blocks.{Keeps, object_keeps, no_clash}
 use Rattle.bmx_places.proofs.Making.{IsLaterThan, blocks_later, IsHome, with_block, made_or_old, home_made, handed_more, made_blocks, made_keeps}

@@ -1,55 +1,27 @@
 -- What a rule comes to for blocks: plain changes, which make nothing known and change no bunch or size, and messages of
 -- known objects, or a new object; and that no rule but that of a letter answers that it is stray.
-use Rattle.std.proofs.Common.{◌≡◌, ℕ, ◌+◌, refl, ap, sym, subst, ◌∙◌, List, [], ◌∷◌, ◌++◌, map, length, ◌≢◌, Bool, true, false, cond, length-set}
-use Rattle.std.specs.Prelude.{Option, Some, None, unwrap_or, is_some, slice_set, filter_map}
-use Rattle.std.specs.Option.{option_map, option_map_or}
-use Rattle.std.specs.List.{flat_map}
-use Rattle.bmx_types.specs.declared.addresses.Info.{Info}
-use Rattle.bmx_types.specs.Updates.{put, put_at}
-use Rattle.bmx_msg.specs.Letters.{given, targets}
-use Rattle.bmx_msg.specs.declared.letters.Field.{Field}
-use Rattle.bmx_msg.specs.declared.letters.Msg.{Msg}
-use Rattle.bmx_owner.specs.declared.entering.Record.{Record}
-use Rattle.bmx_owner.specs.Records.{blank, sent_by, got_by}
-use Rattle.bmx_protocol.specs.declared.inputs.Sending.{Sending}
-use Rattle.bmx_protocol.specs.declared.views.ViewField.{ViewField}
-use Rattle.bmx_protocol.specs.Nodes.{NodeState, Known, seen_graph, share_of, field_of}
-use Rattle.bmx_protocol.specs.Places.{Places}
-use Rattle.bmx_protocol.specs.Changes.{Change, Knows, Hears, Gives, Gets, Issues, record_of, after_change, after_changes, Sets, Makes}
-use Rattle.bmx_protocol.specs.Rules.{Draft, infos, grant_in, Reaction, only, info_of, told_field, told_fields, info_in, message, drafts_of, known_change, operation_answer, acquire_answer, release_answer, after_operation, operation_rule, about, next_name, new_object, stored, graph_changes, answered, graph_rule, token_rule, knows, command_rule}
-use Rattle.bmx_protocol.specs.Steps.{Node, is_nil, made_places, numbered, sent_changes}
-use Rattle.bmx_protocol.proofs.Changing.{Each, each_append, kept_by_each}
-use Rattle.bmx_protocol.proofs.Basics.{Every, none_some, some_same}
+use Rattle.bmx_store_laws.proofs.Words.{◌≡◌, ℕ, refl, ap, sym, subst, ◌∙◌, Bool, true, false, cond, List, [], ◌∷◌, map, length, ◌+◌, ◌++◌, ◌≢◌, length-set, length-map, flat_map, option_map, option_map_or, Option, Some, None, is_some}
+use Rattle.bmx_store_laws.proofs.Words.{unwrap_or, slice_set, filter_map}
+use Rattle.bmx_store_laws.proofs.Words.{put, put_at, Info, Place, Command, Read, Write, Val, targets, given, Field, Msg, blank, sent_by, got_by, Record}
+use Rattle.bmx_store_laws.proofs.Words.{target_of, answer_of, storing, setting, effect, Answer, Effect, MakesOne, SetsOne, Stores}
+use Rattle.bmx_store_laws.proofs.Words.{serve_by, acquire, release, Share, Note, Asks, Grants, Send, Transition, Operation, Acquires, Releases, transition_of, can_serve, Serves, acquired, released, served, Acquire, Release, Part, Role}
+use Rattle.bmx_store_laws.proofs.Words.{Owner, Parent, is_grant}
+use Rattle.bmx_store_laws.proofs.Words.{some_same, none_some, Every, Each, kept_by_each, each_append, Knows, after_changes, Change, Sets, Hears, after_change, Gets, Gives, Issues, record_of, issued, NodeState, Known, seen_graph, share_of}
+use Rattle.bmx_store_laws.proofs.Words.{field_of, Places, Draft, Reaction, message, drafts_of, info_of, told_fields, grant_in, operation_answer, after_operation, operation_rule, next_name, new_object, graph_changes, answered, graph_rule}
+use Rattle.bmx_store_laws.proofs.Words.{token_rule, knows, command_rule, about, only, stored, acquire_answer, release_answer, told_field, infos, known_change, info_in, Node, numbered, sent_changes, is_nil, made_places, NodeAnswer}
+use Rattle.bmx_store_laws.proofs.Words.{Sending, ViewField}
+use Rattle.bmx_store_laws.proofs.Words.{NoGrants, HasNo, FreeOf}
+use Rattle.bmx_store_laws.proofs.Words.command
+use Rattle.bmx_store_laws.proofs.Words.refusal
+use Rattle.bmx_store_laws.proofs.Words.val
+use Rattle.bmx_store_laws.proofs.Words.graph
+use Rattle.bmx_store_laws.proofs.Words.acquire_is
+use Rattle.bmx_store_laws.proofs.Words.release_is
+use Rattle.bmx_store_laws.proofs.Words.answer
+use Rattle.bmx_store_laws.proofs.Words.field
+use Rattle.bmx_protocol.specs.Changes.{Makes}
 use Rattle.bmx_places.specs.Ledger.{Block, block_at, LiesIn, IsOf}
 use Rattle.bmx_places.proofs.Blocks.{IsTold, Keeps, put_each}
-use Rattle.std.proofs.lemmas.List.{length-map}
-use Rattle.bmx_types.specs.declared.values.Val.{Val}
-use Rattle.bmx_types.specs.declared.values.Val.TheVariants as val
-use Rattle.bmx_types.specs.declared.commands.Command.{Command}
-use Rattle.bmx_types.specs.declared.commands.Command.TheVariants as command
-use Rattle.bmx_types.specs.declared.commands.Refusal.TheVariants as refusal
-use Rattle.bmx_types.specs.declared.numbers.Mode.TheVariants as mode
-use Rattle.bmx_types.specs.declared.addresses.Place.{Place}
-use Rattle.bmx_graph.specs.declared.answers.Answer.{Answer}
-use Rattle.bmx_graph.specs.declared.answers.Answer.TheVariants as graph
-use Rattle.bmx_graph.specs.Step.{answer_of, target_of, effect, setting, storing}
-use Rattle.bmx_graph.specs.declared.effects.Effect.{Effect}
-use Rattle.bmx_graph.specs.declared.effects.Effect.TheVariants as graph_effect
-use Rattle.bmx_token.specs.declared.parts.Part.{Part}
-use Rattle.bmx_token.specs.declared.parts.Role.{Role}
-use Rattle.bmx_token.specs.declared.parts.Role.TheVariants.{Owner, Parent}
-use Rattle.bmx_token.specs.declared.answers.Acquire.{Acquire}
-use Rattle.bmx_token.specs.declared.answers.Acquire.TheVariants as acquire_is
-use Rattle.bmx_token.specs.declared.answers.Release.{Release}
-use Rattle.bmx_token.specs.declared.answers.Release.TheVariants as release_is
-use Rattle.bmx_token.specs.Tokens.{acquire, release, serve_by}
-use Rattle.bmx_token.specs.Transitions.{Share, Note, Asks, Grants, Send, Transition, Operation, Acquires, Releases, Serves, acquired, released, served, transition_of, can_serve}
-use Rattle.bmx_token_model.specs.Machine.{is_grant}
-use Rattle.bmx_protocol.specs.declared.inputs.NodeAnswer.{NodeAnswer}
-use Rattle.bmx_protocol.specs.declared.inputs.NodeAnswer.TheVariants as answer
-use Rattle.bmx_protocol.specs.declared.views.ViewField.TheVariants as field
-use Rattle.bmx_store_laws.proofs.Ruled.{HasNo, FreeOf}
-use Rattle.bmx_store_laws.proofs.Copies.{NoGrants}
 
 -- ## shapes
 
@@ -290,9 +262,9 @@ module _ (blocks : ℕ → Option Block) (s : NodeState) (a : Places) (lies : �
     grant_right has g e = subst (λ (h : Info × List Field). length h.1 ≡ h.0.size) (some_same e) (all_there has)
 
     note_draft : (to : ℕ) (n : Note) → (is_grant n ≡ true → is_some k.copy ≡ true) → IsDraft blocks s.known (record { to = to; msg = message (info_of s lies name) (told_fields s lies name) n })
-    note_draft to (Grants mode.Read) has = record { right = record { told = (info_told name k is, all_told.0); full = grant_right (has refl) }; gives = ((k, is), all_told.1) }
-    note_draft to (Grants mode.Write) has = record { right = record { told = (info_told name k is, all_told.0); full = grant_right (has refl) }; gives = all_told.1 }
-    note_draft to (Asks mode.Read asker) has = record { right = record { told = tt; full = no_grant }; gives = tt }
+    note_draft to (Grants Read) has = record { right = record { told = (info_told name k is, all_told.0); full = grant_right (has refl) }; gives = ((k, is), all_told.1) }
+    note_draft to (Grants Write) has = record { right = record { told = (info_told name k is, all_told.0); full = grant_right (has refl) }; gives = all_told.1 }
+    note_draft to (Asks Read asker) has = record { right = record { told = tt; full = no_grant }; gives = tt }
     note_draft to _ has = record { right = record { told = tt; full = no_grant }; gives = tt }
 
     notes_drafts : (sends : List Send) → Every (λ (n : Send). is_grant n.note ≡ true → is_some k.copy ≡ true) sends → Every (IsDraft blocks s.known) (drafts_of s lies name sends)
@@ -306,9 +278,9 @@ silent_drafts blocks known s lies name [] none = tt
 silent_drafts blocks known s lies name (n ∷ sends) none = (silent n.note none.0, silent_drafts blocks known s lies name sends none.1)
   where
     silent : (m : Note) → is_grant m ≡ false → IsDraft blocks known (record { to = n.to; msg = message (info_of s lies name) (told_fields s lies name) m })
-    silent (Grants mode.Read) e = absurd cc
-    silent (Grants mode.Write) e = absurd cc
-    silent (Asks mode.Read asker) e = record { right = record { told = tt; full = no_grant }; gives = tt }
+    silent (Grants Read) e = absurd cc
+    silent (Grants Write) e = absurd cc
+    silent (Asks Read asker) e = record { right = record { told = tt; full = no_grant }; gives = tt }
     silent _ e = record { right = record { told = tt; full = no_grant }; gives = tt }
 
 -- ## outcomes
@@ -390,13 +362,13 @@ module _ (blocks : ℕ → Option Block) (me : ℕ) (s : NodeState) (a : Places)
 
   -- an effect that makes nothing
   abbrev MakesNone : Effect → Type 0
-  MakesNone (graph_effect.Makes register bunch size) = ⊥
+  MakesNone (MakesOne register bunch size) = ⊥
   MakesNone _ = Unit {0}
 
   effect_plain : (e : Effect) → MakesNone e → Each (Plain s.known) (graph_changes me s e)
-  effect_plain (graph_effect.Makes register bunch size) none = absurd none
-  effect_plain (graph_effect.Sets register v) none = (tt, tt)
-  effect_plain (graph_effect.Stores name index v) none = stored_plain name index v (s.known name) refl
+  effect_plain (MakesOne register bunch size) none = absurd none
+  effect_plain (SetsOne register v) none = (tt, tt)
+  effect_plain (Stores name index v) none = stored_plain name index v (s.known name) refl
   effect_plain _ none = tt
 
   storing_none : (name : Option ℕ) (index : ℕ) (v : Option Val) → MakesNone (storing name index v)
@@ -438,8 +410,8 @@ module _ (blocks : ℕ → Option Block) (me : ℕ) (s : NodeState) (a : Places)
       by_full : (b : Bool) → full ≡ b → Comes blocks me s full (command.New register bunch size) (cond b (only (answer.Refused refusal.Full)) (graph_rule me s (command.New register bunch size)))
       by_full true is = Plainly (nothing_plain blocks s.known _ (λ e. cc)) (λ n. refl)
       by_full false is = New register bunch size refl is refl
-  command_comes (command.Read on) = plainly _ _ (token_plain (Acquires mode.Read) (target_of (seen_graph me s) me on)) (λ n. refl)
-  command_comes (command.Write on) = plainly _ _ (token_plain (Acquires mode.Write) (target_of (seen_graph me s) me on)) (λ n. refl)
+  command_comes (command.Read on) = plainly _ _ (token_plain (Acquires Read) (target_of (seen_graph me s) me on)) (λ n. refl)
+  command_comes (command.Write on) = plainly _ _ (token_plain (Acquires Write) (target_of (seen_graph me s) me on)) (λ n. refl)
   command_comes (command.Done on) = plainly _ _ (token_plain Releases (target_of (seen_graph me s) me on)) (λ n. refl)
   command_comes (command.Set on index value) = plainly _ _ (fields_plain (command.Set on index value) (target_of (seen_graph me s) me on) (storing_none (target_of (seen_graph me s) me on) index _)) (λ n. refl)
   command_comes (command.Add on index by) = plainly _ _ (fields_plain (command.Add on index by) (target_of (seen_graph me s) me on) (storing_none (target_of (seen_graph me s) me on) index _)) (λ n. refl)

@@ -70,7 +70,7 @@ drop_next (y ∷ xs) (suc i) x rest h =
 abbrev pub letters_by : Event → ℕ → ℕ → List Letter
 letters_by e n m = cond (e.node == n) (letters_to m e.done.letters) []
 
-issued_more : (n m : ℕ) (past : List Event) (e : Event) → issued n m (past ++ e ∷ []) ≡ issued n m past ++ letters_by e n m
+pub issued_more : (n m : ℕ) (past : List Event) (e : Event) → issued n m (past ++ e ∷ []) ≡ issued n m past ++ letters_by e n m
 issued_more n m [] e = by_test (e.node == n)
   where
     by_test : (b : Bool) → cond b (letters_to m e.done.letters ++ []) [] ≡ cond b (letters_to m e.done.letters) []
@@ -85,7 +85,7 @@ issued_more n m (f ∷ past) e = by_test (f.node == n) (issued_more n m past e)
         ∙ sym (append_assoc (letters_to m f.done.letters) (issued n m past) (letters_by e n m))
     by_test false h = h
 
-taken_more : (n m : ℕ) (past : List Event) (e : Event) → taken n m (past ++ e ∷ []) ≡ taken n m past ++ taken n m (e ∷ [])
+pub taken_more : (n m : ℕ) (past : List Event) (e : Event) → taken n m (past ++ e ∷ []) ≡ taken n m past ++ taken n m (e ∷ [])
 taken_more n m past e =
     ap (arrived n m) (filter-append (λ (f : Event). is_taken f.done.answer) past (e ∷ []))
     ∙ filter_map-append (λ (f : Event). cond (f.node == m) (letter_from n f.input) None) (filter (λ (f : Event). is_taken f.done.answer) past)

@@ -60,7 +60,7 @@ pub record Came (st : Setting) (x : ℕ) (start : Object) (past : List Event) (n
   pub beyond : (n : ℕ) → (n < st.nodes → ⊥) → seen_known ((nodes n).state.known x) ≡ None
   pub run : Run start (seen x (world_of nodes past))
 
-replay_more : (st : Setting) (past : List Event) (e : Event) (start mid : ℕ → Node) (n : Node) → Replays st start past mid →
+pub replay_more : (st : Setting) (past : List Event) (e : Event) (start mid : ℕ → Node) (n : Node) → Replays st start past mid →
     IsStep st e.node (mid e.node) e.stamp e.input e.done n → Replays st start (past ++ e ∷ []) (put mid e.node n)
 replay_more st [] e start mid n h step = subst (λ (f : ℕ → Node). Replays st f (e ∷ []) (put mid e.node n)) (sym h) (n, step, refl)
 replay_more st (f ∷ past) e start mid n h step = (h.0, h.1, replay_more st past e (put start f.node h.0) mid n h.2 step)
@@ -68,14 +68,14 @@ replay_more st (f ∷ past) e start mid n h step = (h.0, h.1, replay_more st pas
 -- ## names
 
 -- the next name of a node
-maker_is : (n c : ℕ) → c < 2 ^ 56 → maker (name_word n c) ≡ n
+pub maker_is : (n c : ℕ) → c < 2 ^ 56 → maker (name_word n c) ≡ n
 maker_is n c h = div-mul-add n (2 ^ 56) c h
 
-count_is : (n c : ℕ) → c < 2 ^ 56 → count_of (name_word n c) ≡ c
+pub count_is : (n c : ℕ) → c < 2 ^ 56 → count_of (name_word n c) ≡ c
 count_is n c h = mod-mul-add n (2 ^ 56) c h
 
 -- it stands nowhere yet
-new_nowhere : (st : Setting) (x me : ℕ) (nodes : ℕ → Node) (past : List Event) → IsNamed st x nodes past → (nodes me).state.made + 1 < 2 ^ 56 →
+pub new_nowhere : (st : Setting) (x me : ℕ) (nodes : ℕ → Node) (past : List Event) → IsNamed st x nodes past → (nodes me).state.made + 1 < 2 ^ 56 →
     x ≡ next_name me (nodes me).state → IsNowhere (seen x (world_of nodes past))
 new_nowhere st x me nodes past (inr nowhere) few new = nowhere
 new_nowhere st x me nodes past (inl counted) few new =
@@ -252,14 +252,14 @@ taken_one n m e from l is nil =
     by_tests false b = refl
 
 -- a letter that isn't bad has the next number, and another sender
-good_letter : (a b t c d f : Bool) → (a || b || not t || c || d || f) ≡ false → (a ≡ false) × (t ≡ true)
+pub good_letter : (a b t c d f : Bool) → (a || b || not t || c || d || f) ≡ false → (a ≡ false) × (t ≡ true)
 good_letter true b t c d f h = absurd cc
 good_letter false true t c d f h = absurd cc
 good_letter false false true c d f h = (refl, refl)
 good_letter false false false c d f h = absurd cc
 
 -- it is the first in flight
-first_letter : (past : List Event) (nodes : ℕ → Node) (me from : ℕ) (l : Letter) → Channels past nodes →
+pub first_letter : (past : List Event) (nodes : ℕ → Node) (me from : ℕ) (l : Letter) → Channels past nodes →
     slice_get (issued from me past) (length (arrived from me past)) ≡ Some l → l.seq ≡ (nodes me).state.taken from + 1 →
     in_flight from me past ≡ l ∷ drop (suc (length (taken from me past))) (issued from me past)
 first_letter past nodes me from l channels next counted =

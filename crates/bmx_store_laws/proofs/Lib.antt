@@ -16,3 +16,5 @@ pub mod Parents
 pub mod Chains
 pub mod Lifted
 pub mod Applied
+pub mod Forms
+pub mod Words

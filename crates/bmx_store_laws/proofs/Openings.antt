@@ -53,7 +53,7 @@ found_birth (c ∷ births) x b h = by_test (c.name == x) (eqb_is c.name x) h (fo
         let r : (i : ℕ) × (slice_get births i ≡ Some b) × (b.name ≡ x) = rest e in
         (suc r.0, r.1, r.2)
 
-finds_birth : (births : List Birth) (x i : ℕ) (b : Birth) → slice_get births i ≡ Some b → b.name ≡ x → is_some (find (λ b. b.name == x) births) ≡ true
+pub finds_birth : (births : List Birth) (x i : ℕ) (b : Birth) → slice_get births i ≡ Some b → b.name ≡ x → is_some (find (λ b. b.name == x) births) ≡ true
 finds_birth [] x i b h n = absurd (cc)
 finds_birth (c ∷ births) x zero b h n =
     let same : c ≡ b = cc in

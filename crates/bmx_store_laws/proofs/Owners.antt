@@ -30,7 +30,7 @@ one_if b = cond b 1 0
 -- ## where a name stands
 
 -- what a list has stands between others
-split_at : {A : Type 0} (xs : List A) (x : A) → Contains xs x → (before : List A) × (after : List A) × (xs ≡ before ++ x ∷ after)
+pub split_at : {A : Type 0} (xs : List A) (x : A) → Contains xs x → (before : List A) × (after : List A) × (xs ≡ before ++ x ∷ after)
 split_at [] x c = absurd (omega (arith, c.1))
 split_at (y ∷ xs) x c = by_place (one_or_more y xs x c) (split_at xs x)
   where
