@@ -1,46 +1,23 @@
 -- The laws, over every legal history.
-use Rattle.bmx_store_laws.proofs.Words.{◌≡◌, ℕ, refl, ap, sym, subst, ◌∙◌, false, cond, List, [], ◌∷◌, ◌<◌, arith, drop, length, zero, suc, ◌++◌, ◌≢◌, append-nil, option_map, Option, Some, None, ◌||◌, Contains, IsSome}
-use Rattle.bmx_store_laws.proofs.Words.{IsOpening, put, Info, Place, Letter}
+use Rattle.bmx_store_laws.proofs.Words.{◌≡◌, ℕ, refl, ap, sym, subst, ◌∙◌, false, cond, List, [], ◌∷◌, ◌<◌, arith, drop, length, zero, suc, ◌≢◌, option_map, Option, Some, None, ◌||◌, Contains, IsSome}
+use Rattle.bmx_store_laws.proofs.Words.{IsOpening, Info, Place, Letter}
 use Rattle.bmx_store_laws.proofs.Words.{Transition, note_transition}
-use Rattle.bmx_store_laws.proofs.Words.{some_same, none_some, Every, joined, prefix_is_legal, in_flight, taken, issued, AreAfter, IsLegal, Replays, Setting, NodeState, Known, share_of, only, name_in, note_in, took, infos, first_node, Node}
-use Rattle.bmx_store_laws.proofs.Words.{IsStep, some_clash, world_of, World, Event, Done, Take}
-use Rattle.bmx_store_laws.proofs.Words.{Came, came_after, seen, first_world}
+use Rattle.bmx_store_laws.proofs.Words.{some_same, none_some, Every, in_flight, taken, issued, AreAfter, IsLegal, Setting, NodeState, Known, share_of, only, name_in, note_in, took, infos, Node, IsStep, some_clash, world_of, World, Event, Done, Take}
+use Rattle.bmx_store_laws.proofs.Words.{every_there, along_history}
 use Rattle.bmx_store_laws.proofs.Words.answer
-use Rattle.bmx_store_laws.proofs.Words.names
 use Rattle.bmx_places.specs.Ledger.{Block, block_at, block_of, LiesIn, IsOf, HasLedger}
-use Rattle.bmx_places.specs.Laws.{HasShape, KnownAt, ToldIn, HasPlace, At, Between, NoLetterIsStray}
+use Rattle.bmx_places.specs.Laws.{HasShape, KnownAt, ToldIn, HasPlace, At, Between, NoLetterIsStray, PlacesAgree, ShapesAgree}
 use Rattle.bmx_places.specs.Laws as law
-use Rattle.bmx_places.proofs.Blocks.{IsTold, hears_all}
-use Rattle.bmx_places.proofs.Next.{IsIssued, all_issued, IsTakeable, next_is_takeable}
+use Rattle.bmx_places.proofs.Blocks.{hears_all, IsTold}
 use Rattle.bmx_places.proofs.Kept.{Kept, one_more}
+use Rattle.bmx_places.proofs.Making.{r}
+use Rattle.bmx_places.proofs.Next.{all_issued, IsIssued, IsTakeable, next_is_takeable}
 use Rattle.bmx_places.proofs.Opened.{first_kept}
 
--- ## along a history
-
-all_kept : (st : Setting) → IsOpening st.nodes st.limit st.births → (rest past : List Event) (nodes last : ℕ → Node) → AreAfter st past nodes →
-    IsLegal st (past ++ rest) → Kept st past nodes → Replays st nodes rest last → Kept st (past ++ rest) last
-all_kept st opening [] past nodes last reached legal kept replay =
-    subst (λ (h : List Event). Kept st h last) (sym (append-nil past)) (subst (Kept st past) replay kept)
-all_kept st opening (e ∷ rest) past nodes last reached legal kept replay =
-    let before : IsLegal st past = prefix_is_legal st past (e ∷ rest) legal in
-    let one : Kept st (past ++ e ∷ []) (put nodes e.node replay.0) =
-    one_more st past nodes e replay.0 opening before reached replay.1 (legal.fits past rest e refl) kept in
-    let came : Came st 0 (seen 0 (first_world st)) (past ++ e ∷ []) (put nodes e.node replay.0) =
-    names.one_more st 0 (seen 0 (first_world st)) past nodes e replay.0 (came_after st past nodes opening before reached 0) replay.1 (legal.fits past rest e refl) in
-    let next : past ++ e ∷ rest ≡ (past ++ e ∷ []) ++ rest = sym (joined past (e ∷ []) rest) in
-    let all : Kept st ((past ++ e ∷ []) ++ rest) last =
-    all_kept st opening rest (past ++ e ∷ []) (put nodes e.node replay.0) last came.replay (subst (IsLegal st) next legal) one replay.2 in
-    subst (λ (h : List Event). Kept st h last) (sym next) all
-
 kept_after : (st : Setting) (history : List Event) (nodes : ℕ → Node) → IsOpening st.nodes st.limit st.births → IsLegal st history → AreAfter st history nodes → Kept st history nodes
-kept_after st history nodes opening legal after = all_kept st opening history [] (first_node st) nodes refl legal (first_kept st opening) after
+kept_after st history nodes opening = along_history st (Kept st) (λ past nodes e n ev kept. one_more st past nodes e n opening ev.legal ev.reached ev.step ev.fits kept) (first_kept st opening) history nodes
 
 -- ## letters in flight
-
-every_there : {A : Type 0} (P : A → Type 0) (xs : List A) (x : A) → Every P xs → Contains xs x → P x
-every_there P [] x h c = absurd (omega (arith, c.1))
-every_there P (y ∷ xs) x h (zero, below, is) = subst P is h.0
-every_there P (y ∷ xs) x h (suc k, below, is) = every_there P xs x h.1 (k, omega arith, is)
 
 every_drop : {A : Type 0} (P : A → Type 0) (k : ℕ) (xs : List A) → Every P xs → Every P (drop k xs)
 every_drop P zero [] h = tt
@@ -67,7 +44,7 @@ module _ (st : Setting) (history : List Event) (nodes : ℕ → Node) (opening :
     blocks = k.blocks;
     are = k.are;
     belong = record {
-      entries = λ n x j e. (k.keeps n).entries x j e;
+      entries = λ n x j e. ((k.keeps n).known x).lies j e;
       headers = λ n a h e. (k.keeps n).headers a h e;
       records = λ n x m r e. k.records n x m r e;
       told = info_told;
@@ -77,7 +54,7 @@ module _ (st : Setting) (history : List Event) (nodes : ℕ → Node) (opening :
   -- a shape is that of a block
   shaped : (x bunch size : ℕ) → HasShape w x bunch size → (a : ℕ) × (b : Block) × (k.blocks a ≡ Some b) × (b.name ≡ x) × (b.bunch ≡ bunch) × (b.size ≡ size)
   shaped x bunch size (KnownAt n j e b s) =
-      let l : LiesIn k.blocks ((nodes n).places.place x) x j = (k.keeps n).entries x j e in
+      let l : LiesIn k.blocks ((nodes n).places.place x) x j = ((k.keeps n).known x).lies j e in
       (l.place.address, block_at x j l.place, l.block, refl, b, s)
   shaped x bunch size (ToldIn n m l info there within named b s) = (info.place.address, block_of info, info_told n m l info there within, named, b, s)
 
@@ -98,9 +75,9 @@ module _ (st : Setting) (history : List Event) (nodes : ℕ → Node) (opening :
   lying x p (At n e) = by_known ((nodes n).state.known x) refl
     where
       by_known : (j : Option Known) → (nodes n).state.known x ≡ j → Lying x p
-      by_known None f = none_some (sym ((k.keeps n).unplaced x f) ∙ e)
+      by_known None f = none_some (sym (((k.keeps n).known x).unplaced f) ∙ e)
       by_known (Some j) f =
-          let l : LiesIn k.blocks ((nodes n).places.place x) x j = (k.keeps n).entries x j f in
+          let l : LiesIn k.blocks ((nodes n).places.place x) x j = ((k.keeps n).known x).lies j f in
           subst (Lying x) (some_same (sym l.lies ∙ e)) (block_at x j l.place, l.block, refl, refl)
   lying x p (Between n m l info there within named at) = subst (Lying x) at (block_of info, info_told n m l info there within, named, refl)
 
@@ -109,7 +86,7 @@ module _ (st : Setting) (history : List Event) (nodes : ℕ → Node) (opening :
     one = λ x p q h g moves. (let a = lying x p h in let c = lying x q g in
         k.are.one_address p.address q.address a.0 c.0 a.1 c.1 (a.2 ∙ sym c.2) (a.3 ∙ moves ∙ sym c.3));
     newest = λ x p q h g. (let a = lying x p h in omega (arith, a.3, k.still p.address a.0 a.1));
-    placed = λ n x j e. subst IsSome (sym ((k.keeps n).entries x j e).lies) refl;
+    placed = λ n x j e. subst IsSome (sym (((k.keeps n).known x).lies j e).lies) refl;
   }
 
   pub no_info_clashes : (from me : ℕ) (l : Letter) → Contains (in_flight from me history) l → some_clash me from (nodes me).state.known (nodes me).places (infos l.msg) ≡ false

@@ -1,9 +1,10 @@
 -- No Info of a block clashes at a node whose headers are of blocks, and once it is learnt they still are.
-use Rattle.bmx_store_laws.proofs.Words.{◌≡◌, ℕ, refl, ap, sym, subst, ◌∙◌, Bool, true, false, cond, List, [], ◌∷◌, map, ◌<◌, arith, length, zero, suc, ◌+◌, ◌≤◌, ◌≢◌, ◌^◌, le-ltb, nat_tests, option_map_or, Option, Some, None, is_some, ◌==◌}
-use Rattle.bmx_store_laws.proofs.Words.{◌&&◌, nat_lt, not, ◌||◌}
+use Rattle.bmx_store_laws.proofs.Words.{◌≡◌, ℕ, refl, ap, sym, subst, ◌∙◌, Bool, true, false, cond, List, [], ◌∷◌, map, ◌<◌, arith, length, zero, suc, ◌+◌, ◌≤◌, ◌≢◌, ◌^◌, le-ltb, nat_tests, option_map_or, Option, Some, None, is_some, ◌==◌, ◌&&◌, nat_lt, not}
+use Rattle.bmx_store_laws.proofs.Words.{◌||◌}
 use Rattle.bmx_store_laws.proofs.Words.{put, address_word, home_of, segment_of, index_of, Info, Place}
-use Rattle.bmx_store_laws.proofs.Words.{put_same, some_same, none_some, Two, Same, Apart, two, put_apart, eqb_of, Every, after_changes, Hears, heard_of, after_change, heard, Setting, NodeState, Known, Places, Lives, Header, with_object}
-use Rattle.bmx_store_laws.proofs.Words.{overlaps, any_below, is_in_the_way, is_barred, with_went, with_learnt, learn_at, with_all_learnt, differs, clashes_at, some_clash, clashes, World, ViewField}
+use Rattle.bmx_store_laws.proofs.Words.{put_same, some_same, none_some, put_apart, eqb_of, Every, after_changes, Hears, heard_of, after_change, heard, Setting, NodeState, Known, Places, Lives, Header, with_object, overlaps, any_below, is_in_the_way, is_barred}
+use Rattle.bmx_store_laws.proofs.Words.{with_went, with_learnt, learn_at, with_all_learnt, differs, clashes_at, some_clash, clashes, World, ViewField}
+use Rattle.bmx_store_laws.proofs.Words.{at_each_number, put_each}
 use Rattle.bmx_places.specs.Ledger.{Block, IsBlock, AreBlocks, block_at, block_of, LiesIn, Heads}
 
 -- ## addresses
@@ -16,11 +17,6 @@ pub parts_again : (h s i : ℕ) → s < 2 ^ 24 → i < 2 ^ 32 →
     (home_of (address_word h s i) ≡ h) × (segment_of (address_word h s i) ≡ s) × (index_of (address_word h s i) ≡ i)
 parts_again h s i p q = (omega arith, omega arith, omega arith)
 
--- what follows for one follows for each of a list
-pub every_map : {A : Type 0} (P Q : A → Type 0) → ((x : A) → P x → Q x) → (xs : List A) → Every P xs → Every Q xs
-every_map P Q f [] h = tt
-every_map P Q f (x ∷ xs) h = (f x h.0, every_map P Q f xs h.1)
-
 -- ## a node
 
 -- what an Info tells is of a block
@@ -30,13 +26,30 @@ IsTold blocks info = blocks info.place.address ≡ Some (block_of info)
 abbrev pub AllHead : (ℕ → Option Block) → (ℕ → Option Header) → Type 0
 AllHead blocks header = (address : ℕ) (h : Header) → header address ≡ Some h → Heads blocks address h
 
--- each entry of a node lies in its block, each header stands in front of one, and each copy has as many fields as
--- its object
-pub record KeepsAt (blocks : ℕ → Option Block) (known : ℕ → Option Known) (place : ℕ → Option Place) (header : ℕ → Option Header) : Type 0 where
-  pub entries : (x : ℕ) (k : Known) → known x ≡ Some k → LiesIn blocks (place x) x k
-  pub unplaced : (x : ℕ) → known x ≡ None → place x ≡ None
+-- a copy has as many fields as its object
+abbrev pub IsFull : Option (List ViewField) → ℕ → Type 0
+IsFull copy size = (fields : List ViewField) → copy ≡ Some fields → length fields ≡ size
+
+-- what is known of x lies in its block, and its copy is whole; what isn't known has no place
+pub record KeepsOne (blocks : ℕ → Option Block) (place : Option Place) (x : ℕ) (k : Option Known) : Type 0 where
+  pub lies : (j : Known) → k ≡ Some j → LiesIn blocks place x j
+  pub unplaced : k ≡ None → place ≡ None
+  pub full : (j : Known) → k ≡ Some j → IsFull j.copy j.size
+
+pub one_keeps : (blocks : ℕ → Option Block) (place : Option Place) (x : ℕ) (k : Known) → LiesIn blocks place x k → IsFull k.copy k.size → KeepsOne blocks place x (Some k)
+one_keeps blocks place x k lies full = record {
+  lies = λ j e. subst (LiesIn blocks place x) (some_same e) lies;
+  unplaced = λ e. none_some (sym e);
+  full = λ j e. subst (λ (i : Known). IsFull i.copy i.size) (some_same e) full;
+}
+
+pub none_keeps : (blocks : ℕ → Option Block) (x : ℕ) → KeepsOne blocks None x None
+none_keeps blocks x = record { lies = λ j e. none_some e; unplaced = λ e. refl; full = λ j e. none_some e }
+
+-- each entry of a node is so, and each header stands in front of a block
+pub record KeepsAt (blocks : ℕ → Option Block) (entries : ℕ → Option Known) (place : ℕ → Option Place) (header : ℕ → Option Header) : Type 0 where
+  pub known : (x : ℕ) → KeepsOne blocks (place x) x (entries x)
   pub headers : AllHead blocks header
-  pub full : (x : ℕ) (k : Known) (fields : List ViewField) → known x ≡ Some k → k.copy ≡ Some fields → length fields ≡ k.size
 
 abbrev pub Keeps : (ℕ → Option Block) → (ℕ → Option Known) → Places → Type 0
 Keeps blocks known a = KeepsAt blocks known a.place a.header
@@ -111,27 +124,14 @@ module _ (st : Setting) (w : World) (blocks : ℕ → Option Block) (are : AreBl
         barred = not_barred a keeps.headers handed
 
         by_known : (k : Option Known) → known info.name ≡ k → (option_map_or (λ k. differs k info) k false || clashes_at me a info (a.place info.name)) ≡ false
-        by_known None e = ap (clashes_at me a info) (keeps.unplaced info.name e) ∙ barred
+        by_known None e = ap (clashes_at me a info) ((keeps.known info.name).unplaced e) ∙ barred
         by_known (Some k) e =
-            let l : LiesIn blocks (a.place info.name) info.name k = keeps.entries info.name k e in
+            let l : LiesIn blocks (a.place info.name) info.name k = (keeps.known info.name).lies k e in
             let shape : (k.bunch ≡ info.bunch) × (k.size ≡ info.size) = same_shape l.place k l.block in
             (λ i. not (eqb_of shape.0 i && eqb_of shape.1 i) || clashes_at me a info (l.lies i)) ∙ not_clashing l.place.moves info.place.moves l.place.address at _ barred
             (λ same. ap (λ (b : Block). b.moves) (some_same (sym l.block ∙ ap blocks same ∙ told)))
 
 -- ## learning
-
--- what holds of a number, and of each apart from it, holds of each
-at_each_number : (P : ℕ → Type 0) (x : ℕ) → P x → ((y : ℕ) → (x == y) ≡ false → P y) → (y : ℕ) → P y
-at_each_number P x here else y = by_two (two x y)
-  where
-    by_two : Two x y → P y
-    by_two (Same q) = subst P q here
-    by_two (Apart h d) = else y h
-
--- what holds where a function changed, and of it elsewhere, holds after the change
-pub put_each : {A : Type 0} (P : ℕ → A → Type 0) (f : ℕ → A) (x : ℕ) (v : A) → P x v → ((y : ℕ) → (x == y) ≡ false → P y (f y)) → (y : ℕ) → P y (put f x v y)
-put_each P f x v here else = at_each_number (λ y. P y (put f x v y)) x (subst (P x) (sym (put_same f x v)) here)
-    (λ y h. subst (P y) (sym (put_apart f x y v h)) (else y h))
 
 module _ (blocks : ℕ → Option Block) where
   put_head : (header : ℕ → Option Header) (at : ℕ) (new : Header) → AllHead blocks header → Heads blocks at new → AllHead blocks (put header at (Some new))
@@ -147,28 +147,18 @@ module _ (blocks : ℕ → Option Block) where
       by_old (Some g) is h f = (let of : Heads blocks old g = all old g is in subst (Heads blocks old) (some_same f) (record { block = of.block; there = of.there; named = of.named; sized = of.sized }))
 
   went_keeps : (known : ℕ → Option Known) (a : Places) (old new : ℕ) → Keeps blocks known a → Keeps blocks known (with_went a old new)
-  went_keeps known a old new keeps = record { entries = keeps.entries; unplaced = keeps.unplaced; headers = went_head a old new keeps.headers; full = keeps.full }
+  went_keeps known a old new keeps = record { known = keeps.known; headers = went_head a old new keeps.headers }
 
   -- an object comes to lie in its block, and is known
   pub object_keeps : (known after : ℕ → Option Known) (a : Places) (name : ℕ) (k : Known) (place : Place) → after name ≡ Some k →
-      ((y : ℕ) → (name == y) ≡ false → after y ≡ known y) → ((fields : List ViewField) → k.copy ≡ Some fields → length fields ≡ k.size) →
-      blocks place.address ≡ Some (block_at name k place) → Keeps blocks known a → Keeps blocks after (with_object a name k.size place)
+      ((y : ℕ) → (name == y) ≡ false → after y ≡ known y) → IsFull k.copy k.size → blocks place.address ≡ Some (block_at name k place) → Keeps blocks known a →
+      Keeps blocks after (with_object a name k.size place)
   object_keeps known after a name k place is others full there keeps = record {
-    entries = at_each_number (λ x. (j : Known) → after x ≡ Some j → LiesIn blocks (put a.place name (Some place) x) x j) name
-        (λ j e. record {
-          place = place;
-          lies = put_same a.place name (Some place);
-          block = there ∙ ap (λ (i : Known). Some (block_at name i place)) (some_same (sym is ∙ e));
-        })
-        (λ x f j e. (let old : LiesIn blocks (a.place x) x j = keeps.entries x j (sym (others x f) ∙ e) in
-        record { place = old.place; lies = put_apart a.place name x (Some place) f ∙ old.lies; block = old.block }));
-    unplaced = at_each_number (λ x. after x ≡ None → put a.place name (Some place) x ≡ None) name (λ e. none_some (sym e ∙ is))
-        (λ x f e. put_apart a.place name x (Some place) f ∙ keeps.unplaced x (sym (others x f) ∙ e));
+    known = at_each_number (λ x. KeepsOne blocks (put a.place name (Some place) x) x (after x)) name
+        (rw (put_same a.place name (Some place), is) (one_keeps blocks (Some place) name k (record { place = place; lies = refl; block = there }) full))
+        (λ x f. rw (put_apart a.place name x (Some place) f, others x f) (keeps.known x));
     headers = put_head a.header place.address (record { name = name; size = k.size; standing = Lives place.moves }) keeps.headers
         (record { block = block_at name k place; there = there; named = refl; sized = refl });
-    full = at_each_number (λ x. (j : Known) (fields : List ViewField) → after x ≡ Some j → j.copy ≡ Some fields → length fields ≡ j.size) name
-        (λ j fields e c. (let same : k ≡ j = some_same (sym is ∙ e) in full fields (ap (λ (i : Known). i.copy) same ∙ c) ∙ ap (λ (i : Known). i.size) same))
-        (λ x f j fields e c. keeps.full x j fields (sym (others x f) ∙ e) c);
   }
 
 -- learning leaves places as they were, or lays the object at its place, with other headers
@@ -194,12 +184,12 @@ module _ (st : Setting) (w : World) (blocks : ℕ → Option Block) (are : AreBl
     where
       by_known : (k : Option Known) → known info.name ≡ k →
           Keeps blocks (cond (is_some k) known (put known info.name (Some (heard_of from info)))) (learn_at a info (a.place info.name))
-      by_known None e = subst (λ (p : Option Place). Keeps blocks (put known info.name (Some (heard_of from info))) (learn_at a info p)) (sym (keeps.unplaced info.name e))
+      by_known None e = subst (λ (p : Option Place). Keeps blocks (put known info.name (Some (heard_of from info))) (learn_at a info p)) (sym ((keeps.known info.name).unplaced e))
           (object_keeps blocks known (put known info.name (Some (heard_of from info))) a info.name (heard_of from info) info.place
           (put_same known info.name (Some (heard_of from info))) (λ y f. put_apart known info.name y (Some (heard_of from info)) f)
           (λ fields c. none_some c) told keeps)
       by_known (Some k) e =
-          let l : LiesIn blocks (a.place info.name) info.name k = keeps.entries info.name k e in
+          let l : LiesIn blocks (a.place info.name) info.name k = (keeps.known info.name).lies k e in
           subst (λ (p : Option Place). Keeps blocks known (learn_at a info p)) (sym l.lies)
           (by_test l.place (same_shape st w blocks are me info told l.place k l.block) (nat_lt l.place.moves info.place.moves))
         where
@@ -208,7 +198,7 @@ module _ (st : Setting) (w : World) (blocks : ℕ → Option Block) (are : AreBl
           by_test old shape false = keeps
           by_test old shape true = subst (λ (size : ℕ). Keeps blocks known (with_object (with_went a old.address info.place.address) info.name size info.place)) shape.1
               (object_keeps blocks known known (with_went a old.address info.place.address) info.name k info.place e (λ y f. refl)
-              (λ fields c. keeps.full info.name k fields e c)
+              ((keeps.known info.name).full k e)
               (told ∙ (λ i. Some (record { name = info.name; bunch = sym shape.0 i; size = sym shape.1 i; moves = info.place.moves })))
               (went_keeps blocks known a old.address info.place.address keeps))
 

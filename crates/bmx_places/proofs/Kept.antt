@@ -1,24 +1,24 @@
 -- What is kept along a legal history: a ledger to which all belongs, and that no letter was stray.
-use Rattle.bmx_store_laws.proofs.Words.{◌≡◌, ℕ, refl, ap, sym, subst, ◌∙◌, Bool, true, false, cond, List, [], ◌∷◌, map, ◌<◌, arith, drop, length, zero, suc, ◌⊎◌, inl, inr, ◌+◌, ◌≤◌, ◌++◌, ◌≢◌, ◌^◌, length-append, ◌*◌, nat_tests, length-map}
-use Rattle.bmx_store_laws.proofs.Words.{length-replicate, sum_by-append, div-mul-add, mod-mul-add, flat_map, option_map, option_map_or, Option, Some, None, is_some, unwrap_or, slice_get, ◌==◌, ◌&&◌, nat_lt, not, ◌||◌, nat_le, count_by}
-use Rattle.bmx_store_laws.proofs.Words.{filter}
+use Rattle.bmx_store_laws.proofs.Words.{◌≡◌, ℕ, refl, ap, sym, subst, ◌∙◌, Bool, true, false, cond, List, [], ◌∷◌, map, ◌<◌, arith, drop, length, zero, suc, ◌⊎◌, inl, inr, ◌+◌, ◌≤◌, ◌++◌, ◌≢◌, ◌^◌, length-append, ◌*◌, nat_tests, length-map, length-replicate}
+use Rattle.bmx_store_laws.proofs.Words.{sum_by-append, flat_map, option_map, option_map_or, Option, Some, None, is_some, unwrap_or, slice_get, ◌==◌, ◌&&◌, nat_lt, not, ◌||◌, nat_le, count_by, filter}
 use Rattle.bmx_store_laws.proofs.Words.{IsOpening, bunches_of, put, maker, count_of, Info, Place, Command, Write, Field, Letter, Msg, ReadGrant, WriteGrant}
 use Rattle.bmx_store_laws.proofs.Words.{Note, Grants, Serves, note_transition, Owner, IsShared, shared_run, IsSoundIf}
-use Rattle.bmx_store_laws.proofs.Words.{put_same, some_same, none_some, eqb_of, Every, at_each, every_append, after_append, Each, each_append, Knows, after_changes, Change, Sets, Hears, heard_of, after_change, in_flight, taken, issued}
-use Rattle.bmx_store_laws.proofs.Words.{arrived, IsNext, IsInputOf, Fits, AreAfter, IsLegal, Setting, NodeState, Known, share_of, Places, with_learnt, with_all_learnt, has_room, with_made, Reaction, next_name, new_object, only, name_in}
-use Rattle.bmx_store_laws.proofs.Words.{note_in, copy_after, took, heard_field, infos, known_change, got_change, Node, command_in, rule, letters_of, sent_changes, closed, IsStep, is_taken, finds_full, letter_in, nowhere, changes_of, is_nil}
-use Rattle.bmx_store_laws.proofs.Words.{made_places, MovesTo, some_clash, world_of, World, Event, Done, Input, Do, Serve, Take, NodeAnswer, Sending, ViewField}
-use Rattle.bmx_store_laws.proofs.Words.{slice_drop, NoGrants, GrantsNothing, note_grants, each_name, Came, came_after, FreeOf, seen_known, seen, first_world, IsCounted}
+use Rattle.bmx_store_laws.proofs.Words.{put_same, some_same, none_some, eqb_of, Every, at_each, every_append, after_append, Each, each_append, Knows, after_changes, with_step, Change, Sets, Hears, after_change, in_flight, taken, issued, arrived, IsNext}
+use Rattle.bmx_store_laws.proofs.Words.{IsInputOf, Fits, AreAfter, IsLegal, Setting, NodeState, Known, share_of, Places, with_learnt, with_all_learnt, has_room, with_made, Draft, Reaction, next_name, new_object, only, name_in, note_in, copy_after, took}
+use Rattle.bmx_store_laws.proofs.Words.{heard_field, infos, known_change, Node, command_in, rule, letters_of, sent_changes, closed, IsStep, is_taken, finds_full, letter_in, nowhere, changes_of, is_nil, made_places, MovesTo, some_clash, world_of, World, Event}
+use Rattle.bmx_store_laws.proofs.Words.{Input, Do, Serve, Take, NodeAnswer, ViewField}
+use Rattle.bmx_store_laws.proofs.Words.{slice_drop, put_each, heard_each, every_map, step_state, step_letters, step_answer, taking_each, numbered_each, GrantsNothing, note_grants, each_name, Came, came_after, maker_is, count_is, FreeOf, seen_known, seen}
+use Rattle.bmx_store_laws.proofs.Words.{first_world, IsCounted}
 use Rattle.bmx_store_laws.proofs.Words.command
 use Rattle.bmx_store_laws.proofs.Words.val
 use Rattle.bmx_store_laws.proofs.Words.answer
 use Rattle.bmx_store_laws.proofs.Words.field
-use Rattle.bmx_protocol.specs.Changes.{Makes, Takes}
+use Rattle.bmx_protocol.specs.Changes.{Makes}
 use Rattle.bmx_places.specs.Ledger.{Block, AreBlocks, block_of, LiesIn}
-use Rattle.bmx_places.proofs.Blocks.{every_map, IsTold, Keeps, hears_all, learnt_handed, same_shape, put_each, learnt_either}
-use Rattle.bmx_places.proofs.Making.{Grows, keeps_grown, IsLaterThan, blocks_later, IsHome, with_block, made_or_old, home_made, handed_more, made_grows, made_blocks, made_keeps}
-use Rattle.bmx_places.proofs.Outcomes.{AllOf, Belongs, Plain, changes_kept, IsRight, IsDraft, sent_plain, letters_sent, IsSent, NotStray, IsPlain, Comes, Plainly, New, act_plain, command_comes, known_plain, silent_drafts}
-use Rattle.bmx_places.proofs.Next.{Goes, IssuesRight, EachIssued, IsTakeable, next_is_takeable}
+use Rattle.bmx_places.proofs.Blocks.{IsTold, Keeps, learnt_handed, same_shape, learnt_either, hears_all}
+use Rattle.bmx_places.proofs.Making.{IsHome, home_made, made_grows, handed_more, IsLaterThan, with_block, made_keeps, Grows, r, blocks_later, made_or_old, made_blocks, keeps_grown}
+use Rattle.bmx_places.proofs.Next.{IssuesRight, IsTakeable, EachIssued, IsIssued, next_is_takeable, Goes}
+use Rattle.bmx_places.proofs.Outcomes.{AllOf, sent_plain, IsRight, known_plain, changes_kept, command_comes, Belongs, act_plain, IsDraft, silent_drafts, never_stray, Plainly, Plain, IsKnown, IsPlain, serve_not_stray, New, Comes}
 
 -- ## how many events there are
 
@@ -53,6 +53,9 @@ below_limit limit made room told none = grind (arith, nat_tests)
 
 -- ## what is kept
 
+abbrev pub NotStray : NodeAnswer → Type 0
+NotStray a = a ≢ answer.Stray
+
 pub record Kept (st : Setting) (past : List Event) (nodes : ℕ → Node) : Type 0 where
   pub blocks : ℕ → Option Block
   pub are : AreBlocks st (world_of nodes past) blocks
@@ -85,9 +88,6 @@ issued_grown blocks more grows = every_map (IssuesRight blocks) (IssuesRight mor
 records_grown : (blocks more : ℕ → Option Block) → Grows blocks more → (entering : _) → AllOf blocks entering → AllOf more entering
 records_grown blocks more grows entering all x m r e = (let of = all x m r e in record { address = of.address; block = of.block; there = grows of.address of.block of.there; named = of.named; of = of.of })
 
-stamped : (blocks : ℕ → Option Block) (stamp : ℕ) → stamp < 2 ^ 62 → (letters : List Sending) → Every (IsSent blocks stamp) letters → Every (Goes blocks) letters
-stamped blocks stamp small = every_map (IsSent blocks stamp) (Goes blocks) (λ l h. record { right = h.right; stamp = omega (arith, h.stamped, small) })
-
 -- changes only add to the names made
 made_more : (changes : List Change) (s : NodeState) → s.made ≤ (after_changes s changes).made
 made_more [] s = omega arith
@@ -104,11 +104,8 @@ hears_entering from (info ∷ more) s = hears_entering from more (after_change s
 
 hears_stays : (from : ℕ) (more : List Info) (s : NodeState) (x : ℕ) (k : Known) → s.known x ≡ Some k → (after_changes s (map (Hears from) more)).known x ≡ Some k
 hears_stays from [] s x k e = e
-hears_stays from (info ∷ more) s x k e = hears_stays from more (after_change s (Hears from info)) x k (by_known (s.known info.name) refl)
-  where
-    by_known : (j : Option Known) → s.known info.name ≡ j → cond (is_some j) s.known (put s.known info.name (Some (heard_of from info))) x ≡ Some k
-    by_known (Some j) f = e
-    by_known None f = put_each (λ y j. s.known y ≡ Some k → j ≡ Some k) s.known info.name (Some (heard_of from info)) (λ h. none_some (sym f ∙ h)) (λ y _ h. h) x e
+hears_stays from (info ∷ more) s x k e = hears_stays from more (after_change s (Hears from info)) x k
+    (heard_each (λ y j. s.known y ≡ Some k → j ≡ Some k) from s.known info (λ none h. none_some (sym none ∙ h)) (λ y h. h) x e)
 
 -- without stray letters those that came were taken
 all_taken : (past : List Event) → Every (λ (e : Event). NotStray e.done.answer) past → filter (λ (e : Event). is_taken e.done.answer) past ≡ past
@@ -161,7 +158,7 @@ module _ (st : Setting) (past : List Event) (nodes : ℕ → Node) (e : Event) (
     pub home : IsHome after.places
     pub keeps : Keeps more after.state.known after.places
     pub records : AllOf more after.state.entering
-    pub letters : Every (IsSent more e.stamp) e.done.letters
+    pub letters : IssuesRight more e
     pub answer : NotStray e.done.answer
 
   kept_again : (more : ℕ → Option Block) → IsKept more → Kept st (past ++ e ∷ []) (put nodes me after)
@@ -172,7 +169,7 @@ module _ (st : Setting) (past : List Event) (nodes : ℕ → Node) (e : Event) (
     homes = λ n. at_each (λ (z : Node). IsHome z.places) nodes me after k.home n (kept.homes n);
     keeps = λ n. at_each (λ (z : Node). Keeps more z.state.known z.places) nodes me after k.keeps n (keeps_grown kept.blocks more k.grows (nodes n).state.known (nodes n).places (kept.keeps n));
     records = λ n. at_each (λ (z : Node). AllOf more z.state.entering) nodes me after k.records n (records_grown kept.blocks more k.grows (nodes n).state.entering (kept.records n));
-    letters = every_append (IssuesRight more) past (e ∷ []) (issued_grown kept.blocks more k.grows past kept.letters) (stamped more e.stamp small_stamp e.done.letters k.letters, tt);
+    letters = every_append (IssuesRight more) past (e ∷ []) (issued_grown kept.blocks more k.grows past kept.letters) (k.letters, tt);
     answers = every_append (λ (f : Event). NotStray f.done.answer) past (e ∷ []) kept.answers (k.answer, tt);
     few = few_after;
     all = all_after;
@@ -182,56 +179,46 @@ module _ (st : Setting) (past : List Event) (nodes : ℕ → Node) (e : Event) (
 
   module _ (o : Reaction) (is : o ≡ rule st me s step.told e.input) where
     state_is : after.state ≡ closed e.stamp s o
-    state_is = step.state ∙ ap (closed e.stamp s) (sym is)
-
-    letters_are : e.done.letters ≡ letters_of e.stamp s o
-    letters_are = ap (λ (d : Done). d.letters) step.outcome ∙ ap (letters_of e.stamp s) (sym is)
+    state_is = step_state step o is
 
     answer_is : e.done.answer ≡ o.answer
-    answer_is = ap (λ (d : Done). d.answer) step.outcome ∙ ap (λ (p : Reaction). p.answer) (sym is)
-
-    known_is : after.state.known ≡ (after_changes s (changes_of e.stamp s o)).known
-    known_is = ap (λ (t : NodeState). t.known) state_is
-
-    entering_is : after.state.entering ≡ (after_changes s (changes_of e.stamp s o)).entering
-    entering_is = ap (λ (t : NodeState). t.entering) state_is
-
-    not_less : s.made ≤ after.state.made
-    not_less = omega (arith, made_more (changes_of e.stamp s o) s, ap (λ (t : NodeState). t.made) state_is)
+    answer_is = step_answer step o is
 
     later : ((n : ℕ) → here.places.handed n ≤ after.places.handed n) → IsLaterThan w v
     later handed = record {
       handed = λ n k. put_each (λ j z. (nodes j).places.handed k ≤ z.places.handed k) nodes me after (handed k) (λ j _. omega arith) n;
-      made = put_each (λ j z. (nodes j).state.made ≤ z.state.made) nodes me after not_less (λ j _. omega arith);
+      made = put_each (λ j z. (nodes j).state.made ≤ z.state.made) nodes me after
+          (omega (arith, made_more (changes_of e.stamp s o) s, ap (λ (t : NodeState). t.made) state_is)) (λ j _. omega arith);
     }
 
     -- after changes that begin with hearing of objects, and then are plain
-    module _ (a : Places) (places : after.places ≡ a) (handed : (n : ℕ) → a.handed n ≡ here.places.handed n) (home : IsHome a) (t : NodeState) (rest : List Change)
-        (goes : after_changes s (changes_of e.stamp s o) ≡ after_changes t rest) (plain : Each (Plain t.known) rest) (keeps : Keeps kept.blocks t.known a) (entering : t.entering ≡ s.entering)
-        (drafts : Every (IsDraft kept.blocks t.known) o.drafts) (right : NotStray o.answer) where
-      belongs : Belongs kept.blocks a t.known (after_changes t rest)
-      belongs = changes_kept kept.blocks a t.known rest plain t (record { keeps = keeps; records = subst (AllOf kept.blocks) (sym entering) (kept.records me); shapes = λ x. refl })
+    plainly : (a : Places) → after.places ≡ a → ((n : ℕ) → a.handed n ≡ here.places.handed n) → IsHome a → (t : NodeState) (rest : List Change) → after_changes s o.changes ≡ after_changes t rest →
+        Each (Plain t.known) rest → Keeps kept.blocks t.known a → t.entering ≡ s.entering → Every (IsDraft kept.blocks t.known) o.drafts → NotStray o.answer → Kept st (past ++ e ∷ []) (put nodes me after)
+    plainly a places handed home t rest goes plain keeps entering drafts right = kept_again kept.blocks (record {
+      grows = λ x b h. h;
+      are = blocks_later st w v kept.blocks (later (λ n. omega (arith, handed n, ap (λ (p : Places). p.handed n) places))) kept.are;
+      still = kept.still;
+      home = rw places home;
+      keeps = rw (places, leads) belongs.keeps;
+      records = rw leads belongs.records;
+      letters = subst (Every (Goes kept.blocks)) (sym (step_letters step o is)) (numbered_each (IsIssued kept.blocks) e.stamp o.drafts s.issued
+          (every_map (IsDraft kept.blocks t.known) (λ (d : Draft). (seq : ℕ) → IsIssued kept.blocks (record { seq = seq; stamp = e.stamp; msg = d.msg })) (λ d draft seq. record { right = draft.right; stamp = small_stamp }) o.drafts drafts));
+      answer = λ stray. right (sym answer_is ∙ stray);
+    })
+      where
+        sent : List Change
+        sent = flat_map sent_changes (letters_of e.stamp s o)
 
-      handed_same : (n : ℕ) → here.places.handed n ≤ after.places.handed n
-      handed_same n = omega (arith, handed n, ap (λ (p : Places). p.handed n) places)
+        leads : after.state ≡ with_step (after_changes t (rest ++ sent))
+        leads = state_is ∙ ap with_step (after_append s o.changes sent ∙ ap (λ (u : NodeState). after_changes u sent) goes ∙ sym (after_append t rest sent))
 
-      plainly : Kept st (past ++ e ∷ []) (put nodes me after)
-      plainly = kept_again kept.blocks (record {
-        grows = λ x b h. h;
-        are = blocks_later st w v kept.blocks (later handed_same) kept.are;
-        still = kept.still;
-        home = subst IsHome (sym places) home;
-        keeps = subst (Keeps kept.blocks after.state.known) (sym places) (subst (λ (k : ℕ → Option Known). Keeps kept.blocks k a) (sym (known_is ∙ ap (λ (u : NodeState). u.known) goes)) belongs.keeps);
-        records = subst (AllOf kept.blocks) (sym (entering_is ∙ ap (λ (u : NodeState). u.entering) goes)) belongs.records;
-        letters = subst (Every (IsSent kept.blocks e.stamp)) (sym letters_are) (letters_sent kept.blocks t.known o.drafts s.issued e.stamp drafts);
-        answer = λ stray. right (sym answer_is ∙ stray);
-      })
+        belongs : Belongs kept.blocks a t.known (after_changes t (rest ++ sent))
+        belongs = changes_kept kept.blocks a t.known (rest ++ sent) (each_append (Plain t.known) rest sent plain (sent_plain kept.blocks t.known o.drafts s.issued e.stamp drafts)) t
+            (record { keeps = keeps; records = rw entering (kept.records me); shapes = λ x. refl })
 
     -- plain changes alone
-    stays : IsPlain kept.blocks s.known o → after.places ≡ here.places → Kept st (past ++ e ∷ []) (put nodes me after)
-    stays p places = plainly here.places places (λ n. refl) (kept.homes me) s (changes_of e.stamp s o) refl
-        (each_append (Plain s.known) o.changes (flat_map sent_changes (letters_of e.stamp s o)) p.changes (sent_plain kept.blocks s.known o.drafts s.issued e.stamp p.drafts))
-        (kept.keeps me) refl p.drafts p.answer
+    stays : IsPlain kept.blocks s.known o → NotStray o.answer → after.places ≡ here.places → Kept st (past ++ e ∷ []) (put nodes me after)
+    stays p right places = plainly here.places places (λ n. refl) (kept.homes me) s o.changes refl p.changes (kept.keeps me) refl p.drafts right
 
   -- ## what rules are told
 
@@ -259,15 +246,13 @@ module _ (st : Setting) (past : List Event) (nodes : ℕ → Node) (e : Event) (
     of_store = subst (IsInputOf st) is fits.an_input
 
     enough : s.made + 1 < 2 ^ 56
-    enough =
-        let some : s.made ≤ 320000 + steps_of me past = (came x).few me in
-        omega (arith, some, fits.few)
+    enough = (let some : s.made ≤ 320000 + steps_of me past = (came x).few me in omega (arith, some, fits.few))
 
-    maker_is : maker x ≡ me
-    maker_is = div-mul-add me (2 ^ 56) (s.made + 1) enough
+    by_me : maker x ≡ me
+    by_me = maker_is me (s.made + 1) enough
 
-    count_is : count_of x ≡ s.made + 1
-    count_is = mod-mul-add me (2 ^ 56) (s.made + 1) enough
+    number : count_of x ≡ s.made + 1
+    number = count_is me (s.made + 1) enough
 
     room : has_room here.places (here.places.opened bunch) (4 + size) ≡ false → here.places.made < 6000000
     room none = (let less : here.places.made < st.limit = below_limit st.limit here.places.made _ told none in omega (arith, less, opening.few_segments))
@@ -277,7 +262,7 @@ module _ (st : Setting) (past : List Event) (nodes : ℕ → Node) (e : Event) (
 
     places_are : after.places ≡ with_made me here.places x bunch size
     places_are = subst (λ (i : Input). MovesTo me here step.told i e.done.answer after.places) is step.places
-        ∙ ap (λ (y : NodeAnswer). cond (is_nil y) (with_made me here.places x bunch size) here.places) (answer_is o from_rule ∙ ap (λ (p : Reaction). p.answer) makes)
+        ∙ ap (λ (y : NodeAnswer). cond (is_nil y) (with_made me here.places x bunch size) here.places) (step_answer step o from_rule ∙ ap (λ (p : Reaction). p.answer) makes)
 
     state_then : after.state ≡ closed e.stamp s (record { changes = Knows (next_name me s) (new_object bunch size) ∷ Sets register (val.Ref (next_name me s)) ∷ Makes ∷ []; drafts = []; answer = answer.Nil })
     state_then = state_is o from_rule ∙ ap (closed e.stamp s) makes
@@ -287,16 +272,16 @@ module _ (st : Setting) (past : List Event) (nodes : ℕ → Node) (e : Event) (
 
     counted : IsCounted st v x
     counted = record {
-      by_a_node = omega (arith, maker_is, fits.a_node);
-      from_one = omega (arith, count_is);
-      made = (let now : (put nodes me after (maker x)).state.made ≡ s.made + 1 = ap (λ (z : Node). z.state.made) (λ i. cond (eqb_of (sym maker_is) i) after (nodes (maker x))) ∙ made_then in omega (arith, now, count_is));
+      by_a_node = omega (arith, by_me, fits.a_node);
+      from_one = omega (arith, number);
+      made = (let now : (put nodes me after (maker x)).state.made ≡ s.made + 1 = ap (λ (z : Node). z.state.made) (λ i. cond (eqb_of (sym by_me) i) after (nodes (maker x))) ∙ made_then in omega (arith, now, number));
     }
 
     unnamed : (c : ℕ) (b : Block) → kept.blocks c ≡ Some b → b.name ≢ x
     unnamed c b there named =
         let old : count_of b.name ≤ (nodes (maker b.name)).state.made = (kept.are.each c b there).counted.made in
-        let same : (nodes (maker b.name)).state.made ≡ s.made = ap (λ (z : ℕ). (nodes z).state.made) (ap maker named ∙ maker_is) in
-        let count : count_of b.name ≡ s.made + 1 = ap count_of named ∙ count_is in
+        let same : (nodes (maker b.name)).state.made ≡ s.made = ap (λ (z : ℕ). (nodes z).state.made) (ap maker named ∙ by_me) in
+        let count : count_of b.name ≡ s.made + 1 = ap count_of named ∙ number in
         absurd (omega arith)
 
     handed_then : (n : ℕ) → here.places.handed n ≤ after.places.handed n
@@ -326,7 +311,7 @@ module _ (st : Setting) (past : List Event) (nodes : ℕ → Node) (e : Event) (
       keeps = subst (Keeps more after.state.known) (sym places_are) (subst (λ (f : ℕ → Option Known). Keeps more f (with_made me here.places x bunch size)) (sym (ap (λ (t : NodeState). t.known) state_then))
           (made_keeps st w v kept.blocks kept.are me s.known x k (kept.homes me) of_store.2 room then_later fits.a_node handed_is of_store.1 counted unnamed (kept.keeps me) replicate_full));
       records = subst (AllOf more) (sym (ap (λ (t : NodeState). t.entering) state_then)) (records_grown kept.blocks more grown s.entering (kept.records me));
-      letters = subst (Every (IsSent more e.stamp)) (sym (letters_are o from_rule ∙ ap (letters_of e.stamp s) makes)) tt;
+      letters = subst (Every (Goes more)) (sym (step_letters step o from_rule ∙ ap (letters_of e.stamp s) makes)) tt;
       answer = λ stray. (let both : answer.Nil ≡ answer.Stray = sym (ap (λ (p : Reaction). p.answer) makes) ∙ sym (answer_is o from_rule) ∙ stray in cc);
     })
       where
@@ -342,10 +327,12 @@ module _ (st : Setting) (past : List Event) (nodes : ℕ → Node) (e : Event) (
   by_command : (c : Command) → e.input ≡ Do c → Comes kept.blocks me s step.told.full c (rule st me s step.told (Do c)) → Kept st (past ++ e ∷ []) (put nodes me after)
   by_command c is (New register bunch size same full makes) =
       new_kept register bunch size (is ∙ ap (λ (d : Command). Do d) same) full (rule st me s step.told (Do c)) (ap (rule st me s step.told) (sym is)) makes
-  by_command c is (Plainly p none) = stays (rule st me s step.told (Do c)) (ap (rule st me s step.told) (sym is)) p
+  by_command c is (Plainly p none) = stays (rule st me s step.told (Do c)) ruled p (never_stray me s step.told.full step.told.lies c)
       (subst (λ (i : Input). MovesTo me here step.told i e.done.answer after.places) is step.places
-      ∙ ap (λ (y : NodeAnswer). cond (is_nil y) (made_places me here c) here.places) (answer_is (rule st me s step.told (Do c)) (ap (rule st me s step.told) (sym is)))
-      ∙ none here)
+      ∙ ap (λ (y : NodeAnswer). cond (is_nil y) (made_places me here c) here.places) (step_answer step (rule st me s step.told (Do c)) ruled) ∙ none here)
+    where
+      ruled : rule st me s step.told (Do c) ≡ rule st me s step.told e.input
+      ruled = ap (rule st me s step.told) (sym is)
 
   -- ## a letter
 
@@ -385,41 +372,30 @@ module _ (st : Setting) (past : List Event) (nodes : ℕ → Node) (e : Event) (
     heard : (some_clash me from s.known here.places (infos m) ≡ false) × Keeps kept.blocks t.known learnt
     heard = hears_all st w kept.blocks kept.are me from (infos m) s here.places takeable.issued.right.told (kept.keeps me) (λ n. refl)
 
-    abbrev known_changes : List Change
-    known_changes = known_change (name_in m) (s.known (name_in m)) (copy_after m (s.known (name_in m))) takeable.turn.after
-
-    abbrev got_changes : List Change
-    got_changes = got_change from l.seq (name_in m) (note_in m)
-
     -- the copy that it brings, or that there was, is whole
     brought : (info : Info) (told : List Field) → IsTold kept.blocks info → length told ≡ info.size → (k : Known) → s.known info.name ≡ Some k →
         (fields : List ViewField) → Some (map heard_field told) ≡ Some fields → length fields ≡ k.size
     brought info told of size k known fields e =
-        let at : LiesIn kept.blocks (here.places.place info.name) info.name k = (kept.keeps me).entries info.name k known in
+        let at : LiesIn kept.blocks (here.places.place info.name) info.name k = ((kept.keeps me).known info.name).lies k known in
         ap length (sym (some_same e)) ∙ length-map told heard_field ∙ size ∙ sym (same_shape st w kept.blocks kept.are me info of at.place k at.block).1
 
     copy_full : (m : Msg) → IsRight kept.blocks m → (k : Known) → s.known (name_in m) ≡ Some k → (fields : List ViewField) → copy_after m (Some k) ≡ Some fields → length fields ≡ k.size
     copy_full (ReadGrant info told) right k known fields c = brought info told right.told.0 (right.full (info, told) refl) k known fields c
     copy_full (WriteGrant info told) right k known fields c = brought info told right.told.0 (right.full (info, told) refl) k known fields c
-    copy_full m right k known fields c = (kept.keeps me).full (name_in m) k fields known c
+    copy_full m right k known fields c = ((kept.keeps me).known (name_in m)).full k known fields c
 
     known_plainly : (k : Option Known) → s.known (name_in m) ≡ k → Each (Plain t.known) (known_change (name_in m) k (copy_after m k) takeable.turn.after)
     known_plainly None e = tt
     known_plainly (Some k) e = known_plain t.known (name_in m) k (copy_after m (Some k)) takeable.turn.after (hears_stays from (infos m) s (name_in m) k e) (copy_full m takeable.issued.right k e)
 
-    got_plainly : (n : Note) (k : Option Known) → s.known (name_in m) ≡ k → note_transition me from n (option_map share_of k) ≡ Some takeable.turn → Each (Plain t.known) (got_change from l.seq (name_in m) n)
-    got_plainly (Grants Write) None e turns = none_some turns
-    got_plainly (Grants Write) (Some k) e turns = ((k, hears_stays from (infos m) s (name_in m) k e), tt)
-    got_plainly _ k e turns = tt
-
-    silent : NoGrants takeable.turn.sends
-    silent = subst GrantsNothing takeable.turns (note_grants me from (note_in m) (option_map share_of (s.known (name_in m))))
+    -- what is handed over is known
+    handed_over : (n : Note) (k : Option Known) → s.known (name_in m) ≡ k → note_transition me from n (option_map share_of k) ≡ Some takeable.turn → n ≡ Grants Write → IsKnown t.known (name_in m)
+    handed_over n None e turns is = none_some (sym (ap (λ (j : Note). note_transition me from j None) is) ∙ turns)
+    handed_over n (Some k) e turns is = (k, hears_stays from (infos m) s (name_in m) k e)
 
     drafts : Every (IsDraft kept.blocks t.known) o.drafts
-    drafts = silent_drafts kept.blocks t.known s step.told.lies (name_in m) takeable.turn.sends silent
-
-    abbrev others : List Change
-    others = known_changes ++ (got_changes ++ Takes from ∷ [])
+    drafts = silent_drafts kept.blocks t.known s step.told.lies (name_in m) takeable.turn.sends
+        (subst GrantsNothing takeable.turns (note_grants me from (note_in m) (option_map share_of (s.known (name_in m)))))
 
     -- what learning keeps, learning all keeps
     all_learnt : (P : Places → Type 0) → ((a : Places) (info : Info) → P a → P (with_learnt a info)) → (more : List Info) (a : Places) → P a → P (with_all_learnt a more)
@@ -428,26 +404,17 @@ module _ (st : Setting) (past : List Event) (nodes : ℕ → Node) (e : Event) (
 
     take_kept : Kept st (past ++ e ∷ []) (put nodes me after)
     take_kept = plainly o takes learnt
-        (subst (λ (i : Input). MovesTo me here step.told i e.done.answer after.places) is step.places
-        ∙ ap (λ (y : NodeAnswer). cond (is_taken y) learnt here.places) (answer_is o takes))
-        (λ n. all_learnt (λ b. b.handed n ≡ here.places.handed n) (λ b info h. ap (λ (f : ℕ → ℕ). f n) (learnt_handed b info) ∙ h) (infos m) here.places refl) home t (others ++ flat_map sent_changes (letters_of e.stamp s o))
-        (after_append s o.changes (flat_map sent_changes (letters_of e.stamp s o))
-        ∙ ap (λ (u : NodeState). after_changes u (flat_map sent_changes (letters_of e.stamp s o))) (after_append s (map (Hears from) (infos m)) others)
-        ∙ sym (after_append t others (flat_map sent_changes (letters_of e.stamp s o))))
-        (each_append (Plain t.known) others (flat_map sent_changes (letters_of e.stamp s o))
-        (each_append (Plain t.known) known_changes (got_changes ++ Takes from ∷ []) (known_plainly (s.known (name_in m)) refl)
-        (each_append (Plain t.known) got_changes (Takes from ∷ []) (got_plainly (note_in m) (s.known (name_in m)) refl takeable.turns) (tt, tt)))
-        (sent_plain kept.blocks t.known o.drafts s.issued e.stamp drafts))
+        (subst (λ (i : Input). MovesTo me here step.told i e.done.answer after.places) is step.places ∙ ap (λ (y : NodeAnswer). cond (is_taken y) learnt here.places) (answer_is o takes))
+        (λ n. all_learnt (λ b. b.handed n ≡ here.places.handed n) (λ b info h. ap (λ (f : ℕ → ℕ). f n) (learnt_handed b info) ∙ h) (infos m) here.places refl)
+        (all_learnt IsHome (λ a info h. learnt_either IsHome a info h (λ header. record { opened = h.opened; above = h.above; within = h.within; few = h.few })) (infos m) here.places (kept.homes me))
+        t _ (after_append s (map (Hears from) (infos m)) _)
+        (taking_each (Plain t.known) from l.seq (name_in m) (note_in m) _ (known_plainly (s.known (name_in m)) refl) (handed_over (note_in m) (s.known (name_in m)) refl takeable.turns) tt)
         heard.1 (hears_entering from (infos m) s) drafts (λ h. cc)
-      where
-        home : IsHome learnt
-        home = all_learnt IsHome (λ a info h. learnt_either IsHome a info h (λ header. record { opened = h.opened; above = h.above; within = h.within; few = h.few }))
-            (infos m) here.places (kept.homes me)
 
   by_input : (i : Input) → e.input ≡ i → Kept st (past ++ e ∷ []) (put nodes me after)
   by_input (Do c) is = by_command c is (command_comes kept.blocks me s here.places step.told.full step.told.lies (kept.keeps me) lies_at aware owners c)
   by_input (Serve name) is = stays (rule st me s step.told (Serve name)) (ap (rule st me s step.told) (sym is))
-      (act_plain kept.blocks me s here.places step.told.full step.told.lies (kept.keeps me) lies_at aware owners Serves answer.Idle (λ h. cc) name (s.known name) refl)
+      (act_plain kept.blocks me s here.places step.told.full step.told.lies (kept.keeps me) lies_at aware owners Serves answer.Idle name (s.known name) refl) (serve_not_stray me s step.told.lies name)
       (subst (λ (i : Input). MovesTo me here step.told i e.done.answer after.places) is step.places)
   by_input (Take from l) is = take_kept from l is
 

@@ -2,9 +2,9 @@
 use Rattle.bmx_store_laws.proofs.Words.{◌≡◌, ℕ, refl, ap, sym, subst, ◌∙◌, Bool, true, false, cond, List, ◌<◌, arith, length, ◌⊎◌, inl, inr, ◌+◌, ◌≤◌, ◌≢◌, leb-true, nat_tests, Option, Some, None, nat_le}
 use Rattle.bmx_store_laws.proofs.Words.{bunches_of, put, maker, address_word, home_of, segment_of, index_of, Place}
 use Rattle.bmx_store_laws.proofs.Words.{put_same, some_same, put_apart, Setting, Known, Places, Header, overlaps, has_room, with_made, with_segment, with_room, with_placed, World, ViewField}
-use Rattle.bmx_store_laws.proofs.Words.{IsCounted}
+use Rattle.bmx_store_laws.proofs.Words.{put_each, IsCounted}
 use Rattle.bmx_places.specs.Ledger.{Block, IsBlock, AreBlocks, LiesIn, Heads}
-use Rattle.bmx_places.proofs.Blocks.{parts_again, KeepsAt, Keeps, object_keeps, put_each}
+use Rattle.bmx_places.proofs.Blocks.{Keeps, parts_again, KeepsAt, object_keeps}
 
 -- ## ledgers that grow
 
@@ -17,10 +17,8 @@ lies_grown blocks more grows at x k l = record { place = l.place; lies = l.lies;
 
 pub keeps_grown : (blocks more : ℕ → Option Block) → Grows blocks more → (known : ℕ → Option Known) (a : Places) → Keeps blocks known a → Keeps more known a
 keeps_grown blocks more grows known a keeps = record {
-  entries = λ x k e. lies_grown blocks more grows (a.place x) x k (keeps.entries x k e);
-  unplaced = keeps.unplaced;
+  known = λ x. record { lies = λ k e. lies_grown blocks more grows (a.place x) x k ((keeps.known x).lies k e); unplaced = (keeps.known x).unplaced; full = (keeps.known x).full };
   headers = λ address h e. (let of : Heads blocks address h = keeps.headers address h e in record { block = of.block; there = grows _ _ of.there; named = of.named; sized = of.sized });
-  full = keeps.full;
 }
 
 -- a world in which as much was handed out and made, or more

@@ -1,15 +1,15 @@
 -- The first letter in flight between two nodes is taken: nothing that makes a letter stray can be said of it.
-use Rattle.bmx_store_laws.proofs.Words.{◌≡◌, ℕ, refl, ap, sym, subst, ◌∙◌, Bool, true, false, cond, List, [], ◌∷◌, map, ◌<◌, arith, drop, length, zero, suc, ◌+◌, ◌≤◌, ◌++◌, ◌≢◌, ◌^◌, ltb-true, ltb-false, nat_tests, sum_by-cons, list_any}
-use Rattle.bmx_store_laws.proofs.Words.{option_map, option_map_or, Option, Some, None, slice_get, ◌==◌, ◌&&◌, nat_lt, not, ◌||◌, Contains, IsSome}
+use Rattle.bmx_store_laws.proofs.Words.{◌≡◌, ℕ, refl, ap, sym, subst, ◌∙◌, Bool, true, false, cond, List, [], ◌∷◌, map, ◌<◌, arith, drop, length, zero, suc, ◌+◌, ◌≤◌, ◌≢◌, ◌^◌, ltb-true, ltb-false, nat_tests, sum_by-cons, list_any, option_map, option_map_or}
+use Rattle.bmx_store_laws.proofs.Words.{Option, Some, None, slice_get, ◌==◌, ◌&&◌, nat_lt, not, ◌||◌, IsSome}
 use Rattle.bmx_store_laws.proofs.Words.{IsOpening, bunches_of, maker, count_of, home_of, Info, Mode, Read, Write, Field, Letter, Msg, ReadReq, WriteReq}
 use Rattle.bmx_store_laws.proofs.Words.{Note, Asks, Transition, note_transition, is_request_of, nobody_asks_itself, NoneIsStray, IsApart, hears, said_transition, letter_transition}
-use Rattle.bmx_store_laws.proofs.Words.{eqb_same, some_same, none_some, eqb_of, Every, every_append, in_flight, taken, letters_to, issued, AreAfter, IsLegal, Setting, NodeState, share_of, grant_in, name_in, note_in, infos, Node}
-use Rattle.bmx_store_laws.proofs.Words.{is_no_node, is_bad_msg, is_bad_letter, some_clash, is_no_name, is_bad_info, asker_in, world_of, World, Event, Sending}
-use Rattle.bmx_store_laws.proofs.Words.{numbered_at, each_name, Came, came_after, wants_stand_once, names_are_counted, seen_known, seen, seen_message, first_world, Asked, letters_about, times_at, IsCounted}
+use Rattle.bmx_store_laws.proofs.Words.{eqb_same, some_same, none_some, eqb_of, Every, every_append, in_flight, taken, letters_to, issued, AreAfter, IsLegal, Setting, NodeState, share_of, grant_in, knows, name_in, note_in, infos, Node, is_no_node, is_bad_msg}
+use Rattle.bmx_store_laws.proofs.Words.{is_bad_letter, some_clash, is_no_name, is_bad_info, asker_in, world_of, World, Event, Sending}
+use Rattle.bmx_store_laws.proofs.Words.{numbered_at, either, first_there, issued_to, each_name, Came, came_after, wants_stand_once, names_are_counted, seen_known, seen, seen_message, first_world, Asked, letters_about, times_at, IsCounted}
 use Rattle.bmx_token_model.proofs.Stated.{no_letter_is_stray}
 use Rattle.bmx_protocol.specs.Worlds.{Between}
 use Rattle.bmx_places.specs.Ledger.{Block, IsBlock, AreBlocks, block_of}
-use Rattle.bmx_places.proofs.Blocks.{IsTold, Keeps, hears_all}
+use Rattle.bmx_places.proofs.Blocks.{Keeps, hears_all, IsTold}
 use Rattle.bmx_places.proofs.Outcomes.{IsRight}
 
 -- ## letters of a history
@@ -34,30 +34,16 @@ every_at P [] i x h e = none_some e
 every_at P (y ∷ a) zero x h e = subst P (some_same e) h.0
 every_at P (y ∷ a) (suc i) x h e = every_at P a i x h.1 e
 
-issued_to : (P : Letter → Type 0) (m : ℕ) (letters : List Sending) → Every (λ (l : Sending). P l.letter) letters → Every P (letters_to m letters)
-issued_to P m [] h = tt
-issued_to P m (l ∷ letters) h = by_test (l.to == m) (issued_to P m letters h.1)
-  where
-    by_test : (b : Bool) → Every P (letters_to m letters) → Every P (cond b (l.letter ∷ letters_to m letters) (letters_to m letters))
-    by_test true rest = (h.0, rest)
-    by_test false rest = rest
-
 pub all_issued : (P : Letter → Type 0) (n m : ℕ) (past : List Event) → Every (λ (e : Event). Every (λ (l : Sending). P l.letter) e.done.letters) past → Every P (issued n m past)
 all_issued P n m [] h = tt
-all_issued P n m (e ∷ past) h = by_test (e.node == n) (all_issued P n m past h.1)
-  where
-    by_test : (b : Bool) → Every P (issued n m past) → Every P (cond b (letters_to m e.done.letters ++ issued n m past) (issued n m past))
-    by_test true rest = every_append P (letters_to m e.done.letters) (issued n m past) (issued_to P m e.done.letters h.0) rest
-    by_test false rest = rest
+all_issued P n m (e ∷ past) h = (let rest : Every P (issued n m past) = all_issued P n m past h.1 in
+    either (Every P) (e.node == n) _ _ (λ _. every_append P (letters_to m e.done.letters) (issued n m past) (issued_to P m e.done.letters h.0) rest) (λ _. rest))
 
 drop_get : {A : Type 0} (xs : List A) (i : ℕ) (x : A) (rest : List A) → drop i xs ≡ x ∷ rest → slice_get xs i ≡ Some x
 drop_get (y ∷ xs) zero x rest e = (let same : y ≡ x = cc in ap (λ z. Some z) same)
 drop_get (y ∷ xs) (suc i) x rest e = drop_get xs i x rest e
 drop_get [] zero x rest e = absurd cc
 drop_get [] (suc i) x rest e = absurd cc
-
-first_there : {A : Type 0} (xs : List A) (x : A) (rest : List A) → xs ≡ x ∷ rest → Contains xs x
-first_there xs x rest e = subst (λ ys. Contains ys x) (sym e) (0, omega arith, refl)
 
 -- ## numbers
 

@@ -1,27 +1,22 @@
 -- The ledger that a store opens with: the blocks of its births, in the order in which they are placed.
-use Rattle.bmx_store_laws.proofs.Words.{◌≡◌, ℕ, refl, ap, sym, subst, ◌∙◌, Bool, true, false, cond, List, [], ◌∷◌, ◌<◌, arith, length, zero, suc, ◌⊎◌, inl, inr, ◌+◌, ◌≤◌, ◌≢◌, ◌^◌, length-append, ◌*◌, length-map, length-filter_both}
-use Rattle.bmx_store_laws.proofs.Words.{option_map, Option, Some, None, unwrap_or, slice_get, ◌==◌, ◌&&◌, nat_lt, not, filter}
+use Rattle.bmx_store_laws.proofs.Words.{◌≡◌, ℕ, refl, ap, sym, subst, ◌∙◌, Bool, true, false, cond, List, [], ◌∷◌, ◌<◌, arith, length, zero, suc, ◌⊎◌, inl, inr, ◌+◌, ◌≤◌, ◌≢◌, ◌^◌, length-append, ◌*◌, length-map, length-filter_both, option_map, Option, Some}
+use Rattle.bmx_store_laws.proofs.Words.{None, unwrap_or, slice_get, ◌==◌, ◌&&◌, nat_lt, not, filter}
 use Rattle.bmx_store_laws.proofs.Words.{IsOpening, bunches_of, put, maker, count_of, Info, Place, Birth, blank, Record}
-use Rattle.bmx_store_laws.proofs.Words.{put_same, some_same, none_some, put_apart, eqb_apart, Every, In, Distinct, every_in, every_of, in_contains, found, numbered_above, in_bunches, of_bunches, all_bunches, distinct_bunches, learns}
-use Rattle.bmx_store_laws.proofs.Words.{learns_in, distinct, ordered, known_first, anchors, anchors_of, known_told, Setting, Known, first_known, birth_of, is_anchor, owned_birth, heard_birth, field_of, first_entering, Places, has_room}
-use Rattle.bmx_store_laws.proofs.Words.{with_made, with_segment, with_placed, no_places, with_births, by_bunch, owner_places, told_place, with_told, first_node, nowhere, clashes, world_of, World}
+use Rattle.bmx_store_laws.proofs.Words.{put_same, some_same, none_some, put_apart, eqb_apart, Every, In, Distinct, every_in, every_of, in_contains, found, numbered_above, in_bunches, of_bunches, all_bunches, distinct_bunches, learns, learns_in, distinct}
+use Rattle.bmx_store_laws.proofs.Words.{ordered, known_first, anchors, anchors_of, known_told, Setting, Known, first_known, birth_of, is_anchor, owned_birth, heard_birth, field_of, first_entering, Places, has_room, with_made, with_segment, with_placed}
+use Rattle.bmx_store_laws.proofs.Words.{no_places, with_births, by_bunch, owner_places, told_place, with_told, first_node, nowhere, clashes, world_of, World}
 use Rattle.bmx_store_laws.proofs.Words.{IsCounted}
 use Rattle.bmx_places.specs.Ledger.{Block, AreBlocks, block_at, LiesIn, IsOf, block_of}
-use Rattle.bmx_places.proofs.Blocks.{Keeps, object_keeps, no_clash}
-use Rattle.bmx_places.proofs.Making.{IsLaterThan, blocks_later, IsHome, with_block, made_or_old, home_made, handed_more, made_blocks, made_keeps}
-use Rattle.bmx_places.proofs.Outcomes.{AllOf}
+use Rattle.bmx_places.proofs.Blocks.{no_clash, object_keeps, none_keeps, Keeps}
 use Rattle.bmx_places.proofs.Kept.{Kept, none_yet}
+use Rattle.bmx_places.proofs.Making.{blocks_later, made_or_old, made_blocks, IsHome, IsLaterThan, made_keeps, with_block, r, handed_more, home_made}
+use Rattle.bmx_places.proofs.Outcomes.{AllOf}
 
 no_home : IsHome no_places
 no_home = record { opened = λ b s e. none_some e; above = λ s h. refl; within = λ s. omega arith; few = omega arith }
 
 no_keeps : (blocks : ℕ → Option Block) (known : ℕ → Option Known) → ((x : ℕ) → known x ≡ None) → Keeps blocks known no_places
-no_keeps blocks known none = record {
-  entries = λ x k e. none_some (sym (none x) ∙ e);
-  unplaced = λ x e. refl;
-  headers = λ address h e. none_some e;
-  full = λ x k fields e c. none_some (sym (none x) ∙ e);
-}
+no_keeps blocks known none = record { known = λ x. rw (none x) (none_keeps blocks x); headers = λ address h e. none_some e }
 
 -- where nothing is handed out no less is handed out
 handed_by : (a b c : Places) (s : ℕ) (t : Bool) → a.handed s ≤ b.handed s → (cond t a no_places).handed s ≤ (cond t b c).handed s
@@ -160,7 +155,7 @@ module _ (st : Setting) (opening : IsOpening st.nodes st.limit st.births) where
 
   -- where an object lies at node 0
   lies_there : (b : Birth) → In b st.births → LiesIn placed.blocks (owned.place b.name) b.name (owned_birth b)
-  lies_there b there = placed.keeps.entries b.name (owned_birth b)
+  lies_there b there = (placed.keeps.known b.name).lies (owned_birth b)
       (learns_in owned_birth (ordered st opening) (λ x. None) b (distinct_bunches st.births (distinct st opening) (bunches_of st.births)) (all_bunches st.births (bunches_of st.births) b there (in_bunches st.births b there)))
 
   pub lies_somewhere : (b : Birth) → In b st.births → owned.place b.name ≡ Some (unwrap_or (owned.place b.name) nowhere)
