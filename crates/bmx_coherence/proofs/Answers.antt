@@ -1,12 +1,11 @@
 -- What a node answers a command the graph may answer, and what the command changes at the node it changes in the graph.
-use Rattle.bmx_store_laws.proofs.Words.{◌≡◌, ℕ, refl, ap, sym, subst, ◌∙◌, Bool, true, false, cond, List, [], ◌∷◌, map, arith, ◌⊎◌, inl, inr, ◌≢◌, option_map, option_map_or, Option, Some, None, is_some, unwrap_or, ◌==◌}
+use Rattle.bmx_store_laws.proofs.Words.{◌≡◌, ℕ, refl, ap, sym, subst, ◌∙◌, Bool, true, false, cond, List, [], ◌∷◌, map, arith, ◌⊎◌, inl, inr, ◌≢◌, option_map, Option, Some, None, is_some, unwrap_or, ◌==◌, IfSome}
 use Rattle.bmx_store_laws.proofs.Words.{Place, Command, Operand, Refusal, Mode, Read, Write, Val}
-use Rattle.bmx_store_laws.proofs.Words.{is_excluded, State, fields_of, value_of, target_of, read_answer, write_answer, done_answer, answer_of, holding, changed, state_after, MayAnswer, IsAnswer, effect_after, other_writes, other_holds, Answer, Effect, Nothing}
-use Rattle.bmx_store_laws.proofs.Words.{MakesOne, Holds}
+use Rattle.bmx_store_laws.proofs.Words.{is_excluded, State, fields_of, value_of, target_of, done_answer, answer_of, holding, changed, state_after, MayAnswer, IsAnswer, effect_after, Answer, Effect, Nothing, MakesOne, Holds}
 use Rattle.bmx_store_laws.proofs.Words.{acquire, release, Share, Note, Asks, Grants, Send, Operation, Acquires, Releases, saying, transition_of, Returns, acquired, released, with_token, without_copy, send, Acquire, Release, Part, is_grant}
 use Rattle.bmx_store_laws.proofs.Words.{eqb_same, put_same, some_same, none_some, put_apart, put_at_row, Every, Knows, after_changes, is_wait, IsOperandOf, IsCommandOf, IsAgain, Setting, NodeState, Known, fields_known, value_in, seen_graph, share_of, Draft}
 use Rattle.bmx_store_laws.proofs.Words.{Reaction, refused, message, drafts_of, info_of, told_fields, grant_in, with_share, operation_answer, after_operation, operation_rule, next_name, new_object, graph_changes, token_rule, knows, command_rule, about}
-use Rattle.bmx_store_laws.proofs.Words.{acquire_answer, release_answer, Do, NodeAnswer}
+use Rattle.bmx_store_laws.proofs.Words.{acquire_answer, release_answer, Done, Do, NodeAnswer}
 use Rattle.bmx_store_laws.proofs.Words.{some_is, either, put_each, NoGrants}
 use Rattle.bmx_store_laws.proofs.Words.command
 use Rattle.bmx_store_laws.proofs.Words.refusal
@@ -16,9 +15,8 @@ use Rattle.bmx_store_laws.proofs.Words.release_is
 use Rattle.bmx_store_laws.proofs.Words.answer
 use Rattle.bmx_coherence.specs.Graphs.{graph_answer}
 use Rattle.bmx_coherence.specs.Waits.{taking}
-use Rattle.std.specs.Prelude.{IfSome}
-use Rattle.bmx_coherence.proofs.Parts.{IsPart, known_of, fields_kept, wants, wanted_at, waiting_token, IsOwnStore, held_of, IsWaiting, seen_value, FitsAt, taken_at, effect_part, nothing, waited, seen_target, want_of, fits_else, IsReadyFor}
-use Rattle.bmx_coherence.proofs.Transitions.{acquiring, Given, releasing, Taken}
+use Rattle.bmx_coherence.proofs.Parts.{fields_kept, taken_at, seen_target, seen_value, waited, fits_else, effect_part, IsPart, known_of, wanted_at, waiting_token, wants, FitsAt, IsWaiting, IsReadyFor, want_of, held_of, IsOwnStore, nothing}
+use Rattle.bmx_coherence.proofs.Transitions.{Given, acquiring, releasing, Taken}
 
 -- no message grants
 abbrev pub Ungranting : List Draft → Type 0
@@ -126,6 +124,31 @@ abbrev takes : Mode → Operand → Command
 takes Read on = command.Read on
 takes Write on = command.Write on
 
+-- what a node may answer who takes a token, or gives it back
+taken_answer : (g : State) (me : ℕ) (m : Mode) (on : Operand) (x : ℕ) (b : Bool) → target_of g me on ≡ Some x → g.held me x ≡ None → is_excluded m g me x ≡ b → answer_of g me (takes m on) ≡ cond b graph.Wait graph.Nil
+taken_answer g me m on x b is free kept = grind arith
+
+wait_may : (m : Mode) (on : Operand) (b : Bool) → MayAnswer (takes m on) (cond b graph.Wait graph.Nil) graph.Wait
+wait_may m on b = grind arith
+
+wait_fits : (g : State) (me : ℕ) (m : Mode) (on : Operand) (x : ℕ) → target_of g me on ≡ Some x → g.held me x ≡ None → IsAnswer g me (takes m on) graph.Wait
+wait_fits g me m on x is free = rw (taken_answer g me m on x (is_excluded m g me x) is free refl) (wait_may m on (is_excluded m g me x))
+
+hold_fits : (g : State) (me : ℕ) (m : Mode) (on : Operand) (x : ℕ) → target_of g me on ≡ Some x → g.held me x ≡ None → is_excluded m g me x ≡ false → IsAnswer g me (takes m on) graph.Nil
+hold_fits g me m on x is free alone = grind arith
+
+held_fits : (g : State) (me : ℕ) (m : Mode) (on : Operand) (x : ℕ) → target_of g me on ≡ Some x → is_some (g.held me x) ≡ true → IsAnswer g me (takes m on) (graph.Refused refusal.Held)
+held_fits g me m on x is held = grind arith
+
+empty_fits : (g : State) (me : ℕ) (m : Mode) (on : Operand) → target_of g me on ≡ None → IsAnswer g me (takes m on) (graph.Refused refusal.Empty)
+empty_fits g me m on is = grind arith
+
+free_fits : (g : State) (me : ℕ) (on : Operand) (x : ℕ) → target_of g me on ≡ Some x → is_some (g.held me x) ≡ true → IsAnswer g me (command.Done on) graph.Nil
+free_fits g me on x is held = grind arith
+
+lack_fits : (g : State) (me : ℕ) (on : Operand) (x : ℕ) → target_of g me on ≡ Some x → g.held me x ≡ None → IsAnswer g me (command.Done on) (graph.Refused refusal.NoToken)
+lack_fits g me on x is none = grind arith
+
 -- ## what a node wants before a command
 
 -- a command that takes no token comes where nothing is wanted
@@ -231,28 +254,6 @@ module _ (st : Setting) (me : ℕ) (s : NodeState) (g : State) (w : Option Comma
           let k = some_is (s.known x) (steady.aware on x of is) in
           subst (λ (o : Option Known). Shows (operation_rule me s lies act (answer.Refused refusal.Empty) x o)) (sym k.1) (some x k.0 is k.1)
 
-  -- read and write
-  taking_answer : (m : Mode) (on : Operand) (t : Option ℕ) → target_of g me on ≡ t → (b : Bool) → option_map_or (λ (x : ℕ). is_some (g.held me x)) t true ≡ b →
-      answer_of g me (takes m on) ≡ option_map_or (λ (x : ℕ). cond b (graph.Refused refusal.Held) (cond (is_excluded m g me x) graph.Wait graph.Nil)) t (graph.Refused refusal.Empty)
-  taking_answer Read on None is b held = ap (read_answer g me) is
-  taking_answer Write on None is b held = ap (write_answer g me) is
-  taking_answer Read on (Some x) is b held = ap (read_answer g me) is ∙ (λ i. cond (held i) (graph.Refused refusal.Held) (cond (other_writes g me x) graph.Wait graph.Nil))
-  taking_answer Write on (Some x) is b held = ap (write_answer g me) is ∙ (λ i. cond (held i) (graph.Refused refusal.Held) (cond (other_holds g me x) graph.Wait graph.Nil))
-
-  taken_fits : (m : Mode) (on : Operand) → MayAnswer (takes m on) graph.Nil graph.Nil
-  taken_fits Read on = refl
-  taken_fits Write on = refl
-
-  wait_fits : (m : Mode) (on : Operand) (kept : Bool) → MayAnswer (takes m on) (cond kept graph.Wait graph.Nil) graph.Wait
-  wait_fits Read on true = refl
-  wait_fits Read on false = tt
-  wait_fits Write on true = refl
-  wait_fits Write on false = tt
-
-  refusal_fits : (m : Mode) (on : Operand) (why : Refusal) → MayAnswer (takes m on) (graph.Refused why) (graph.Refused why)
-  refusal_fits Read on why = refl
-  refusal_fits Write on why = refl
-
   taken_leads : (m : Mode) (on : Operand) (x : ℕ) → target_of g me on ≡ Some x → state_after g me (takes m on) graph.Nil ≡ changed g me (Holds x (Some m))
   taken_leads Read on x is = ap (λ (t : Option ℕ). changed g me (holding t (Some Read))) is
   taken_leads Write on x is = ap (λ (t : Option ℕ). changed g me (holding t (Some Write))) is
@@ -290,16 +291,13 @@ module _ (st : Setting) (me : ℕ) (s : NodeState) (g : State) (w : Option Comma
       barred (Fresh none) (inr c) = none_some (sym (want_is ∙ ap (λ (f : ℕ → Option Mode). f x) none) ∙ c.1)
       barred (Again one held) (inr c) = absurd (c.2 (some_same (sym c.1 ∙ want_is ∙ ap (λ (f : ℕ → Option Mode). f x) one ∙ (λ i. cond (eqb_same x i) (Some m) None))))
 
-      fits : (a b : Answer) → (t : Bool) → is_some k.part.held ≡ t → cond t (graph.Refused refusal.Held) (cond (is_excluded m g me x) graph.Wait graph.Nil) ≡ a → MayAnswer (takes m on) a b → IsAnswer g me (takes m on) b
-      fits a b t held same may = subst (λ (z : Answer). MayAnswer (takes m on) z b) (sym (taking_answer m on (Some x) is t (ap (λ (n : Option Mode). is_some n) (sym held_is) ∙ held) ∙ same)) may
-
       waits_shown : (sends : List Send) → NoGrants sends → (k.part.held ≡ None) × (q.held ≡ None) × (q.want ≡ Some m) →
           IsShown me s g (takes m on) (after_operation s lies x k answer.Wait (Some (saying (with_token (share_of k) q) sends)))
       waits_shown sends none t = record {
         effect_is = Nothing;
         answer_is = graph.Wait;
         same = refl;
-        fits = fits _ graph.Wait false (ap (λ (n : Option Mode). is_some n) t.0) refl (wait_fits m on (is_excluded m g me x));
+        fits = wait_fits g me m on x is (sym held_is ∙ t.0);
         leads = refl;
         part = subst (IsPart me (after_changes s (Knows x (with_share k k.copy (with_token (share_of k) q)) ∷ [])) g) (sym (ap wanted_at (token_is (Some x) is))) (record {
           register = steady.part.register;
@@ -319,8 +317,7 @@ module _ (st : Setting) (me : ℕ) (s : NodeState) (g : State) (w : Option Comma
         effect_is = Holds x (Some m);
         answer_is = graph.Nil;
         same = refl;
-        fits = fits _ graph.Nil false (ap (λ (n : Option Mode). is_some n) t.0) refl
-            (subst (λ (b : Bool). MayAnswer (takes m on) (cond b graph.Wait graph.Nil) graph.Nil) (sym (free m x (ap held_of (put_same s.known x _) ∙ t.1))) (taken_fits m on));
+        fits = hold_fits g me m on x is (sym held_is ∙ t.0) (free m x (ap held_of (put_same s.known x _) ∙ t.1));
         leads = taken_leads m on x is;
         part = record {
           register = steady.part.register;
@@ -335,18 +332,17 @@ module _ (st : Setting) (me : ℕ) (s : NodeState) (g : State) (w : Option Comma
       taking_shown (acquire_is.Asks parent) t free = waits_shown (send parent (Asks m me) ∷ []) (refl, tt) t
       taking_shown acquire_is.Waits t free = waits_shown [] tt t
       taking_shown acquire_is.Refused t free =
-          (let b = barred its t in refused_shown (subst (IsPart me s g) b.1 steady.part) (takes m on) refusal.Held (fits _ (graph.Refused refusal.Held) true b.0 refl (refusal_fits m on refusal.Held)))
+          (let b = barred its t in refused_shown (subst (IsPart me s g) b.1 steady.part) (takes m on) refusal.Held (held_fits g me m on x is (ap (λ (n : Option Mode). is_some n) (sym held_is) ∙ b.0)))
 
     take_shown : IsAllowed (token_rule me s lies (Acquires m) (target_of h me on)) → IsShown me s g (takes m on) (token_rule me s lies (Acquires m) (target_of h me on))
     take_shown = token_shown (λ o. IsAllowed o → IsShown me s g (takes m on) o) (Acquires m) on lies of
-        (λ is free. refused_shown (unwanted g me s w (takes m on) again (token_is None is) steady.waits steady.part) (takes m on) refusal.Empty
-        (subst (λ (a : Answer). MayAnswer (takes m on) a (graph.Refused refusal.Empty)) (sym (taking_answer m on None is true refl)) (refusal_fits m on refusal.Empty)))
+        (λ is free. refused_shown (unwanted g me s w (takes m on) again (token_is None is) steady.waits steady.part) (takes m on) refusal.Empty (empty_fits g me m on is))
         (λ x k is known. taking_shown x k (acquire me k.part m (is_some k.copy)).0 is known (acquire me k.part m (is_some k.copy)).1 (acquiring me m k.part (is_some k.copy)))
 
   -- done
   module _ (p : IsPart me s g nothing) (on : Operand) (lies : ℕ → Place) (x : ℕ) (k : Known) (is : target_of g me on ≡ Some x) (known : s.known x ≡ Some k) where
-    done_is : (b : Bool) → is_some k.part.held ≡ b → answer_of g me (command.Done on) ≡ cond b graph.Nil (graph.Refused refusal.NoToken)
-    done_is b held = ap (done_answer g me) is ∙ (λ i. cond ((ap (λ (n : Option Mode). is_some n) (sym (ap held_of (sym known) ∙ (p.known x).held)) ∙ held) i) graph.Nil (graph.Refused refusal.NoToken))
+    held_now : k.part.held ≡ g.held me x
+    held_now = ap held_of (sym known) ∙ (p.known x).held
 
     frees_shown : (b : Share) (sends : List Send) → NoGrants sends → (is_some k.part.held ≡ true) × (b.part.held ≡ None) × (b.part.want ≡ k.part.want) →
         IsShown me s g (command.Done on) (after_operation s lies x k answer.Nil (Some (saying b sends)))
@@ -354,7 +350,7 @@ module _ (st : Setting) (me : ℕ) (s : NodeState) (g : State) (w : Option Comma
       effect_is = Holds x None;
       answer_is = graph.Nil;
       same = refl;
-      fits = sym (done_is true t.0);
+      fits = free_fits g me on x is (ap (λ (n : Option Mode). is_some n) (sym held_now) ∙ t.0);
       leads = ap (λ (t : Option ℕ). changed g me (holding t None)) is;
       part = record {
         register = p.register;
@@ -371,7 +367,7 @@ module _ (st : Setting) (me : ℕ) (s : NodeState) (g : State) (w : Option Comma
     giving_shown : (q : Part) (r : Release) → Given k.part q r → IsShown me s g (command.Done on) (after_operation s lies x k (release_answer r) (released (share_of k) q r))
     giving_shown q release_is.Free t = frees_shown (with_token (share_of k) q) [] tt t
     giving_shown q (release_is.Answers owner) t = frees_shown (without_copy q) (send owner Returns ∷ []) (refl, tt) t
-    giving_shown q release_is.Refused t = refused_shown p (command.Done on) refusal.NoToken (sym (done_is false (ap (λ (n : Option Mode). is_some n) t)))
+    giving_shown q release_is.Refused t = refused_shown p (command.Done on) refusal.NoToken (lack_fits g me on x is (sym held_now ∙ t))
 
   done_shown : IsPart me s g nothing → (on : Operand) (lies : ℕ → Place) → IsOperandOf st on → IsShown me s g (command.Done on) (token_rule me s lies Releases (target_of h me on))
   done_shown p on lies of = token_shown (IsShown me s g (command.Done on)) Releases on lies of

@@ -1,9 +1,9 @@
 -- Each law applies to runs worked by hand, and tells them from the same with one outcome changed.
 use Rattle.bmx_store_laws.proofs.Words.{◌≡◌, ℕ, refl, ap, sym, subst, ◌∙◌, Bool, true, false, cond, List, [], ◌∷◌, ◌<◌, arith, drop, length, zero, suc, option_map, option_map_or, Option, Some, None, is_some, ◌==◌, ◌&&◌, nat_lt}
-use Rattle.bmx_store_laws.proofs.Words.{put, Command, Mode, Read, Write, Birth, Val, Letter}
+use Rattle.bmx_store_laws.proofs.Words.{put, Command, Mode, Read, Write, Birth, Val, targets, Letter}
 use Rattle.bmx_store_laws.proofs.Words.{can_serve}
 use Rattle.bmx_store_laws.proofs.Words.{some_same, none_some, Two, Same, Apart, two, put_apart, Play, anchor, the_anchor, told_of_the_object, written_by_its_taker, in_flight, waits_with, taken, Known, first_known, birth_of, is_anchor, owned_birth, heard_birth}
-use Rattle.bmx_store_laws.proofs.Words.{CanServe, is_ready, first_node, world_of, IsCurrent}
+use Rattle.bmx_store_laws.proofs.Words.{knows, CanServe, is_ready, first_node, world_of, IsCurrent}
 use Rattle.bmx_store_laws.proofs.Words.{laws_apply, put_each}
 use Rattle.bmx_store_laws.proofs.Words.command
 use Rattle.bmx_store_laws.proofs.Words.val
@@ -60,13 +60,10 @@ idle_first : (x : ℕ) → (serves 0 (first_known store 0 x) ≡ false) × (serv
 idle_first x = (owned (birth_of store x), heard (is_anchor store x) (birth_of store x))
   where
     owned : (b : Option Birth) → serves 0 (option_map owned_birth b) ≡ false
-    owned None = refl
-    owned (Some b) = refl
+    owned b = grind arith
 
     heard : (t : Bool) (b : Option Birth) → serves 1 (cond t (option_map heard_birth b) None) ≡ false
-    heard false b = refl
-    heard true None = refl
-    heard true (Some b) = refl
+    heard t b = grind arith
 
 idle_in : (p : Play) → ((x : ℕ) → serves 0 ((p.nodes 0).state.known x) ≡ false) → ((x : ℕ) → serves 1 ((p.nodes 1).state.known x) ≡ false) →
     (n x : ℕ) → n < 2 → CanServe n (p.nodes n).state x → ⊥

@@ -4,7 +4,7 @@ use Rattle.bmx_store_laws.proofs.Words.{bunches_of, put, maker, address_word, ho
 use Rattle.bmx_store_laws.proofs.Words.{put_same, some_same, put_apart, Setting, Known, Places, Header, overlaps, has_room, with_made, with_segment, with_room, with_placed, World, ViewField}
 use Rattle.bmx_store_laws.proofs.Words.{put_each, IsCounted}
 use Rattle.bmx_places.specs.Ledger.{Block, IsBlock, AreBlocks, LiesIn, Heads}
-use Rattle.bmx_places.proofs.Blocks.{Keeps, parts_again, KeepsAt, object_keeps}
+use Rattle.bmx_places.proofs.Blocks.{KeepsAt, object_keeps, parts_again, Keeps}
 
 -- ## ledgers that grow
 
@@ -62,53 +62,36 @@ module _ (st : Setting) (w v : World) (blocks : ℕ → Option Block) (at : ℕ)
   block_added = put_each (λ a o. (b : Block) → blocks a ≡ Some b → o ≡ Some b) blocks at (Some new)
       (λ b e. (let front : index_of at + (4 + b.size) ≤ index_of at = in_front at b e refl refl in absurd (omega (arith, front)))) (λ a _ b e. e)
 
-  -- a block is the new one, or an old one
-  data Which (a : ℕ) (b : Block) : Type 0 where
-    New : at ≡ a → new ≡ b → Which a b
-    Old : blocks a ≡ Some b → Which a b
+  -- a block is the new one, or an old one: what holds of both, and between both, holds of blocks
+  which : (a : ℕ) (b : Block) → more a ≡ Some b → ((at ≡ a) × (new ≡ b)) ⊎ (blocks a ≡ Some b)
+  which = put_each (λ a o. (b : Block) → o ≡ Some b → ((at ≡ a) × (new ≡ b)) ⊎ (blocks a ≡ Some b)) blocks at (Some new) (λ b e. inl (refl, some_same e)) (λ a _ b e. inr e)
 
-  which : (a : ℕ) (b : Block) → more a ≡ Some b → Which a b
-  which = put_each (λ a o. (b : Block) → o ≡ Some b → Which a b) blocks at (Some new) (λ b e. New refl (some_same e)) (λ a _ b e. Old e)
+  pairs : (P : ℕ → Block → ℕ → Block → Type 0) → P at new at new → ((a : ℕ) (b : Block) → blocks a ≡ Some b → P at new a b × P a b at new) →
+      ((a c : ℕ) (b d : Block) → blocks a ≡ Some b → blocks c ≡ Some d → P a b c d) → (a c : ℕ) (b d : Block) → more a ≡ Some b → more c ≡ Some d → P a b c d
+  pairs P same one both a c b d e f = by_which (which a b e) (which c d f)
+    where
+      by_which : ((at ≡ a) × (new ≡ b)) ⊎ (blocks a ≡ Some b) → ((at ≡ c) × (new ≡ d)) ⊎ (blocks c ≡ Some d) → P a b c d
+      by_which (inl n) (inl o) = rw (← n.0, ← n.1, ← o.0, ← o.1) same
+      by_which (inl n) (inr o) = rw (← n.0, ← n.1) ((one c d o).0)
+      by_which (inr n) (inl o) = rw (← o.0, ← o.1) ((one a b n).1)
+      by_which (inr n) (inr o) = both a c b d n o
 
   overlaps_not : (i words j others : ℕ) → i + words ≤ j → (overlaps i words j others ≡ false) × (overlaps j others i words ≡ false)
   overlaps_not i words j others h = (grind (arith, nat_tests), grind (arith, nat_tests))
 
   pub blocks_with : AreBlocks st v more
   blocks_with = record {
-    each = λ a b e. each a b (which a b e);
-    apart = λ a c b d e f home segment differ. apart a c b d (which a b e) (which c d f) home segment differ;
-    one_address = λ a c b d e f name moves. one_address a c b d (which a b e) (which c d f) name moves;
-    one_shape = λ a c b d e f name. one_shape a c b d (which a b e) (which c d f) name;
+    each = λ a b e. elim (which a b e) [ inl n ↦ rw (← n.0, ← n.1) is | inr o ↦ block_later st w v later a b (are.each a b o) ];
+    apart = pairs (λ a b c d. home_of a ≡ home_of c → segment_of a ≡ segment_of c → a ≢ c → overlaps (index_of a) (4 + b.size) (index_of c) (4 + d.size) ≡ false) (λ home segment differ. absurd (differ refl))
+        (λ c d f. (
+          λ home segment differ. (overlaps_not (index_of c) (4 + d.size) (index_of at) (4 + new.size) (in_front c d f (sym home) (sym segment))).1,
+          λ home segment differ. (overlaps_not (index_of c) (4 + d.size) (index_of at) (4 + new.size) (in_front c d f home segment)).0,
+        )) are.apart;
+    one_address = pairs (λ a b c d. b.name ≡ d.name → b.moves ≡ d.moves → a ≡ c) (λ name moves. refl)
+        (λ c d f. (λ name moves. absurd (unnamed c d f (sym name)), λ name moves. absurd (unnamed c d f name))) are.one_address;
+    one_shape = pairs (λ a b c d. b.name ≡ d.name → (b.bunch ≡ d.bunch) × (b.size ≡ d.size)) (λ name. (refl, refl))
+        (λ c d f. (λ name. absurd (unnamed c d f (sym name)), λ name. absurd (unnamed c d f name))) are.one_shape;
   }
-    where
-      each : (a : ℕ) (b : Block) → Which a b → IsBlock st v a b
-      each a b (New s n) = subst (λ (z : ℕ). IsBlock st v z b) s (subst (IsBlock st v at) n is)
-      each a b (Old e) = block_later st w v later a b (are.each a b e)
-
-      apart : (a c : ℕ) (b d : Block) → Which a b → Which c d → home_of a ≡ home_of c → segment_of a ≡ segment_of c → a ≢ c →
-          overlaps (index_of a) (4 + b.size) (index_of c) (4 + d.size) ≡ false
-      apart a c b d (New s n) (New t m) home segment differ = absurd (differ (sym s ∙ t))
-      apart a c b d (Old e) (Old f) home segment differ = are.apart a c b d e f home segment differ
-      apart a c b d (New s n) (Old f) home segment differ =
-          let front : index_of c + (4 + d.size) ≤ index_of at = in_front c d f (sym home ∙ ap home_of (sym s)) (sym segment ∙ ap segment_of (sym s)) in
-          let same : index_of at ≡ index_of a = ap index_of s in
-          (overlaps_not (index_of c) (4 + d.size) (index_of a) (4 + b.size) (omega (arith, front, same))).1
-      apart a c b d (Old e) (New t m) home segment differ =
-          let front : index_of a + (4 + b.size) ≤ index_of at = in_front a b e (home ∙ ap home_of (sym t)) (segment ∙ ap segment_of (sym t)) in
-          let same : index_of at ≡ index_of c = ap index_of t in
-          (overlaps_not (index_of a) (4 + b.size) (index_of c) (4 + d.size) (omega (arith, front, same))).0
-
-      one_address : (a c : ℕ) (b d : Block) → Which a b → Which c d → b.name ≡ d.name → b.moves ≡ d.moves → a ≡ c
-      one_address a c b d (New s n) (New t m) name moves = sym s ∙ t
-      one_address a c b d (Old e) (Old f) name moves = are.one_address a c b d e f name moves
-      one_address a c b d (New s n) (Old f) name moves = absurd (unnamed c d f (sym name ∙ ap (λ (z : Block). z.name) (sym n)))
-      one_address a c b d (Old e) (New t m) name moves = absurd (unnamed a b e (name ∙ ap (λ (z : Block). z.name) (sym m)))
-
-      one_shape : (a c : ℕ) (b d : Block) → Which a b → Which c d → b.name ≡ d.name → (b.bunch ≡ d.bunch) × (b.size ≡ d.size)
-      one_shape a c b d (New s n) (New t m) name = (ap (λ (z : Block). z.bunch) (sym n ∙ m), ap (λ (z : Block). z.size) (sym n ∙ m))
-      one_shape a c b d (Old e) (Old f) name = are.one_shape a c b d e f name
-      one_shape a c b d (New s n) (Old f) name = absurd (unnamed c d f (sym name ∙ ap (λ (z : Block). z.name) (sym n)))
-      one_shape a c b d (Old e) (New t m) name = absurd (unnamed a b e (name ∙ ap (λ (z : Block). z.name) (sym m)))
 
 -- ## a node's own segments
 
