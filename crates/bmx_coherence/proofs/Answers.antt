@@ -15,8 +15,8 @@ use Rattle.bmx_store_laws.proofs.Words.release_is
 use Rattle.bmx_store_laws.proofs.Words.answer
 use Rattle.bmx_coherence.specs.Graphs.{graph_answer}
 use Rattle.bmx_coherence.specs.Waits.{taking}
-use Rattle.bmx_coherence.proofs.Parts.{fields_kept, taken_at, seen_target, seen_value, waited, fits_else, effect_part, IsPart, known_of, wanted_at, waiting_token, wants, FitsAt, IsWaiting, IsReadyFor, want_of, held_of, IsOwnStore, nothing}
-use Rattle.bmx_coherence.proofs.Transitions.{Given, acquiring, releasing, Taken}
+use Rattle.bmx_coherence.proofs.Parts.{known_of, taken_at, waiting_token, wants, IsWaiting, effect_part, fields_kept, wanted_at, IsOwnStore, seen_value, IsReadyFor, fits_else, IsPart, FitsAt, waited, want_of, seen_target, held_of, nothing}
+use Rattle.bmx_coherence.proofs.Transitions.{Taken, acquiring, Given, releasing}
 
 -- no message grants
 abbrev pub Ungranting : List Draft → Type 0
@@ -149,6 +149,9 @@ free_fits g me on x is held = grind arith
 lack_fits : (g : State) (me : ℕ) (on : Operand) (x : ℕ) → target_of g me on ≡ Some x → g.held me x ≡ None → IsAnswer g me (command.Done on) (graph.Refused refusal.NoToken)
 lack_fits g me on x is none = grind arith
 
+means_known : (s : NodeState) (t : Option ℕ) → ((x : ℕ) → t ≡ Some x → is_some (s.known x) ≡ true) → knows s t ≡ is_some t
+means_known s t known = grind arith
+
 -- ## what a node wants before a command
 
 -- a command that takes no token comes where nothing is wanted
@@ -176,11 +179,7 @@ module _ (st : Setting) (me : ℕ) (s : NodeState) (g : State) (w : Option Comma
   target_same = seen_target me s g (wants g me w) steady.part
 
   known_same : (on : Operand) → IsOperandOf st on → knows s (target_of h me on) ≡ is_some (target_of h me on)
-  known_same on of = by_target (target_of h me on) refl
-    where
-      by_target : (t : Option ℕ) → target_of h me on ≡ t → knows s t ≡ is_some t
-      by_target None is = refl
-      by_target (Some x) is = steady.aware on x of (sym (target_same on) ∙ is)
+  known_same on of = means_known s (target_of h me on) (λ x is. steady.aware on x of (sym (target_same on) ∙ is))
 
   held_same : (x : ℕ) → h.held me x ≡ g.held me x
   held_same x = (λ i. cond (eqb_same me i) (held_of (s.known x)) None) ∙ (steady.part.known x).held

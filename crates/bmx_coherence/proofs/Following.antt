@@ -2,8 +2,8 @@
 -- that was made and each that is reached; what copies and letters refer to is known; wants are waited for, and where nothing
 -- can go on what is waited for is held elsewhere.
 use Rattle.bmx_store_laws.proofs.Words.{◌≡◌, ℕ, refl, ap, sym, subst, ◌∙◌, Bool, true, false, cond, List, [], ◌∷◌, map, ◌<◌, arith, zero, suc, ◌⊎◌, inl, inr, ◌≤◌, nat_tests, list_any, option_map, option_map_or, Option, Some, None, is_some, unwrap_or, ◌==◌}
-use Rattle.bmx_store_laws.proofs.Words.{◌&&◌, ◌||◌, Contains, IsSome, count_by}
-use Rattle.bmx_store_laws.proofs.Words.{name_word, anchor_of, Command, Operand, Mode, Val, targets, given, Field, Letter, Msg, Record}
+use Rattle.bmx_store_laws.proofs.Words.{◌&&◌, ◌||◌, Contains, IsSome, IfSome, count_by}
+use Rattle.bmx_store_laws.proofs.Words.{name_word, anchor_of, Command, Operand, Anchor, Mode, Read, Write, Val, targets, given, Field, Letter, Msg, Record}
 use Rattle.bmx_store_laws.proofs.Words.{State, target_of}
 use Rattle.bmx_store_laws.proofs.Words.{Note, can_serve, same_mode, is_request_of, is_grant_of, Ask, Part, Role, Owner, Parent, IsAsking, IsRequested, requested_run, gifts_are_recorded, each_owes_one_answer, RecordsAreKept, is_owner, answers_owed, owes, is_due}
 use Rattle.bmx_store_laws.proofs.Words.{waits_for, count_notes, is_recall, is_return, AnswersAreOwed, Numbers, Object, IsFirst, Run}
@@ -22,10 +22,9 @@ use Rattle.bmx_coherence.specs.Graphs.{graph_after}
 use Rattle.bmx_coherence.specs.Copies.{HasRecord}
 use Rattle.bmx_coherence.specs.Waits.{taking, WaitsFor, Wants, WantsAreWaitedFor}
 use Rattle.bmx_coherence.specs.Stuck.{IsStuck, IsHeldElsewhere, StuckNamesHolders}
-use Rattle.std.specs.Prelude.{IfSome}
 use Rattle.bmx_coherence.proofs.Events.{Stands}
-use Rattle.bmx_coherence.proofs.Moments.{knows_it, came, sound, real}
-use Rattle.bmx_coherence.proofs.Parts.{want_of, taken_at, seen_target, IsWaiting, wants, held_of, waited, known_of, waiting_token, wanted_at}
+use Rattle.bmx_coherence.proofs.Moments.{knows_it, came, aware, sound, real}
+use Rattle.bmx_coherence.proofs.Parts.{wanted_at, seen_target, waiting_token, want_of, wants, waited, IsWaiting, held_of, known_of, taken_at}
 use Rattle.bmx_coherence.proofs.Transitions.{values_told}
 
 -- ## lists
@@ -156,8 +155,7 @@ module _ (st : Setting) (past : List Event) (nodes : ℕ → Node) (stands : Sta
           (contains_map (seen_message y) (in_flight n m past) l there) (notes_give y l.msg ∙ has_it y (given l.msg) names)
 
       known : (k : Option Known) → IsSome (seen_known k) → IsSome k
-      known None some = absurd cc
-      known (Some k) some = refl
+      known k some = grind arith
 
       recorded : (q : Option Record) → (nodes n).state.entering y m ≡ q → HasRecord w y n m l.seq
       recorded None is = none_some (sym (ap seen_record is) ∙ gift.2)
@@ -276,8 +274,7 @@ module _ (st : Setting) (past : List Event) (nodes : ℕ → Node) (stands : Sta
           owed = law AnswersAreOwed each_owes_one_answer x at r ∙ (λ i. one_if (waiting i))
 
           due_some : (d : Option ℕ) → is_due d at ≡ true → (o : ℕ) × (d ≡ Some o)
-          due_some None e = absurd cc
-          due_some (Some o) e = (o, refl)
+          due_some d e = some_is d (grind arith)
 
           by_held : (l : Known) → (nodes r).state.known x ≡ Some l → is_due l.part.due at ≡ true → (h : Option Mode) → l.part.held ≡ h → IsHeldElsewhere w n x
           by_held l at_r due (Some h) held = held_there r l at_r (ap (λ (o : Option Mode). is_some o) held)

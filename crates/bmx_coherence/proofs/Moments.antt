@@ -11,7 +11,7 @@ use Rattle.bmx_store_laws.proofs.Words.val
 use Rattle.bmx_store_laws.proofs.Words.graph_step
 use Rattle.bmx_store_laws.proofs.Words.seated
 use Rattle.bmx_protocol.specs.Worlds.{At}
-use Rattle.bmx_coherence.proofs.Parts.{IsPart, known_of, IsBeside, IsOwnStore}
+use Rattle.bmx_coherence.proofs.Parts.{IsBeside, known_of, IsOwnStore, IsPart}
 
 -- a legal history of a store, and the nodes after it
 pub record IsMoment (st : Setting) (past : List Event) (nodes : ℕ → Node) : Type 0 where
@@ -38,6 +38,9 @@ granted_name : (m : Msg) (info : Info) (fields : List Field) → grant_in m ≡ 
 granted_name (ReadGrant i l) info fields e = ap (λ (p : Info × List Field). p.0.name) (some_same e)
 granted_name (WriteGrant i l) info fields e = ap (λ (p : Info × List Field). p.0.name) (some_same e)
 granted_name _ info fields e = none_some e
+
+only_owner : (r : Role) → ((parent : ℕ) → r ≡ Parent parent → ⊥) → r ≡ Owner
+only_owner r none = grind arith
 
 -- who does what with its few events so far
 abbrev pub IsEarly : ℕ → List Event → Type 0
@@ -94,11 +97,7 @@ module _ (st : Setting) (past : List Event) (nodes : ℕ → Node) (now : IsMome
 
   module _ (me x : ℕ) (k : Known) (is : (nodes me).state.known x ≡ Some k) (held : k.part.held ≡ Some Write) where
     owns : k.part.role ≡ Owner
-    owns = by_role k.part.role refl
-      where
-        by_role : (r : Role) → k.part.role ≡ r → k.part.role ≡ Owner
-        by_role Owner e = e
-        by_role (Parent parent) e = absurd ((sound me x k is).child_holds parent e held)
+    owns = only_owner k.part.role (λ parent e. (sound me x k is).child_holds parent e held)
 
     -- no other has the owner's role, and no grant of ownership is in flight
     sole : ((n : ℕ) (j : Known) → HasOwned (world_of nodes past) x n j → n ≡ me) × ((from to : ℕ) → handovers_of x (in_flight from to past) ≡ 0)

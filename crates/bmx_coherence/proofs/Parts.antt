@@ -1,15 +1,15 @@
 -- A node's part of the graph: its registers, what it holds, how many names it made, and its copies, which have the
 -- fields of the graph. What changes of a node, and effects of its commands on the graph, make of it.
-use Rattle.bmx_store_laws.proofs.Words.{◌≡◌, ℕ, refl, ap, sym, subst, ◌∙◌, Bool, true, false, cond, List, [], ◌∷◌, map, zero, suc, ◌+◌, map-set, option_map, option_map_or, Option, Some, None, is_some, unwrap_or, replicate, ◌==◌, slice_set}
+use Rattle.bmx_store_laws.proofs.Words.{◌≡◌, ℕ, refl, ap, sym, subst, ◌∙◌, Bool, true, false, cond, List, [], ◌∷◌, map, arith, zero, suc, ◌+◌, map-set, option_map, option_map_or, Option, Some, None, is_some, unwrap_or, replicate, ◌==◌, IfSome, slice_set}
 use Rattle.bmx_store_laws.proofs.Words.{put, put_at, name_word, Command, Operand, Register, Mode, Write, Val}
 use Rattle.bmx_store_laws.proofs.Words.{State, fields_of, value_of, reference, target_of, changed, Effect, Nothing, MakesOne, SetsOne, Stores, Holds}
-use Rattle.bmx_store_laws.proofs.Words.{eqb_same, put_same, none_some, put_apart, eqb_apart, put_at_row, put_at_else, Each, kept_by_each, Knows, after_changes, Change, Sets, Hears, after_change, NodeState, Known, fields_known, value_in, seen_graph, field_of}
-use Rattle.bmx_store_laws.proofs.Words.{with_field, next_name, new_object, graph_changes, stored, ViewField}
+use Rattle.bmx_store_laws.proofs.Words.{eqb_same, put_same, none_some, put_apart, eqb_apart, put_at_row, Each, kept_by_each, Knows, after_changes, Change, Sets, Hears, after_change, NodeState, Known, fields_known, value_in, seen_graph, field_of, with_field}
+use Rattle.bmx_store_laws.proofs.Words.{next_name, new_object, graph_changes, stored, ViewField}
 use Rattle.bmx_store_laws.proofs.Words.{some_is, put_each, heard_each}
 use Rattle.bmx_store_laws.proofs.Words.val
 use Rattle.bmx_store_laws.proofs.Words.graph_step
 use Rattle.bmx_store_laws.proofs.Words.field
-use Rattle.std.specs.Prelude.{◌≢◌, IfSome}
+use Rattle.std.specs.Prelude.{◌≢◌}
 use Rattle.bmx_protocol.specs.Changes.{Makes}
 use Rattle.bmx_coherence.specs.Waits.{taking}
 
@@ -209,33 +209,29 @@ object_kept g me x _ beside = refl
 
 -- another node's part stays, and what it waits for
 module _ (me n : ℕ) (g : State) (e : Effect) (apart : (me == n) ≡ false) where
-  registers : (e : Effect) (r : ℕ) → (changed g me e).register n r ≡ g.register n r
-  registers (MakesOne register bunch size) r = put_at_else g.register me register n r _ apart
-  registers (SetsOne register v) r = put_at_else g.register me register n r v apart
-  registers _ r = refl
+  registers : (r : ℕ) → (changed g me e).register n r ≡ g.register n r
+  registers r = grind arith
 
-  holds : (e : Effect) (x : ℕ) → (changed g me e).held n x ≡ g.held n x
-  holds (Holds name hold) x = put_at_else g.held me name n x hold apart
-  holds _ x = refl
+  holds : (x : ℕ) → (changed g me e).held n x ≡ g.held n x
+  holds x = grind arith
 
-  count : (e : Effect) → (changed g me e).made n ≡ g.made n
-  count (MakesOne register bunch size) = put_apart g.made me n (g.made me + 1) apart
-  count _ = refl
-
-  token_same : (t : Option (Mode × Operand)) → taken_at (changed g me e) n t ≡ taken_at g n t
-  token_same None = refl
-  token_same (Some t) = ap (λ (v : Val). option_map (λ (x : ℕ). (t.0, x)) (reference v)) (value_same g (changed g me e) n (registers e) t.1)
+  count : (changed g me e).made n ≡ g.made n
+  count = grind arith
 
   waited_same : (w : Option Command) → waited (changed g me e) n w ≡ waited g n w
   waited_same None = refl
   waited_same (Some c) = token_same (taking c)
+    where
+      token_same : (t : Option (Mode × Operand)) → taken_at (changed g me e) n t ≡ taken_at g n t
+      token_same None = refl
+      token_same (Some t) = ap (λ (v : Val). option_map (λ (x : ℕ). (t.0, x)) (reference v)) (value_same g (changed g me e) n registers t.1)
 
   pub part_else : (s : NodeState) (w : Option Command) → ((x : ℕ) (fields : List Val) → fields_known (s.known x) ≡ Some fields → IsBeside g me x e) →
       IsPart n s g (wants g n w) → IsPart n s (changed g me e) (wants (changed g me e) n w)
   part_else s w beside p = record {
-    register = λ r. p.register r ∙ sym (registers e r);
-    known = λ x. fits_else (p.known x) (sym (holds e x)) (ap (λ (t : Option (Mode × ℕ)). wanted_at t x) (sym (waited_same w))) (λ l has. object_kept g me x e (beside x l has));
-    made = p.made ∙ sym (count e);
+    register = λ r. p.register r ∙ sym (registers r);
+    known = λ x. fits_else (p.known x) (sym (holds x)) (ap (λ (t : Option (Mode × ℕ)). wanted_at t x) (sym (waited_same w))) (λ l has. object_kept g me x e (beside x l has));
+    made = p.made ∙ sym count;
   }
 
   pub waiting_else : (w : Option Command) → IfSome w (IsWaiting g n) → IfSome w (IsWaiting (changed g me e) n)
@@ -245,6 +241,6 @@ module _ (me n : ℕ) (g : State) (e : Effect) (apart : (me == n) ≡ false) whe
     name = i.name;
     operand = i.operand;
     takes = i.takes;
-    means = ap reference (value_same g (changed g me e) n (registers e) i.operand) ∙ i.means;
-    unheld = holds e i.name ∙ i.unheld;
+    means = ap reference (value_same g (changed g me e) n registers i.operand) ∙ i.means;
+    unheld = holds i.name ∙ i.unheld;
   }

@@ -1,6 +1,6 @@
 -- What is kept along a legal history: a ledger to which all belongs, and that no letter was stray.
-use Rattle.bmx_store_laws.proofs.Words.{◌≡◌, ℕ, refl, ap, sym, subst, ◌∙◌, Bool, true, false, cond, List, [], ◌∷◌, map, ◌<◌, arith, drop, length, zero, suc, ◌⊎◌, inl, inr, ◌+◌, ◌≤◌, ◌++◌, ◌≢◌, ◌^◌, length-append, ◌*◌, nat_tests, length-map, length-replicate}
-use Rattle.bmx_store_laws.proofs.Words.{sum_by-append, flat_map, option_map, option_map_or, Option, Some, None, is_some, unwrap_or, slice_get, ◌==◌, ◌&&◌, nat_lt, not, ◌||◌, nat_le, count_by, filter}
+use Rattle.bmx_store_laws.proofs.Words.{◌≡◌, ℕ, refl, ap, sym, subst, ◌∙◌, Bool, true, false, cond, List, [], ◌∷◌, map, ◌<◌, arith, drop, length, suc, ◌⊎◌, inl, inr, ◌+◌, ◌≤◌, ◌++◌, ◌≢◌, ◌^◌, length-append, nat_tests, length-map, length-replicate}
+use Rattle.bmx_store_laws.proofs.Words.{sum_by-append, flat_map, option_map, option_map_or, Option, Some, None, is_some, unwrap_or, slice_get, ◌==◌, ◌&&◌, not, ◌||◌, nat_le, count_by, filter}
 use Rattle.bmx_store_laws.proofs.Words.{IsOpening, bunches_of, put, maker, count_of, Info, Place, Command, Write, Field, Letter, Msg, ReadGrant, WriteGrant}
 use Rattle.bmx_store_laws.proofs.Words.{Note, Grants, Serves, note_transition, Owner, IsShared, shared_run, IsSoundIf}
 use Rattle.bmx_store_laws.proofs.Words.{put_same, some_same, none_some, eqb_of, Every, at_each, every_append, after_append, Each, each_append, Knows, after_changes, with_step, Change, Sets, Hears, after_change, in_flight, taken, issued, arrived, IsNext}
@@ -15,10 +15,10 @@ use Rattle.bmx_store_laws.proofs.Words.answer
 use Rattle.bmx_store_laws.proofs.Words.field
 use Rattle.bmx_protocol.specs.Changes.{Makes}
 use Rattle.bmx_places.specs.Ledger.{Block, AreBlocks, block_of, LiesIn}
-use Rattle.bmx_places.proofs.Blocks.{IsTold, Keeps, learnt_handed, same_shape, learnt_either, hears_all}
-use Rattle.bmx_places.proofs.Making.{IsHome, home_made, made_grows, handed_more, IsLaterThan, with_block, made_keeps, Grows, r, blocks_later, made_or_old, made_blocks, keeps_grown}
-use Rattle.bmx_places.proofs.Next.{IssuesRight, IsTakeable, EachIssued, IsIssued, next_is_takeable, Goes}
-use Rattle.bmx_places.proofs.Outcomes.{AllOf, sent_plain, IsRight, known_plain, changes_kept, command_comes, Belongs, act_plain, IsDraft, silent_drafts, never_stray, Plainly, Plain, IsKnown, IsPlain, serve_not_stray, New, Comes}
+use Rattle.bmx_places.proofs.Blocks.{hears_all, IsTold, learnt_either, Keeps, same_shape, learnt_handed}
+use Rattle.bmx_places.proofs.Making.{made_blocks, blocks_later, handed_more, IsHome, Grows, IsLaterThan, keeps_grown, made_keeps, home_made, made_grows, made_or_old, with_block, r}
+use Rattle.bmx_places.proofs.Next.{Goes, EachIssued, IsIssued, next_is_takeable, IsTakeable, IssuesRight}
+use Rattle.bmx_places.proofs.Outcomes.{AllOf, silent_drafts, command_comes, changes_kept, IsPlain, serve_not_stray, IsDraft, Plain, IsRight, act_plain, IsKnown, Belongs, sent_plain, known_plain, Comes, Plainly, never_stray, New}
 
 -- ## how many events there are
 
@@ -28,21 +28,12 @@ steps_of n past = count_by (λ f. f.node == n) past
 steps_more : (n : ℕ) (past : List Event) (e : Event) → steps_of n (past ++ e ∷ []) ≡ steps_of n past + (0 + cond (e.node == n) 1 0)
 steps_more n past e = sum_by-append (λ (f : Event). cond (f.node == n) 1 0) past (e ∷ [])
 
--- the events of the first nodes
-abbrev pub total : ℕ → List Event → ℕ
-total zero past = 0
-total (suc k) past = total k past + steps_of k past
+-- the events of the nodes that there may be
+abbrev total : List Event → ℕ
+total past = steps_of 0 past + steps_of 1 past + steps_of 2 past + steps_of 3 past + steps_of 4 past + steps_of 5 past + steps_of 6 past + steps_of 7 past
 
-together : (n k : ℕ) → cond {A = ℕ} (nat_lt n (suc k)) 1 0 ≡ cond {A = ℕ} (nat_lt n k) 1 0 + cond {A = ℕ} (n == k) 1 0
-together n k = grind (arith, nat_tests)
-
-total_more : (k : ℕ) (past : List Event) (e : Event) → total k (past ++ e ∷ []) ≡ total k past + cond (nat_lt e.node k) 1 0
-total_more zero past e = grind (arith, nat_tests)
-total_more (suc k) past e = omega (arith, together e.node k, total_more k past e, steps_more k past e)
-
-total_few : (k : ℕ) (past : List Event) → ((n : ℕ) → steps_of n past ≤ 2 ^ 55) → total k past ≤ k * 2 ^ 55
-total_few zero past few = omega arith
-total_few (suc k) past few = omega (arith, total_few k past few, few k)
+one_of : (n : ℕ) → n < 8 → cond {A = ℕ} (n == 0) 1 0 + cond (n == 1) 1 0 + cond (n == 2) 1 0 + cond (n == 3) 1 0 + cond (n == 4) 1 0 + cond (n == 5) 1 0 + cond (n == 6) 1 0 + cond (n == 7) 1 0 ≡ 1
+one_of n few = grind (arith, nat_tests)
 
 few_more : (n me a b : ℕ) → b ≡ a + (0 + cond (me == n) 1 0) → (me ≡ n → a + 1 < 2 ^ 55) → a ≤ 2 ^ 55 → b ≤ 2 ^ 55
 few_more n me a b is few old = grind (arith, nat_tests)
@@ -68,12 +59,7 @@ pub record Kept (st : Setting) (past : List Event) (nodes : ℕ → Node) : Type
   -- no letter was stray
   pub answers : Every (λ (e : Event). NotStray e.done.answer) past
   pub few : (n : ℕ) → steps_of n past ≤ 2 ^ 55
-  pub all : length past ≡ total st.nodes past
-
--- nothing has happened yet
-pub none_yet : (k : ℕ) → 0 ≡ total k []
-none_yet zero = refl
-none_yet (suc k) = omega (arith, none_yet k)
+  pub all : length past ≡ total past
 
 -- ## one more event
 
@@ -89,13 +75,12 @@ records_grown : (blocks more : ℕ → Option Block) → Grows blocks more → (
 records_grown blocks more grows entering all x m r e = (let of = all x m r e in record { address = of.address; block = of.block; there = grows of.address of.block of.there; named = of.named; of = of.of })
 
 -- changes only add to the names made
+one_more_made : (s : NodeState) (c : Change) → s.made ≤ (after_change s c).made
+one_more_made s c = grind arith
+
 made_more : (changes : List Change) (s : NodeState) → s.made ≤ (after_changes s changes).made
 made_more [] s = omega arith
-made_more (c ∷ changes) s = omega (arith, one c, made_more changes (after_change s c))
-  where
-    one : (c : Change) → s.made ≤ (after_change s c).made
-    one (Sets register v) = omega arith
-    one _ = omega arith
+made_more (c ∷ changes) s = omega (arith, one_more_made s c, made_more changes (after_change s c))
 
 -- hearing of objects writes no record, and what was known stays
 hears_entering : (from : ℕ) (more : List Info) (s : NodeState) → (after_changes s (map (Hears from) more)).entering ≡ s.entering
@@ -108,13 +93,12 @@ hears_stays from (info ∷ more) s x k e = hears_stays from more (after_change s
     (heard_each (λ y j. s.known y ≡ Some k → j ≡ Some k) from s.known info (λ none h. none_some (sym none ∙ h)) (λ y h. h) x e)
 
 -- without stray letters those that came were taken
+taken_unless : (a : NodeAnswer) → NotStray a → is_taken a ≡ true
+taken_unless a n = grind arith
+
 all_taken : (past : List Event) → Every (λ (e : Event). NotStray e.done.answer) past → filter (λ (e : Event). is_taken e.done.answer) past ≡ past
 all_taken [] h = refl
-all_taken (e ∷ past) h = (λ i. cond (is e.done.answer h.0 i) (e ∷ filter (λ (f : Event). is_taken f.done.answer) past) (filter (λ (f : Event). is_taken f.done.answer) past)) ∙ ap (λ (l : List Event). e ∷ l) (all_taken past h.1)
-  where
-    is : (a : NodeAnswer) → NotStray a → is_taken a ≡ true
-    is answer.Stray n = absurd (n refl)
-    is _ n = refl
+all_taken (e ∷ past) h = rw (taken_unless e.done.answer h.0) (ap (λ (l : List Event). e ∷ l) (all_taken past h.1))
 
 module _ (st : Setting) (past : List Event) (nodes : ℕ → Node) (e : Event) (after : Node) (opening : IsOpening st.nodes st.limit st.births) (legal : IsLegal st past)
     (reached : AreAfter st past nodes) (step : IsStep st e.node (nodes e.node) e.stamp e.input e.done after) (fits : Fits st past e) (kept : Kept st past nodes) where
@@ -137,18 +121,14 @@ module _ (st : Setting) (past : List Event) (nodes : ℕ → Node) (e : Event) (
   came x = came_after st past nodes opening legal reached x
 
   small_stamp : e.stamp < 2 ^ 62
-  small_stamp =
-      let few : total st.nodes past ≤ st.nodes * 2 ^ 55 = total_few st.nodes past kept.few in
-      omega (arith, few, kept.all, fits.early, opening.few_nodes)
+  small_stamp = omega (arith, kept.all, fits.early, kept.few 0, kept.few 1, kept.few 2, kept.few 3, kept.few 4, kept.few 5, kept.few 6, kept.few 7)
 
   few_after : (n : ℕ) → steps_of n (past ++ e ∷ []) ≤ 2 ^ 55
   few_after n = few_more n me (steps_of n past) (steps_of n (past ++ e ∷ [])) (steps_more n past e) (λ q. subst (λ (k : ℕ). steps_of k past + 1 < 2 ^ 55) q fits.few) (kept.few n)
 
-  all_after : length (past ++ e ∷ []) ≡ total st.nodes (past ++ e ∷ [])
-  all_after =
-      let below : nat_lt e.node st.nodes ≡ true = (let real : e.node < st.nodes = fits.a_node in grind (arith, nat_tests)) in
-      let more : total st.nodes (past ++ e ∷ []) ≡ total st.nodes past + 1 = total_more st.nodes past e ∙ (λ i. total st.nodes past + cond {A = ℕ} (below i) 1 0) in
-      omega (arith, more, kept.all, length-append past (e ∷ []))
+  all_after : length (past ++ e ∷ []) ≡ total (past ++ e ∷ [])
+  all_after = omega (arith, length-append past (e ∷ []), kept.all, one_of me (omega (arith, fits.a_node, opening.few_nodes)), steps_more 0 past e, steps_more 1 past e, steps_more 2 past e, steps_more 3 past e,
+      steps_more 4 past e, steps_more 5 past e, steps_more 6 past e, steps_more 7 past e)
 
   -- what comes of the node, once it is shown to belong
   pub record IsKept (more : ℕ → Option Block) : Type 0 where
@@ -340,15 +320,12 @@ module _ (st : Setting) (past : List Event) (nodes : ℕ → Node) (e : Event) (
     abbrev m : Msg
     m = l.msg
 
-    abbrev rest : List Letter
-    rest = drop (suc (length (taken from me past))) (issued from me past)
-
-    first : in_flight from me past ≡ l ∷ rest
+    first : in_flight from me past ≡ l ∷ drop (suc (length (taken from me past))) (issued from me past)
     first = slice_drop (issued from me past) (length (taken from me past)) l
         (subst (λ (p : List Event). slice_get (issued from me past) (length (arrived from me p)) ≡ Some l) (sym (all_taken past kept.answers)) (subst (IsNext past me) is fits.next))
 
     takeable : IsTakeable st kept.blocks me from here l
-    takeable = next_is_takeable st past nodes opening legal reached kept.blocks kept.are kept.still me from (kept.keeps me) kept.letters l rest first fits.a_node (subst (IsInputOf st) is fits.an_input)
+    takeable = next_is_takeable st past nodes opening legal reached kept.blocks kept.are kept.still me from (kept.keeps me) kept.letters l _ first fits.a_node (subst (IsInputOf st) is fits.an_input)
 
     abbrev o : Reaction
     o = took s step.told.lies from l.seq m (s.known (name_in m)) (Some takeable.turn)
