@@ -7,7 +7,7 @@ use Rattle.bmx_store_laws.proofs.Words.{name_word, anchor_of, Command, Operand, 
 use Rattle.bmx_store_laws.proofs.Words.{State, target_of}
 use Rattle.bmx_store_laws.proofs.Words.{Note, can_serve, same_mode, is_request_of, is_grant_of, Ask, Part, Role, Owner, Parent, IsAsking, IsRequested, requested_run, gifts_are_recorded, each_owes_one_answer, RecordsAreKept, is_owner, answers_owed, owes, is_due}
 use Rattle.bmx_store_laws.proofs.Words.{waits_for, count_notes, is_recall, is_return, AnswersAreOwed, Numbers, Object, IsFirst, Run}
-use Rattle.bmx_store_laws.proofs.Words.{eqb_same, some_same, none_some, eqb_is, eqb_of, in_flight, waits_with, Setting, Known, fields_known, value_in, seen_graph, share_of, grant_in, knows, is_ready, ready_at, Node, world_of, IsCurrent, World, Sent, names_in}
+use Rattle.bmx_store_laws.proofs.Words.{eqb_same, some_same, none_some, eqb_of, in_flight, waits_with, Setting, Known, fields_known, value_in, seen_graph, share_of, grant_in, knows, is_ready, ready_at, Node, world_of, IsCurrent, World, Sent, names_in}
 use Rattle.bmx_store_laws.proofs.Words.{IsSomewhere, IsReached, Event, ViewField}
 use Rattle.bmx_store_laws.proofs.Words.{tested, some_is, contains_map, each_name, one_seat, wants_stand_once, HandsAmong, among, one_if, HasNo, notes_give, seen_known, has_name, seen, seen_record, seen_message, IsSeated, Spot, Asked, Queued, Granted}
 use Rattle.bmx_store_laws.proofs.Words.{letters_about, times_at, StandsOnce, IsFree, IsUnborn}
@@ -23,20 +23,19 @@ use Rattle.bmx_coherence.specs.Copies.{HasRecord}
 use Rattle.bmx_coherence.specs.Waits.{taking, WaitsFor, Wants, WantsAreWaitedFor}
 use Rattle.bmx_coherence.specs.Stuck.{IsStuck, IsHeldElsewhere, StuckNamesHolders}
 use Rattle.bmx_coherence.proofs.Events.{Stands}
-use Rattle.bmx_coherence.proofs.Moments.{knows_it, came, aware, sound, real}
-use Rattle.bmx_coherence.proofs.Parts.{wanted_at, seen_target, waiting_token, want_of, wants, waited, IsWaiting, held_of, known_of, taken_at}
+use Rattle.bmx_coherence.proofs.Moments.{real, aware, knows_it, sound, came}
+use Rattle.bmx_coherence.proofs.Parts.{seen_target, held_of, known_of, taken_at, wanted_at, want_of, wants, waited, waiting_token, IsWaiting}
 use Rattle.bmx_coherence.proofs.Transitions.{values_told}
 
 -- ## lists
 
 -- a reference among values is one among fields
+is_ref : (f : ViewField) (y : ℕ) → value_in f ≡ val.Ref y → f ≡ field.Ref y
+is_ref f y e = grind arith
+
 refers_in : (fields : List ViewField) (y : ℕ) → HasNo y fields → Contains (map value_in fields) (val.Ref y) → ⊥
 refers_in [] y none c = omega (arith, c.1)
-refers_in (f ∷ fields) y none (zero, below, here) = none.0 (is_ref f here)
-  where
-    is_ref : (f : ViewField) → value_in f ≡ val.Ref y → f ≡ field.Ref y
-    is_ref (field.Ref name) e = (let same : name ≡ y = cc in ap (λ (z : ℕ). field.Ref z) same)
-    is_ref _ e = absurd cc
+refers_in (f ∷ fields) y none (zero, below, here) = none.0 (is_ref f y here)
 refers_in (f ∷ fields) y none (suc k, below, there) = refers_in fields y none.1 (k, omega arith, there)
 
 -- and among the fields of a letter it is one of their targets
@@ -54,12 +53,7 @@ has_it y (z ∷ names) (suc k, below, there) = grind (arith, nat_tests, has_it y
 
 -- a token that makes a name wanted in a mode is of this name and mode
 wanted_is : (t : Option (Mode × ℕ)) (m : Mode) (x : ℕ) → wanted_at t x ≡ Some m → t ≡ Some (m, x)
-wanted_is None m x e = none_some e
-wanted_is (Some t) m x e = by_test (t.1 == x) (eqb_is t.1 x) e
-  where
-    by_test : (b : Bool) → (b ≡ true → t.1 ≡ x) → cond b (Some t.0) None ≡ Some m → Some t ≡ Some (m, x)
-    by_test true q e = λ i. Some (some_same e i, q refl i)
-    by_test false q e = none_some e
+wanted_is t m x e = grind (arith, nat_tests)
 
 abbrev not_empty : List ℕ → Bool
 not_empty [] = false

@@ -1,17 +1,17 @@
 -- A moment of a store: a legal history, and the nodes that it leads to. What the laws of one object say of it: tokens
 -- are sound, who writes is alone, and the next name of a node is new.
-use Rattle.bmx_store_laws.proofs.Words.{◌≡◌, ℕ, refl, ap, sym, subst, ◌∙◌, true, cond, List, [], ◌∷◌, map, ◌<◌, arith, ◌+◌, ◌≤◌, ◌≢◌, ◌^◌, map-append, option_map, Option, Some, None, is_some, ◌==◌, Contains, IsSome, count_by}
+use Rattle.bmx_store_laws.proofs.Words.{◌≡◌, ℕ, refl, ap, sym, subst, ◌∙◌, true, cond, List, [], ◌∷◌, map, ◌<◌, arith, ◌+◌, ◌≤◌, ◌≢◌, ◌^◌, map-append, Option, Some, None, is_some, ◌==◌, Contains, IsSome, count_by}
 use Rattle.bmx_store_laws.proofs.Words.{IsOpening, name_word, Info, Operand, Register, Anchor, Mode, Write, Val, Field, Letter, Msg, ReadGrant, WriteGrant}
 use Rattle.bmx_store_laws.proofs.Words.{State, reference, target_of, Effect, MakesOne, Stores}
 use Rattle.bmx_store_laws.proofs.Words.{Role, Owner, Parent, IsShared, shared_run, IsSound, IsSoundIf, IsNowhere}
-use Rattle.bmx_store_laws.proofs.Words.{some_same, none_some, eqb_of, IsOperandOf, in_flight, AreAfter, IsLegal, Setting, Known, fields_known, value_in, share_of, grant_in, next_name, name_in, note_in, Node, world_of, HasOwned, Event, ViewField}
+use Rattle.bmx_store_laws.proofs.Words.{some_same, none_some, eqb_of, IsOperandOf, in_flight, AreAfter, IsLegal, Setting, Known, fields_known, share_of, grant_in, next_name, name_in, note_in, Node, world_of, HasOwned, Event}
 use Rattle.bmx_store_laws.proofs.Words.{nodes_of, each_name, Came, came_after, new_nowhere, one_seat, readers_are_listed_always, split_at, moving_counted, seen_known, seen, seen_message, seen_note, first_world, IsSeated, HasReader, handovers_of, IsFree}
 use Rattle.bmx_store_laws.proofs.Words.{IsUnborn}
 use Rattle.bmx_store_laws.proofs.Words.val
 use Rattle.bmx_store_laws.proofs.Words.graph_step
 use Rattle.bmx_store_laws.proofs.Words.seated
 use Rattle.bmx_protocol.specs.Worlds.{At}
-use Rattle.bmx_coherence.proofs.Parts.{IsBeside, known_of, IsOwnStore, IsPart}
+use Rattle.bmx_coherence.proofs.Parts.{IsPart, IsBeside, known_of, IsOwnStore}
 
 -- a legal history of a store, and the nodes after it
 pub record IsMoment (st : Setting) (past : List Event) (nodes : ℕ → Node) : Type 0 where
@@ -32,6 +32,13 @@ knows_it (Some k) none = refl
 pub unknown : (k : Option Known) → seen_known k ≡ None → k ≡ None
 unknown None e = refl
 unknown (Some k) e = absurd cc
+
+known_copy : (k : Option Known) (fields : List Val) → fields_known k ≡ Some fields → (j : Known) × (k ≡ Some j) × IsSome j.copy
+known_copy None fields e = none_some e
+known_copy (Some j) fields e = (j, refl, copied j fields e)
+  where
+    copied : (j : Known) (fields : List Val) → fields_known (Some j) ≡ Some fields → is_some j.copy ≡ true
+    copied j fields e = grind arith
 
 -- a letter that grants an object is about it
 granted_name : (m : Msg) (info : Info) (fields : List Field) → grant_in m ≡ Some (info, fields) → name_in m ≡ info.name
@@ -123,14 +130,6 @@ module _ (st : Setting) (past : List Event) (nodes : ℕ → Node) (now : IsMome
       grants = λ n m l info fields there brought named. by_message n m l info fields there named l.msg refl brought;
     }
       where
-        known_copy : (k : Option Known) (fields : List Val) → fields_known k ≡ Some fields → (j : Known) × (k ≡ Some j) × IsSome j.copy
-        known_copy None fields e = none_some e
-        known_copy (Some j) fields e = (j, refl, by_copy j.copy e)
-          where
-            by_copy : (c : Option (List ViewField)) → option_map (map value_in) c ≡ Some fields → IsSome c
-            by_copy None e = none_some e
-            by_copy (Some l) e = refl
-
         by_role : (n : ℕ) → n ≢ me → (j : Known) → (nodes n).state.known x ≡ Some j → IsSome j.copy → (r : Role) → j.part.role ≡ r → ⊥
         by_role n apart j at copy Owner e = apart (sole.0 n j (record { known = at; owns = e }))
         by_role n apart j at copy (Parent parent) e =

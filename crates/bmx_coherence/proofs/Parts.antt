@@ -1,10 +1,11 @@
 -- A node's part of the graph: its registers, what it holds, how many names it made, and its copies, which have the
 -- fields of the graph. What changes of a node, and effects of its commands on the graph, make of it.
-use Rattle.bmx_store_laws.proofs.Words.{◌≡◌, ℕ, refl, ap, sym, subst, ◌∙◌, Bool, true, false, cond, List, [], ◌∷◌, map, arith, zero, suc, ◌+◌, map-set, option_map, option_map_or, Option, Some, None, is_some, unwrap_or, replicate, ◌==◌, IfSome, slice_set}
+use Rattle.bmx_store_laws.proofs.Words.{◌≡◌, ℕ, refl, ap, sym, subst, ◌∙◌, Bool, true, false, cond, List, [], ◌∷◌, map, arith, zero, suc, ◌+◌, nat_tests, map-set, option_map, option_map_or, Option, Some, None, is_some, unwrap_or, replicate, ◌==◌, IfSome}
+use Rattle.bmx_store_laws.proofs.Words.{slice_set}
 use Rattle.bmx_store_laws.proofs.Words.{put, put_at, name_word, Command, Operand, Register, Mode, Write, Val}
-use Rattle.bmx_store_laws.proofs.Words.{State, fields_of, value_of, reference, target_of, changed, Effect, Nothing, MakesOne, SetsOne, Stores, Holds}
-use Rattle.bmx_store_laws.proofs.Words.{eqb_same, put_same, none_some, put_apart, eqb_apart, put_at_row, Each, kept_by_each, Knows, after_changes, Change, Sets, Hears, after_change, NodeState, Known, fields_known, value_in, seen_graph, field_of, with_field}
-use Rattle.bmx_store_laws.proofs.Words.{next_name, new_object, graph_changes, stored, ViewField}
+use Rattle.bmx_store_laws.proofs.Words.{State, value_of, reference, target_of, changed, Effect, Nothing, MakesOne, SetsOne, Stores, Holds}
+use Rattle.bmx_store_laws.proofs.Words.{eqb_same, put_same, none_some, put_apart, put_at_row, Each, kept_by_each, Knows, after_changes, Change, Sets, Hears, after_change, NodeState, Known, fields_known, value_in, seen_graph, field_of, with_field, next_name}
+use Rattle.bmx_store_laws.proofs.Words.{new_object, graph_changes, stored, ViewField}
 use Rattle.bmx_store_laws.proofs.Words.{some_is, put_each, heard_each}
 use Rattle.bmx_store_laws.proofs.Words.val
 use Rattle.bmx_store_laws.proofs.Words.graph_step
@@ -203,9 +204,7 @@ IsBeside g me x _ = Unit {0}
 
 -- it leaves the fields of x
 pub object_kept : (g : State) (me x : ℕ) (e : Effect) → IsBeside g me x e → (changed g me e).object x ≡ g.object x
-object_kept g me x (MakesOne register bunch size) beside = put_apart g.object (graph_step.next_name g me) x (Some (replicate size val.Null)) (eqb_apart (graph_step.next_name g me) x beside)
-object_kept g me x (Stores name index v) beside = put_apart g.object name x (Some (slice_set (fields_of g name) index v)) (eqb_apart name x beside)
-object_kept g me x _ beside = refl
+object_kept g me x e beside = grind (arith, nat_tests)
 
 -- another node's part stays, and what it waits for
 module _ (me n : ℕ) (g : State) (e : Effect) (apart : (me == n) ≡ false) where

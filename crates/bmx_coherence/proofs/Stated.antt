@@ -2,16 +2,16 @@
 use Rattle.bmx_store_laws.proofs.Words.{◌≡◌, ℕ, refl, ap, sym, subst, ◌∙◌, Bool, true, false, cond, List, [], ◌∷◌, arith, length, inl, inr, ◌≤◌, ◌++◌, ◌-◌, slice_get_cases, option_map, option_map_or, ◌↔◌, Option, Some, None, is_some, ◌==◌, ◌&&◌, nat_lt}
 use Rattle.bmx_store_laws.proofs.Words.{IsOpening, put, name_word, Command, Birth, Val}
 use Rattle.bmx_store_laws.proofs.Words.{opening_state}
-use Rattle.bmx_store_laws.proofs.Words.{none_some, eqb_is, empty_is_legal, replay_is_determined, AreAfter, IsLegal, Replays, Setting, Known, fields_known, first_known, birth_of, is_anchor, owned_birth, heard_birth, is_full, Reaction, refused}
-use Rattle.bmx_store_laws.proofs.Words.{graph_rule, first_node, Node, command_in, rule, IsStep, finds_full, Event, Input, Do}
+use Rattle.bmx_store_laws.proofs.Words.{eqb_is, empty_is_legal, replay_is_determined, AreAfter, IsLegal, Replays, Setting, Known, fields_known, first_known, birth_of, is_anchor, owned_birth, heard_birth, is_full, Reaction, refused, answered, graph_rule}
+use Rattle.bmx_store_laws.proofs.Words.{first_node, Node, command_in, rule, IsStep, finds_full, Event, Input, Do}
 use Rattle.bmx_store_laws.proofs.Words.{along_history, step_answer, finds_birth}
 use Rattle.bmx_store_laws.proofs.Words.command
 use Rattle.bmx_store_laws.proofs.Words.refusal
 use Rattle.bmx_store_laws.proofs.Words.answer
 use Rattle.bmx_coherence.specs.Laws.{EveryHistoryIsAGraphRun, FullIsAtTheLimit, NodesHaveTheGraph, CopiesAreCurrent, TargetsStand, EachWaitsForItsWant, StuckNodesNameHolders}
 use Rattle.bmx_coherence.proofs.Events.{Stands, one_more}
-use Rattle.bmx_coherence.proofs.Following.{reached_current, wants_waited_for, target_refers, stuck_names_holders, given_known, made_current}
-use Rattle.bmx_coherence.proofs.Parts.{nothing, IsPart, held_of, values_again, want_of}
+use Rattle.bmx_coherence.proofs.Following.{reached_current, stuck_names_holders, given_known, wants_waited_for, target_refers, made_current}
+use Rattle.bmx_coherence.proofs.Parts.{values_again, want_of, held_of, IsPart, nothing}
 
 -- ## the opening
 
@@ -24,10 +24,7 @@ free_first b z t = grind arith
 
 copy_first : (b : Option Birth) (z t : Bool) (fields : List Val) → fields_known (known_first b z t) ≡ Some fields → option_map (λ (c : Birth). c.fields) b ≡ Some fields
 copy_first (Some b) true t fields h = ap Some (sym (values_again b.fields)) ∙ h
-copy_first None true t fields h = none_some h
-copy_first None false true fields h = none_some h
-copy_first (Some b) false true fields h = none_some h
-copy_first b false false fields h = none_some h
+copy_first b z t fields h = grind arith
 
 part_first : (st : Setting) (n : ℕ) → IsPart n (first_node st n).state (opening_state st.births) nothing
 part_first st n = record {

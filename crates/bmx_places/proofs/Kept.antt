@@ -1,6 +1,6 @@
 -- What is kept along a legal history: a ledger to which all belongs, and that no letter was stray.
-use Rattle.bmx_store_laws.proofs.Words.{◌≡◌, ℕ, refl, ap, sym, subst, ◌∙◌, Bool, true, false, cond, List, [], ◌∷◌, map, ◌<◌, arith, drop, length, suc, ◌⊎◌, inl, inr, ◌+◌, ◌≤◌, ◌++◌, ◌≢◌, ◌^◌, length-append, nat_tests, length-map, length-replicate}
-use Rattle.bmx_store_laws.proofs.Words.{sum_by-append, flat_map, option_map, option_map_or, Option, Some, None, is_some, unwrap_or, slice_get, ◌==◌, ◌&&◌, not, ◌||◌, nat_le, count_by, filter}
+use Rattle.bmx_store_laws.proofs.Words.{◌≡◌, ℕ, refl, ap, sym, subst, ◌∙◌, Bool, true, false, cond, List, [], ◌∷◌, map, ◌<◌, arith, drop, length, suc, inl, inr, ◌+◌, ◌≤◌, ◌++◌, ◌≢◌, ◌^◌, length-append, nat_tests, length-map, length-replicate, sum_by-append}
+use Rattle.bmx_store_laws.proofs.Words.{flat_map, option_map, option_map_or, Option, Some, None, is_some, unwrap_or, slice_get, ◌==◌, ◌&&◌, not, ◌||◌, nat_le, count_by, filter}
 use Rattle.bmx_store_laws.proofs.Words.{IsOpening, bunches_of, put, maker, count_of, Info, Place, Command, Write, Field, Letter, Msg, ReadGrant, WriteGrant}
 use Rattle.bmx_store_laws.proofs.Words.{Note, Grants, Serves, note_transition, Owner, IsShared, shared_run, IsSoundIf}
 use Rattle.bmx_store_laws.proofs.Words.{put_same, some_same, none_some, eqb_of, Every, at_each, every_append, after_append, Each, each_append, Knows, after_changes, with_step, Change, Sets, Hears, after_change, in_flight, taken, issued, arrived, IsNext}
@@ -15,10 +15,10 @@ use Rattle.bmx_store_laws.proofs.Words.answer
 use Rattle.bmx_store_laws.proofs.Words.field
 use Rattle.bmx_protocol.specs.Changes.{Makes}
 use Rattle.bmx_places.specs.Ledger.{Block, AreBlocks, block_of, LiesIn}
-use Rattle.bmx_places.proofs.Blocks.{hears_all, IsTold, learnt_either, Keeps, same_shape, learnt_handed}
-use Rattle.bmx_places.proofs.Making.{made_blocks, blocks_later, handed_more, IsHome, Grows, IsLaterThan, keeps_grown, made_keeps, home_made, made_grows, made_or_old, with_block, r}
-use Rattle.bmx_places.proofs.Next.{Goes, EachIssued, IsIssued, next_is_takeable, IsTakeable, IssuesRight}
-use Rattle.bmx_places.proofs.Outcomes.{AllOf, silent_drafts, command_comes, changes_kept, IsPlain, serve_not_stray, IsDraft, Plain, IsRight, act_plain, IsKnown, Belongs, sent_plain, known_plain, Comes, Plainly, never_stray, New}
+use Rattle.bmx_places.proofs.Blocks.{Keeps, hears_all, IsTold, learnt_handed, same_shape, learnt_either}
+use Rattle.bmx_places.proofs.Making.{IsHome, made_grows, Grows, made_keeps, home_made, IsLaterThan, made_blocks, blocks_later, keeps_grown, made_or_old, with_block, r, handed_more}
+use Rattle.bmx_places.proofs.Next.{EachIssued, Goes, next_is_takeable, IsTakeable, IsIssued, IssuesRight}
+use Rattle.bmx_places.proofs.Outcomes.{never_stray, act_plain, Comes, known_plain, serve_not_stray, Belongs, IsDraft, sent_plain, AllOf, changes_kept, IsPlain, silent_drafts, Plainly, Plain, New, command_comes, IsRight, IsKnown}
 
 -- ## how many events there are
 
@@ -127,8 +127,20 @@ module _ (st : Setting) (past : List Event) (nodes : ℕ → Node) (e : Event) (
   few_after n = few_more n me (steps_of n past) (steps_of n (past ++ e ∷ [])) (steps_more n past e) (λ q. subst (λ (k : ℕ). steps_of k past + 1 < 2 ^ 55) q fits.few) (kept.few n)
 
   all_after : length (past ++ e ∷ []) ≡ total (past ++ e ∷ [])
-  all_after = omega (arith, length-append past (e ∷ []), kept.all, one_of me (omega (arith, fits.a_node, opening.few_nodes)), steps_more 0 past e, steps_more 1 past e, steps_more 2 past e, steps_more 3 past e,
-      steps_more 4 past e, steps_more 5 past e, steps_more 6 past e, steps_more 7 past e)
+  all_after = omega (
+    arith,
+    length-append past (e ∷ []),
+    kept.all,
+    one_of me (omega (arith, fits.a_node, opening.few_nodes)),
+    steps_more 0 past e,
+    steps_more 1 past e,
+    steps_more 2 past e,
+    steps_more 3 past e,
+    steps_more 4 past e,
+    steps_more 5 past e,
+    steps_more 6 past e,
+    steps_more 7 past e,
+  )
 
   -- what comes of the node, once it is shown to belong
   pub record IsKept (more : ℕ → Option Block) : Type 0 where
@@ -286,7 +298,7 @@ module _ (st : Setting) (past : List Event) (nodes : ℕ → Node) (e : Event) (
     new_kept = kept_again more (record {
       grows = grown;
       are = made_blocks st w v kept.blocks kept.are me s.known x k (kept.homes me) of_store.2 room then_later fits.a_node handed_is of_store.1 counted unnamed;
-      still = still;
+      still = λ c b there. elim (made_or_old st w v kept.blocks kept.are me s.known x k (kept.homes me) of_store.2 room c b there) [ inl new ↦ new.1 | inr old ↦ kept.still c b old ];
       home = subst IsHome (sym places_are) (home_made st w v kept.blocks kept.are me s.known x k (kept.homes me) of_store.2 room);
       keeps = subst (Keeps more after.state.known) (sym places_are) (subst (λ (f : ℕ → Option Known). Keeps more f (with_made me here.places x bunch size)) (sym (ap (λ (t : NodeState). t.known) state_then))
           (made_keeps st w v kept.blocks kept.are me s.known x k (kept.homes me) of_store.2 room then_later fits.a_node handed_is of_store.1 counted unnamed (kept.keeps me) replicate_full));
@@ -294,13 +306,6 @@ module _ (st : Setting) (past : List Event) (nodes : ℕ → Node) (e : Event) (
       letters = subst (Every (Goes more)) (sym (step_letters step o from_rule ∙ ap (letters_of e.stamp s) makes)) tt;
       answer = λ stray. (let both : answer.Nil ≡ answer.Stray = sym (ap (λ (p : Reaction). p.answer) makes) ∙ sym (answer_is o from_rule) ∙ stray in cc);
     })
-      where
-        still : (c : ℕ) (b : Block) → more c ≡ Some b → b.moves ≡ 0
-        still c b there = by_which (made_or_old st w v kept.blocks kept.are me s.known x k (kept.homes me) of_store.2 room c b there)
-          where
-            by_which : ((b.name ≡ x) × (b.moves ≡ 0)) ⊎ (kept.blocks c ≡ Some b) → b.moves ≡ 0
-            by_which (inl new) = new.1
-            by_which (inr old) = kept.still c b old
 
   -- ## a command
 

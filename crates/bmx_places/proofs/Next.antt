@@ -1,15 +1,15 @@
 -- The first letter in flight between two nodes is taken: nothing that makes a letter stray can be said of it.
 use Rattle.bmx_store_laws.proofs.Words.{◌≡◌, ℕ, refl, ap, sym, subst, ◌∙◌, Bool, true, false, cond, List, [], ◌∷◌, map, ◌<◌, arith, drop, length, zero, suc, ◌+◌, ◌≤◌, ◌≢◌, ◌^◌, ltb-true, ltb-false, nat_tests, sum_by-cons, list_any, option_map, option_map_or}
-use Rattle.bmx_store_laws.proofs.Words.{Option, Some, None, slice_get, ◌==◌, ◌&&◌, nat_lt, not, ◌||◌, IsSome}
-use Rattle.bmx_store_laws.proofs.Words.{IsOpening, bunches_of, maker, count_of, home_of, Info, Mode, Read, Write, Field, Letter, Msg, ReadReq, WriteReq}
-use Rattle.bmx_store_laws.proofs.Words.{Note, Asks, Transition, note_transition, is_request_of, nobody_asks_itself, NoneIsStray, IsApart, hears, said_transition, letter_transition}
+use Rattle.bmx_store_laws.proofs.Words.{Option, Some, None, is_some, slice_get, ◌==◌, ◌&&◌, nat_lt, not, ◌||◌, IsSome}
+use Rattle.bmx_store_laws.proofs.Words.{IsOpening, bunches_of, maker, count_of, home_of, Info, Mode, Read, Write, Field, Letter, Msg, ReadReq, WriteReq, ReadGrant, WriteGrant}
+use Rattle.bmx_store_laws.proofs.Words.{Note, Asks, Transition, note_transition, is_request_of, nobody_asks_itself, NoneIsStray, IsApart, hears, said_transition}
 use Rattle.bmx_store_laws.proofs.Words.{eqb_same, some_same, none_some, eqb_of, Every, every_append, in_flight, taken, letters_to, issued, AreAfter, IsLegal, Setting, NodeState, share_of, grant_in, knows, name_in, note_in, infos, Node, is_no_node, is_bad_msg}
 use Rattle.bmx_store_laws.proofs.Words.{is_bad_letter, some_clash, is_no_name, is_bad_info, asker_in, world_of, World, Event, Sending}
-use Rattle.bmx_store_laws.proofs.Words.{numbered_at, either, first_there, issued_to, each_name, Came, came_after, wants_stand_once, names_are_counted, seen_known, seen, seen_message, first_world, Asked, letters_about, times_at, IsCounted}
+use Rattle.bmx_store_laws.proofs.Words.{numbered_at, some_is, either, first_there, issued_to, each_name, Came, came_after, wants_stand_once, names_are_counted, seen_known, seen, seen_message, first_world, Asked, letters_about, times_at, IsCounted}
 use Rattle.bmx_token_model.proofs.Stated.{no_letter_is_stray}
 use Rattle.bmx_protocol.specs.Worlds.{Between}
 use Rattle.bmx_places.specs.Ledger.{Block, IsBlock, AreBlocks, block_of}
-use Rattle.bmx_places.proofs.Blocks.{Keeps, hears_all, IsTold}
+use Rattle.bmx_places.proofs.Blocks.{hears_all, IsTold, Keeps}
 use Rattle.bmx_places.proofs.Outcomes.{IsRight}
 
 -- ## letters of a history
@@ -60,6 +60,20 @@ not_bad st me s info name bunch home size moves = grind (arith, nat_tests)
 good_letter : (st : Setting) (me from : ℕ) (s : NodeState) (l : Letter) → from ≢ me → from < st.nodes → l.seq ≡ s.taken from + 1 → l.stamp < 2 ^ 62 → is_bad_msg st me s l.msg ≡ false →
     is_bad_letter st me s from l ≡ false
 good_letter st me from s l apart real number stamp fine = grind (arith, nat_tests)
+
+asker_fits : (st : Setting) (m : Msg) → ((k : Mode) (a : ℕ) → note_in m ≡ Asks k a → is_no_node st a ≡ false) → option_map_or (is_no_node st) (asker_in m) false ≡ false
+asker_fits st (ReadReq name a) asks = asks Read a refl
+asker_fits st (WriteReq name a) asks = asks Write a refl
+asker_fits st _ asks = refl
+
+full_fits : (m : Msg) → ((g : Info × List Field) → grant_in m ≡ Some g → length g.1 ≡ g.0.size) → option_map_or (λ (g : Info × List Field). not (length g.1 == g.0.size)) (grant_in m) false ≡ false
+full_fits (ReadGrant info fields) full = λ i. not (eqb_of (full (info, fields) refl) i)
+full_fits (WriteGrant info fields) full = λ i. not (eqb_of (full (info, fields) refl) i)
+full_fits _ full = refl
+
+mapped_some : {A B : Type 0} (f : A → B) (o : Option A) → IsSome (option_map f o) → is_some o ≡ true
+mapped_some f None h = h
+mapped_some f (Some a) h = refl
 
 -- ## the letter
 
@@ -151,19 +165,10 @@ module _ (st : Setting) (past : List Event) (nodes : ℕ → Node) (opening : Is
           absurd (omega (arith, none, counted))
 
   asker_not : option_map_or (is_no_node st) (asker_in l.msg) false ≡ false
-  asker_not = by_msg l.msg refl
-    where
-      by_msg : (m : Msg) → l.msg ≡ m → option_map_or (is_no_node st) (asker_in m) false ≡ false
-      by_msg (ReadReq name asker) e = asks_not Read asker (ap note_in e)
-      by_msg (WriteReq name asker) e = asks_not Write asker (ap note_in e)
-      by_msg _ e = refl
+  asker_not = asker_fits st l.msg asks_not
 
   full_not : option_map_or (λ (g : Info × List Field). not (length g.1 == g.0.size)) (grant_in l.msg) false ≡ false
-  full_not = by_grant (grant_in l.msg) refl
-    where
-      by_grant : (g : Option (Info × List Field)) → grant_in l.msg ≡ g → option_map_or (λ (g : Info × List Field). not (length g.1 == g.0.size)) g false ≡ false
-      by_grant None e = refl
-      by_grant (Some g) e = λ i. not (eqb_of (its.right.full g e) i)
+  full_not = full_fits l.msg its.right.full
 
   msg_not : is_bad_msg st me s l.msg ≡ false
   msg_not = λ i. its_name i || asker_not i || full_not i || infos_not (infos l.msg) its.right.told i
@@ -173,18 +178,9 @@ module _ (st : Setting) (past : List Event) (nodes : ℕ → Node) (opening : Is
 
   -- it has its transition
   its_turn : (t : Transition) × (note_transition me from (note_in l.msg) (option_map share_of (s.known x)) ≡ Some t)
-  its_turn = by_turn (note_transition me from (note_in l.msg) (option_map share_of (s.known x))) refl (subst (λ (n : Option Note). IsSome (option_map then_hears (said_transition me from n (seen_known (s.known x))))) its_note taken_there)
-    where
-      then_hears : Transition → Transition
-      then_hears t = record t { after = hears (seen_message x l).tells from t.after }
-
-      taken_there : IsSome (letter_transition me from (seen_message x l) (seen_known (s.known x)))
-      taken_there = each_name NoneIsStray no_letter_is_stray st past nodes opening legal after x from me (seen_message x l) (map (seen_message x) rest) apart seen_first
-
-      by_turn : (o : Option Transition) → note_transition me from (note_in l.msg) (option_map share_of (s.known x)) ≡ o → IsSome (option_map then_hears o) →
-          (t : Transition) × (note_transition me from (note_in l.msg) (option_map share_of (s.known x)) ≡ Some t)
-      by_turn None e h = absurd cc
-      by_turn (Some t) e h = (t, e)
+  its_turn = some_is (note_transition me from (note_in l.msg) (option_map share_of (s.known x))) (mapped_some (λ (t : Transition). record t { after = hears (seen_message x l).tells from t.after }) _
+      (subst (λ (n : Option Note). IsSome (option_map (λ (t : Transition). record t { after = hears (seen_message x l).tells from t.after }) (said_transition me from n (seen_known (s.known x))))) its_note
+      (each_name NoneIsStray no_letter_is_stray st past nodes opening legal after x from me (seen_message x l) (map (seen_message x) rest) apart seen_first)))
 
   pub next_is_takeable : IsTakeable st blocks me from (nodes me) l
   next_is_takeable = record {

@@ -3,13 +3,13 @@ use Rattle.bmx_store_laws.proofs.Words.{◌≡◌, ℕ, refl, ap, sym, subst, �
 use Rattle.bmx_store_laws.proofs.Words.{None, unwrap_or, slice_get, ◌==◌, ◌&&◌, nat_lt, not, filter}
 use Rattle.bmx_store_laws.proofs.Words.{IsOpening, bunches_of, put, maker, count_of, Info, Place, Birth, blank, Record}
 use Rattle.bmx_store_laws.proofs.Words.{put_same, some_same, none_some, put_apart, eqb_apart, Every, In, Distinct, every_in, every_of, in_contains, found, numbered_above, in_bunches, of_bunches, all_bunches, distinct_bunches, learns, learns_in, distinct}
-use Rattle.bmx_store_laws.proofs.Words.{ordered, known_first, anchors, anchors_of, known_told, Setting, Known, first_known, birth_of, is_anchor, owned_birth, heard_birth, field_of, first_entering, Places, has_room, with_made, with_segment, with_placed}
-use Rattle.bmx_store_laws.proofs.Words.{no_places, with_births, by_bunch, owner_places, told_place, with_told, first_node, nowhere, clashes, world_of, World}
+use Rattle.bmx_store_laws.proofs.Words.{ordered, known_first, anchors, anchors_of, known_told, Setting, Known, first_known, birth_of, is_anchor, owned_birth, heard_birth, field_of, first_entering, Places, with_made, no_places, with_births, by_bunch}
+use Rattle.bmx_store_laws.proofs.Words.{owner_places, told_place, with_told, first_node, nowhere, clashes, world_of, World}
 use Rattle.bmx_store_laws.proofs.Words.{IsCounted}
 use Rattle.bmx_places.specs.Ledger.{Block, AreBlocks, block_at, LiesIn, IsOf, block_of}
-use Rattle.bmx_places.proofs.Blocks.{Keeps, object_keeps, none_keeps, no_clash}
+use Rattle.bmx_places.proofs.Blocks.{no_clash, object_keeps, Keeps, none_keeps}
 use Rattle.bmx_places.proofs.Kept.{Kept}
-use Rattle.bmx_places.proofs.Making.{made_keeps, made_blocks, made_or_old, with_block, home_made, blocks_later, IsHome, IsLaterThan, r, handed_more}
+use Rattle.bmx_places.proofs.Making.{made_or_old, made_blocks, made_keeps, blocks_later, IsLaterThan, IsHome, r, home_made, handed_more, with_block}
 use Rattle.bmx_places.proofs.Outcomes.{AllOf}
 
 no_home : IsHome no_places
@@ -23,18 +23,13 @@ handed_by : (a b c : Places) (s : ℕ) (t : Bool) → a.handed s ≤ b.handed s 
 handed_by a b c s true h = h
 handed_by a b c s false h = omega arith
 
+told_handed : (a : Places) (p : Option Place) (c : Birth) (s : ℕ) → (told_place a p c).handed s ≡ a.handed s
+told_handed a p c s = grind arith
+
 -- ## node 0
 
 most_made : (a : Places) (x bunch size : ℕ) → (with_made 0 a x bunch size).made ≤ a.made + 1
-most_made a x bunch size = by_room (has_room a (a.opened bunch) (4 + size))
-  where
-    same : (b : Places) (o : Option ℕ) → (with_placed 0 b x size o).made ≡ b.made
-    same b None = refl
-    same b (Some segment) = refl
-
-    by_room : (t : Bool) → (with_placed 0 (cond t a (with_segment 0 a bunch)) x size ((cond t a (with_segment 0 a bunch)).opened bunch)).made ≤ a.made + 1
-    by_room true = omega (arith, same a (a.opened bunch))
-    by_room false = omega (arith, same (with_segment 0 a bunch) ((with_segment 0 a bunch).opened bunch))
+most_made a x bunch size = grind arith
 
 module _ (st : Setting) (opening : IsOpening st.nodes st.limit st.births) where
   -- a world where only node 0 has places
@@ -94,23 +89,15 @@ module _ (st : Setting) (opening : IsOpening st.nodes st.limit st.births) where
     placed_one = record {
       blocks = more;
       are = made_blocks st (world_at a) v p.blocks p.are 0 known b.name (owned_birth b) p.home small (λ h. few) later opening.a_node refl (in_bunches st.births b there) (counted b there (with_made 0 a b.name b.bunch (length b.fields))) unnamed;
-      still = λ c d e. still c d (which c d e);
+      still = λ c d e. elim (which c d e) [ inl new ↦ new.1 | inr old ↦ p.still c d old ];
       home = home_made st (world_at a) v p.blocks p.are 0 known b.name (owned_birth b) p.home small (λ h. few);
       keeps = made_keeps st (world_at a) v p.blocks p.are 0 known b.name (owned_birth b) p.home small (λ h. few) later opening.a_node refl (in_bunches st.births b there) (counted b there (with_made 0 a b.name b.bunch (length b.fields))) unnamed p.keeps
           (λ fields c. ap length (sym (some_same c)) ∙ length-map b.fields field_of);
-      fresh = λ c d e. fresh c d (which c d e);
+      fresh = λ c d e. elim (which c d e) [ inl new ↦ subst (λ (k : ℕ). Every (λ (z : Birth). k ≢ z.name) bs) (sym new.0) apart | inr old ↦ (p.fresh c d old).1 ];
     }
       where
         which : (c : ℕ) (d : Block) → more c ≡ Some d → ((d.name ≡ b.name) × (d.moves ≡ 0)) ⊎ (p.blocks c ≡ Some d)
-        which c d e = made_or_old st (world_at a) v p.blocks p.are 0 known b.name (owned_birth b) p.home small (λ h. few) c d e
-
-        still : (c : ℕ) (d : Block) → ((d.name ≡ b.name) × (d.moves ≡ 0)) ⊎ (p.blocks c ≡ Some d) → d.moves ≡ 0
-        still c d (inl new) = new.1
-        still c d (inr old) = p.still c d old
-
-        fresh : (c : ℕ) (d : Block) → ((d.name ≡ b.name) × (d.moves ≡ 0)) ⊎ (p.blocks c ≡ Some d) → Every (λ (z : Birth). d.name ≢ z.name) bs
-        fresh c d (inl new) = subst (λ (k : ℕ). Every (λ (z : Birth). k ≢ z.name) bs) (sym new.0) apart
-        fresh c d (inr old) = (p.fresh c d old).1
+        which = made_or_old st (world_at a) v p.blocks p.are 0 known b.name (owned_birth b) p.home small (λ h. few)
 
   placed_all : (bs : List Birth) (known : ℕ → Option Known) (a : Places) → Every (λ (b : Birth). In b st.births) bs → Distinct bs → a.made + length bs ≤ 6000000 →
       Placed known a bs → Placed (learns owned_birth known bs) (with_births a bs) []
@@ -201,11 +188,7 @@ module _ (st : Setting) (opening : IsOpening st.nodes st.limit st.births) where
 
       handed : (bs : List Birth) (a : Places) (s : ℕ) → (with_told owned a bs).handed s ≡ a.handed s
       handed [] a s = refl
-      handed (c ∷ bs) a s = handed bs (told_place a (owned.place c.name) c) s ∙ one (owned.place c.name)
-        where
-          one : (p : Option Place) → (told_place a p c).handed s ≡ a.handed s
-          one None = refl
-          one (Some p) = refl
+      handed (c ∷ bs) a s = handed bs (told_place a (owned.place c.name) c) s ∙ told_handed a (owned.place c.name) c s
 
   -- ## all nodes
 
