@@ -1,11 +1,9 @@
 -- What a node answers a command the graph may answer, and what the command changes at the node it changes in the graph.
-use Rattle.bmx_store_laws.proofs.Words.{◌≡◌, ℕ, refl, ap, sym, subst, ◌∙◌, Bool, true, false, cond, List, [], ◌∷◌, map, arith, ◌⊎◌, inl, inr, ◌≢◌, option_map, Option, Some, None, is_some, unwrap_or, ◌==◌, IfSome}
-use Rattle.bmx_store_laws.proofs.Words.{Place, Command, Operand, Refusal, Mode, Read, Write, Val}
-use Rattle.bmx_store_laws.proofs.Words.{is_excluded, State, fields_of, value_of, target_of, done_answer, answer_of, holding, changed, state_after, MayAnswer, IsAnswer, effect_after, Answer, Effect, Nothing, MakesOne, Holds}
-use Rattle.bmx_store_laws.proofs.Words.{acquire, release, Share, Note, Asks, Grants, Send, Operation, Acquires, Releases, saying, transition_of, Returns, acquired, released, with_token, without_copy, send, Acquire, Release, Part, is_grant}
-use Rattle.bmx_store_laws.proofs.Words.{eqb_same, put_same, some_same, none_some, put_apart, put_at_row, Every, Knows, after_changes, is_wait, IsOperandOf, IsCommandOf, IsAgain, Setting, NodeState, Known, fields_known, value_in, seen_graph, share_of, Draft}
-use Rattle.bmx_store_laws.proofs.Words.{Reaction, refused, message, drafts_of, info_of, told_fields, grant_in, with_share, operation_answer, after_operation, operation_rule, next_name, new_object, graph_changes, token_rule, knows, command_rule, about}
-use Rattle.bmx_store_laws.proofs.Words.{acquire_answer, release_answer, Done, Do, NodeAnswer}
+use Rattle.bmx_store_laws.proofs.Words.{◌≡◌, ℕ, refl, ap, sym, subst, ◌∙◌, Bool, true, false, cond, List, [], ◌∷◌, map, arith, ◌⊎◌, inl, inr, ◌≢◌, option_map, Option, Some, None, is_some, unwrap_or, ◌==◌, Place, Command, Operand, Refusal, Mode, Read, Write}
+use Rattle.bmx_store_laws.proofs.Words.{Val, is_excluded, State, fields_of, value_of, target_of, done_answer, answer_of, holding, changed, state_after, MayAnswer, IsAnswer, effect_after, Answer, Effect, Nothing, MakesOne, Holds, acquire, release, Share, Note}
+use Rattle.bmx_store_laws.proofs.Words.{Asks, Grants, Send, Operation, Acquires, Releases, saying, transition_of, Returns, acquired, released, with_token, without_copy, send, Acquire, Release, Part, is_grant, eqb_same, put_same, some_same, none_some, put_apart}
+use Rattle.bmx_store_laws.proofs.Words.{put_at_row, Every, Knows, after_changes, is_wait, IsOperandOf, IsCommandOf, IsAgain, Setting, NodeState, Known, fields_known, value_in, seen_graph, share_of, Draft, Reaction, refused, message, drafts_of, info_of}
+use Rattle.bmx_store_laws.proofs.Words.{told_fields, grant_in, with_share, operation_answer, after_operation, operation_rule, next_name, new_object, graph_changes, token_rule, knows, command_rule, about, acquire_answer, release_answer, Done, Do, NodeAnswer}
 use Rattle.bmx_store_laws.proofs.Words.{some_is, either, put_each, NoGrants}
 use Rattle.bmx_store_laws.proofs.Words.command
 use Rattle.bmx_store_laws.proofs.Words.refusal
@@ -15,8 +13,8 @@ use Rattle.bmx_store_laws.proofs.Words.release_is
 use Rattle.bmx_store_laws.proofs.Words.answer
 use Rattle.bmx_coherence.specs.Graphs.{graph_answer}
 use Rattle.bmx_coherence.specs.Waits.{taking}
-use Rattle.bmx_coherence.proofs.Parts.{known_of, taken_at, waiting_token, wants, IsWaiting, effect_part, fields_kept, wanted_at, IsOwnStore, seen_value, IsReadyFor, fits_else, IsPart, FitsAt, waited, want_of, seen_target, held_of, nothing}
-use Rattle.bmx_coherence.proofs.Transitions.{Taken, acquiring, Given, releasing}
+use Rattle.std.specs.Prelude.{IfSome}
+use Rattle.bmx_coherence.proofs.Parts.{fits_else, Given, wants, Taken, effect_part, want_of, IsWaiting, wanted_at, acquiring, held_of, IsOwnStore, nothing, FitsAt, IsPart, taken_at, seen_value, known_of, releasing, waiting_token, waited, IsReadyFor, seen_target, fields_kept}
 
 -- no message grants
 abbrev pub Ungranting : List Draft → Type 0
@@ -202,28 +200,23 @@ module _ (st : Setting) (me : ℕ) (s : NodeState) (g : State) (w : Option Comma
   -- ## commands as the graph does them
 
   graph_shown : (full : Bool) (lies : ℕ → Place) (c : Command) → IsCommandOf st c → tokenless c ≡ true → IsPart me s g nothing → IsShown me s g c (command_rule me s full lies c (about c))
-  graph_shown full lies c of plain p = record {
-    effect_is = done_effect st me s g full lies c;
-    answer_is = answered_as (command_rule me s full lies c (about c)).answer;
-    same = done_same st me s g full lies c plain;
-    fits = subst (λ (b : Answer). MayAnswer c b (answered_as (command_rule me s full lies c (about c)).answer)) (done_agrees st me s g full lies c plain values held_same fields_same)
-        (may_answer st me s full lies c plain of known_same);
-    leads = refl;
-    part = rw (silent.1, changes) (effect_part me s g (done_effect st me s g full lies c) (done_ready st me s g full lies c plain values held_same fields_same held_known steady.new) p);
-    waits = rw silent.1 tt;
-    ungranting = rw silent.0 tt;
-    own = done_own st me s g full lies c plain values held_same fields_same;
-    names = rw changes (effect_names me s (done_effect st me s g full lies c));
-  }
-    where
-      values : (on : Operand) → value_of h me on ≡ value_of g me on
-      values = seen_value me s g (wants g me w) steady.part
-
-      silent : ((command_rule me s full lies c (about c)).drafts ≡ []) × (waiting_after c (command_rule me s full lies c (about c)).answer ≡ None)
-      silent = done_silent st me s g full lies c plain
-
-      changes : (command_rule me s full lies c (about c)).changes ≡ graph_changes me s (done_effect st me s g full lies c)
-      changes = done_changes st me s g full lies c plain values held_same fields_same
+  graph_shown full lies c of plain p =
+      let values : (on : Operand) → value_of h me on ≡ value_of g me on = seen_value me s g (wants g me w) steady.part in
+      let silent = done_silent st me s g full lies c plain in
+      let changes : (command_rule me s full lies c (about c)).changes ≡ graph_changes me s (done_effect st me s g full lies c) = done_changes st me s g full lies c plain values held_same fields_same in
+      record {
+        effect_is = done_effect st me s g full lies c;
+        answer_is = answered_as (command_rule me s full lies c (about c)).answer;
+        same = done_same st me s g full lies c plain;
+        fits = subst (λ (b : Answer). MayAnswer c b (answered_as (command_rule me s full lies c (about c)).answer)) (done_agrees st me s g full lies c plain values held_same fields_same)
+            (may_answer st me s full lies c plain of known_same);
+        leads = refl;
+        part = rw (silent.1, changes) (effect_part me s g (done_effect st me s g full lies c) (done_ready st me s g full lies c plain values held_same fields_same held_known steady.new) p);
+        waits = rw silent.1 tt;
+        ungranting = rw silent.0 tt;
+        own = done_own st me s g full lies c plain values held_same fields_same;
+        names = rw changes (effect_names me s (done_effect st me s g full lies c));
+      }
 
   -- ## commands on tokens
 
@@ -234,11 +227,27 @@ module _ (st : Setting) (me : ℕ) (s : NodeState) (g : State) (w : Option Comma
       (record { held = held; want = want; fields = λ l has. objects x ∙ (steady.part.known x).fields l (ap fields_known is ∙ fields_kept k.copy q.copy l has) })
       (λ y h. fits_else (steady.part.known y) (holds y h) (others y h) (λ l has. objects y))
 
-  holds_else : (x : ℕ) (hold : Option Mode) (y : ℕ) → (x == y) ≡ false → g.held me y ≡ (changed g me (Holds x hold)).held me y
-  holds_else x hold y h = sym (put_at_row g.held me x y hold ∙ put_apart (g.held me) x y hold h)
-
-  holds_here : (x : ℕ) (hold : Option Mode) → hold ≡ (changed g me (Holds x hold)).held me x
-  holds_here x hold = sym (put_at_row g.held me x x hold ∙ put_same (g.held me) x hold)
+  -- a token that is then held so, or given back
+  holds_shown : (c : Command) (lies : ℕ → Place) (x : ℕ) (k : Known) (q : Share) (sends : List Send) (hold : Option Mode) → s.known x ≡ Some k → NoGrants sends → IsAnswer g me c graph.Nil →
+      state_after g me c graph.Nil ≡ changed g me (Holds x hold) → q.part.held ≡ hold → q.part.want ≡ None → ((y : ℕ) → (x == y) ≡ false → wants g me w y ≡ None) →
+      IsShown me s g c (after_operation s lies x k answer.Nil (Some (saying q sends)))
+  holds_shown c lies x k q sends hold known none fits leads held want others = record {
+    effect_is = Holds x hold;
+    answer_is = graph.Nil;
+    same = refl;
+    fits = fits;
+    leads = leads;
+    part = record {
+      register = steady.part.register;
+      known = turned (changed g me (Holds x hold)) nothing x k q known (held ∙ sym (put_at_row g.held me x x hold ∙ put_same (g.held me) x hold)) want others
+          (λ y h. sym (put_at_row g.held me x y hold ∙ put_apart (g.held me) x y hold h)) (λ y. refl);
+      made = steady.part.made;
+    };
+    waits = tt;
+    ungranting = notes_ungranting s lies x sends none;
+    own = tt;
+    names = tt;
+  }
 
   -- what is shown where an operand means nothing, and of what is known where it means it, is shown of what it comes to
   token_shown : (Shows : Reaction → Type 0) (act : Operation) (on : Operand) (lies : ℕ → Place) → IsOperandOf st on → (target_of g me on ≡ None → Shows (refused refusal.Empty)) →
@@ -312,22 +321,8 @@ module _ (st : Setting) (me : ℕ) (s : NodeState) (g : State) (w : Option Comma
 
       taking_shown : (r : Acquire) → Taken m k.part q r →
           let o : Reaction = after_operation s lies x k (acquire_answer r) (acquired me m (share_of k) q r) in IsAllowed o → IsShown me s g (takes m on) o
-      taking_shown acquire_is.Held t free = record {
-        effect_is = Holds x (Some m);
-        answer_is = graph.Nil;
-        same = refl;
-        fits = hold_fits g me m on x is (sym held_is ∙ t.0) (free m x (ap held_of (put_same s.known x _) ∙ t.1));
-        leads = taken_leads m on x is;
-        part = record {
-          register = steady.part.register;
-          known = turned (changed g me (Holds x (Some m))) nothing x k (with_token (share_of k) q) known (t.1 ∙ holds_here x (Some m)) t.2 (others its) (holds_else x (Some m)) (λ y. refl);
-          made = steady.part.made;
-        };
-        waits = tt;
-        ungranting = tt;
-        own = tt;
-        names = tt;
-      }
+      taking_shown acquire_is.Held t free = holds_shown (takes m on) lies x k (with_token (share_of k) q) [] (Some m) known tt
+          (hold_fits g me m on x is (sym held_is ∙ t.0) (free m x (ap held_of (put_same s.known x _) ∙ t.1))) (taken_leads m on x is) t.1 t.2 (others its)
       taking_shown (acquire_is.Asks parent) t free = waits_shown (send parent (Asks m me) ∷ []) (refl, tt) t
       taking_shown acquire_is.Waits t free = waits_shown [] tt t
       taking_shown acquire_is.Refused t free =
@@ -345,23 +340,8 @@ module _ (st : Setting) (me : ℕ) (s : NodeState) (g : State) (w : Option Comma
 
     frees_shown : (b : Share) (sends : List Send) → NoGrants sends → (is_some k.part.held ≡ true) × (b.part.held ≡ None) × (b.part.want ≡ k.part.want) →
         IsShown me s g (command.Done on) (after_operation s lies x k answer.Nil (Some (saying b sends)))
-    frees_shown b sends none t = record {
-      effect_is = Holds x None;
-      answer_is = graph.Nil;
-      same = refl;
-      fits = free_fits g me on x is (ap (λ (n : Option Mode). is_some n) (sym held_now) ∙ t.0);
-      leads = ap (λ (t : Option ℕ). changed g me (holding t None)) is;
-      part = record {
-        register = p.register;
-        known = turned (changed g me (Holds x None)) nothing x k b known (t.1 ∙ holds_here x None) (t.2 ∙ ap want_of (sym known) ∙ (p.known x).want)
-            (λ y h. sym (steady.part.known y).want ∙ (p.known y).want) (holds_else x None) (λ y. refl);
-        made = p.made;
-      };
-      waits = tt;
-      ungranting = notes_ungranting s lies x sends none;
-      own = tt;
-      names = tt;
-    }
+    frees_shown b sends none t = holds_shown (command.Done on) lies x k b sends None known none (free_fits g me on x is (ap (λ (n : Option Mode). is_some n) (sym held_now) ∙ t.0))
+        (ap (λ (t : Option ℕ). changed g me (holding t None)) is) t.1 (t.2 ∙ ap want_of (sym known) ∙ (p.known x).want) (λ y h. sym (steady.part.known y).want ∙ (p.known y).want)
 
     giving_shown : (q : Part) (r : Release) → Given k.part q r → IsShown me s g (command.Done on) (after_operation s lies x k (release_answer r) (released (share_of k) q r))
     giving_shown q release_is.Free t = frees_shown (with_token (share_of k) q) [] tt t

@@ -1,22 +1,178 @@
--- What stands after one more event of a legal history: nodes are parts of the graph, grants in flight bring its fields,
--- wants are waited for, and the commands so far are a run.
-use Rattle.bmx_store_laws.proofs.Words.{◌≡◌, ℕ, refl, ap, sym, subst, ◌∙◌, true, false, cond, List, [], ◌∷◌, arith, zero, suc, ◌⊎◌, inl, inr, ◌+◌, ◌≤◌, ◌++◌, append-nil, filter_map-append, Contains-append_cases, cons_option, option_map, option_and_then, Option}
-use Rattle.bmx_store_laws.proofs.Words.{Some, None, is_some, ◌==◌, ◌&&◌, ◌||◌, nat_le, Contains, IsSome}
-use Rattle.bmx_store_laws.proofs.Words.{IsOpening, put, name_word, Command, Mode, Read, Write, Val, Letter}
-use Rattle.bmx_store_laws.proofs.Words.{is_excluded-none, is_excluded, excludes, State, opening_state, changed, state_after, state_after_all, Act, IsRun, Answer, Effect, Nothing, MakesOne}
-use Rattle.bmx_store_laws.proofs.Words.{Transition, note_transition}
-use Rattle.bmx_store_laws.proofs.Words.{eqb_same, put_same, none_some, Same, Apart, two, put_apart, eqb_is, eqb_not, eqb_apart, after_changes, in_flight, waits_with, letters_to, IsNext, waits_after, IsAgain, IsInputOf, Setting, NodeState, Known}
-use Rattle.bmx_store_laws.proofs.Words.{share_of, Draft, Reaction, grant_in, knows, only, name_in, note_in, took, take_rule, Node, command_in, rule, too_large, is_no_node, is_bad_msg, is_bad_letter, Event, Input, Do, Serve, Take, NodeAnswer, Sending}
-use Rattle.bmx_store_laws.proofs.Words.{tested, either, put_each, every_map, every_there, first_there, flight_more, IsOneMore, step_letters, step_answer, step_leaves, numbered_each, issued_to, GrantsNothing, note_grants, first_letter, good_letter}
-use Rattle.bmx_store_laws.proofs.Words.{write_excludes, IsLeft, shares_changed, all_spared, seen_known}
+-- A moment of a legal history, what the laws of one object say of it, and what stands after one more event: nodes are parts
+-- of the graph, grants in flight bring its fields, wants are waited for, and the commands so far are a run.
+use Rattle.bmx_store_laws.proofs.Words.{◌≡◌, ℕ, refl, ap, sym, subst, ◌∙◌, true, false, cond, List, [], ◌∷◌, map, ◌<◌, arith, zero, suc, ◌⊎◌, inl, inr, ◌+◌, ◌≤◌, ◌++◌, ◌≢◌, ◌^◌, append-nil, map-append, filter_map-append, Contains-append_cases, cons_option}
+use Rattle.bmx_store_laws.proofs.Words.{option_map, option_and_then, Option, Some, None, is_some, ◌==◌, ◌&&◌, ◌||◌, nat_le, Contains, IsSome, count_by, IsOpening, put, name_word, Info, Command, Operand, Register, Anchor, Mode, Read, Write, Val, Field, Letter}
+use Rattle.bmx_store_laws.proofs.Words.{Msg, ReadGrant, WriteGrant, is_excluded-none, is_excluded, excludes, State, opening_state, reference, target_of, changed, state_after, state_after_all, Act, IsRun, Answer, Effect, Nothing, MakesOne, Stores, Transition}
+use Rattle.bmx_store_laws.proofs.Words.{note_transition, served, Role, Owner, Parent, IsShared, shared_run, IsSound, IsSoundIf, IsNowhere, eqb_same, put_same, some_same, none_some, Same, Apart, two, put_apart, eqb_is, eqb_not, eqb_of, eqb_apart, after_changes}
+use Rattle.bmx_store_laws.proofs.Words.{IsOperandOf, in_flight, waits_with, letters_to, issued, IsNext, waits_after, IsAgain, IsInputOf, AreAfter, IsLegal, Setting, NodeState, Known, fields_known, share_of, Draft, Reaction, grant_in, next_name, answered, knows}
+use Rattle.bmx_store_laws.proofs.Words.{only, name_in, note_in, took, take_rule, Node, command_in, rule, too_large, is_no_node, is_bad_msg, is_bad_letter, world_of, HasOwned, Event, Input, Do, Serve, Take, NodeAnswer, Sending, nodes_of, tested, either}
+use Rattle.bmx_store_laws.proofs.Words.{put_each, every_map, every_there, first_there, flight_more, IsOneMore, step_letters, step_answer, step_leaves, numbered_each, issued_to, GrantsNothing, note_grants, each_name, Came, came_after, first_letter, good_letter}
+use Rattle.bmx_store_laws.proofs.Words.{new_nowhere, write_excludes, one_seat, readers_are_listed_always, split_at, moving_counted, IsLeft, shares_changed, all_spared, seen_known, seen, seen_message, seen_note, first_world, IsSeated, HasReader, handovers_of}
+use Rattle.bmx_store_laws.proofs.Words.{IsFree, IsUnborn}
+use Rattle.bmx_store_laws.proofs.Words.val
+use Rattle.bmx_store_laws.proofs.Words.graph_step
 use Rattle.bmx_store_laws.proofs.Words.answer
+use Rattle.bmx_store_laws.proofs.Words.seated
 use Rattle.std.proofs.Common.{not}
 use Rattle.bmx_coherence.specs.Graphs.{graph_answer, act_of, acts_of, graph_after}
+use Rattle.bmx_protocol.specs.Worlds.{At}
 use Rattle.std.specs.Prelude.{IfSome}
-use Rattle.bmx_coherence.proofs.Answers.{Ungranting, IsSteady, command_shown, IsShown, NamesIt, waiting_after, notes_ungranting}
-use Rattle.bmx_coherence.proofs.Moments.{sound, aware, came, new_unknown, real, alone_per, beside, IsAlone, IsMoment, knows_it, IsAlonePer, unknown}
-use Rattle.bmx_coherence.proofs.Parts.{IsOwnStore, known_of, IsWaiting, wants, held_of, object_kept, IsBeside, FitsAt, IsPart, waiting_else, part_else}
-use Rattle.bmx_coherence.proofs.Transitions.{took_part, BringsFields, served_part, EachBrings}
+use Rattle.bmx_coherence.proofs.Answers.{waiting_after, command_shown, Ungranting, notes_ungranting, NamesIt, IsShown, IsSteady}
+use Rattle.bmx_coherence.proofs.Parts.{BringsFields, wants, EachBrings, took_part, IsWaiting, held_of, IsOwnStore, FitsAt, IsPart, IsBeside, served_part, waiting_else, known_of, object_kept, part_else}
+
+-- a legal history of a store, and the nodes after it
+pub record IsMoment (st : Setting) (past : List Event) (nodes : ℕ → Node) : Type 0 where
+  pub opening : IsOpening st.nodes st.limit st.births
+  pub legal : IsLegal st past
+  pub after : AreAfter st past nodes
+
+-- nothing of an object is anywhere but at one node: no copy, no grant in flight
+pub record IsAlone (past : List Event) (nodes : ℕ → Node) (me x : ℕ) : Type 0 where
+  pub copies : (n : ℕ) → n ≢ me → (fields : List Val) → fields_known ((nodes n).state.known x) ≡ Some fields → ⊥
+  pub grants : (n m : ℕ) (l : Letter) (info : Info) (fields : List Field) → Contains (in_flight n m past) l → grant_in l.msg ≡ Some (info, fields) → info.name ≡ x → ⊥
+
+-- what isn't unknown is known, and what is seen as unknown is
+pub knows_it : (k : Option Known) → (k ≡ None → ⊥) → is_some k ≡ true
+knows_it None none = absurd (none refl)
+knows_it (Some k) none = refl
+
+pub unknown : (k : Option Known) → seen_known k ≡ None → k ≡ None
+unknown None e = refl
+unknown (Some k) e = absurd cc
+
+known_copy : (k : Option Known) (fields : List Val) → fields_known k ≡ Some fields → (j : Known) × (k ≡ Some j) × IsSome j.copy
+known_copy None fields e = none_some e
+known_copy (Some j) fields e = (j, refl, copied j fields e)
+  where
+    copied : (j : Known) (fields : List Val) → fields_known (Some j) ≡ Some fields → is_some j.copy ≡ true
+    copied j fields e = grind arith
+
+-- a letter that grants an object is about it
+granted_name : (m : Msg) (info : Info) (fields : List Field) → grant_in m ≡ Some (info, fields) → name_in m ≡ info.name
+granted_name (ReadGrant i l) info fields e = ap (λ (p : Info × List Field). p.0.name) (some_same e)
+granted_name (WriteGrant i l) info fields e = ap (λ (p : Info × List Field). p.0.name) (some_same e)
+granted_name _ info fields e = none_some e
+
+pub only_owner : (r : Role) → ((parent : ℕ) → r ≡ Parent parent → ⊥) → r ≡ Owner
+only_owner r none = grind arith
+
+-- who does what with its few events so far
+abbrev pub IsEarly : ℕ → List Event → Type 0
+IsEarly me past = count_by (λ (f : Event). f.node == me) past + 1 < 2 ^ 55
+
+module _ (st : Setting) (past : List Event) (nodes : ℕ → Node) (now : IsMoment st past nodes) where
+  pub came : (x : ℕ) → Came st x (seen x (first_world st)) past nodes
+  came x = came_after st past nodes now.opening now.legal now.after x
+
+  pub sound : (n x : ℕ) (k : Known) → (nodes n).state.known x ≡ Some k → IsSound (share_of k)
+  sound n x k is = subst IsSoundIf (ap seen_known is) ((each_name IsShared shared_run st past nodes now.opening now.legal now.after x).sound n)
+
+  -- who knows an object is a node of the store
+  pub real : (n x : ℕ) (k : Known) → (nodes n).state.known x ≡ Some k → n < st.nodes
+  real n x k is = nodes_of st (seen x (world_of nodes past)) ((came x).beyond) n (ap (λ (j : Option Known). is_some (seen_known j)) is)
+
+  -- a node knows what an operand means
+  pub aware : (me x : ℕ) (on : Operand) (g : State) → me < st.nodes → ((r : ℕ) → (nodes me).state.register r ≡ g.register me r) → IsOperandOf st on → target_of g me on ≡ Some x →
+      is_some ((nodes me).state.known x) ≡ true
+  aware me x on g below same of means = knows_it ((nodes me).state.known x) (λ none. absurd (refers on of means ((came x).aware me below (ap seen_known none))))
+    where
+      is_ref : (v : Val) → reference v ≡ Some x → v ≡ val.Ref x
+      is_ref (val.Ref y) e = ap (λ (z : ℕ). val.Ref z) (some_same e)
+      is_ref _ e = none_some e
+
+      refers : (on : Operand) → IsOperandOf st on → target_of g me on ≡ Some x → IsFree x (nodes me).state × IsUnborn st x → ⊥
+      refers (Register r) of means aware = aware.0.registers r (same r ∙ is_ref (g.register me r) means)
+      refers (Anchor b) of means aware = aware.1 b of (sym (some_same means))
+      refers _ of means aware = none_some means
+
+  -- ## the next name of a node
+
+  -- it is that of no letter and no entry
+  new_name : (me : ℕ) → IsEarly me past → IsNowhere (seen (next_name me (nodes me).state) (world_of nodes past))
+  new_name me few =
+      let x : ℕ = next_name me (nodes me).state in
+      let some : (nodes me).state.made ≤ 320000 + count_by (λ (f : Event). f.node == me) past = (came x).few me in
+      new_nowhere st x me nodes past (came x).named (omega (arith, some, few)) refl
+
+  pub new_unknown : (me : ℕ) → IsEarly me past → (n : ℕ) → (nodes n).state.known (next_name me (nodes me).state) ≡ None
+  new_unknown me few n = unknown ((nodes n).state.known (next_name me (nodes me).state)) ((new_name me few).unknown n)
+
+  pub new_alone : (me : ℕ) → IsEarly me past → IsAlone past nodes me (next_name me (nodes me).state)
+  new_alone me few = record {
+    copies = λ n apart fields has. none_some (sym (ap fields_known (new_unknown me few n)) ∙ has);
+    grants = λ n m l info fields there grants named.
+        (let x : ℕ = next_name me (nodes me).state in let s = split_at (in_flight n m past) l there in
+        let silent : seen_note x l.msg ≡ None = ((new_name me few).untold n m (seen_message x l) (map (seen_message x) s.0) (map (seen_message x) s.1)
+        (ap (map (seen_message x)) s.2 ∙ map-append (seen_message x) s.0 (l ∷ s.1))).note in
+        none_some (sym silent ∙ (λ i. cond (eqb_of (granted_name l.msg info fields grants ∙ named) i) (Some (note_in l.msg)) None)));
+  }
+
+  -- ## who writes
+
+  module _ (me x : ℕ) (k : Known) (is : (nodes me).state.known x ≡ Some k) (held : k.part.held ≡ Some Write) where
+    owns : k.part.role ≡ Owner
+    owns = only_owner k.part.role (λ parent e. (sound me x k is).child_holds parent e held)
+
+    -- no other has the owner's role, and no grant of ownership is in flight
+    sole : ((n : ℕ) (j : Known) → HasOwned (world_of nodes past) x n j → n ≡ me) × ((from to : ℕ) → handovers_of x (in_flight from to past) ≡ 0)
+    sole = by_seat (one_seat st past nodes now.opening now.legal now.after x (At me k (real me x k is) is))
+      where
+        has : HasOwned (world_of nodes past) x me k
+        has = record { known = is; owns = owns }
+
+        by_seat : IsSeated st (world_of nodes past) x → ((n : ℕ) (j : Known) → HasOwned (world_of nodes past) x n j → n ≡ me) × ((from to : ℕ) → handovers_of x (in_flight from to past) ≡ 0)
+        by_seat (seated.At n j below it others none) = (λ m i o. others m i o ∙ sym (others me k has), none)
+        by_seat (seated.Moving from to a b one elsewhere nobody) = absurd (nobody me k has)
+
+    no_reader : (owner n : ℕ) → HasReader (world_of nodes past) x owner n → ⊥
+    no_reader owner n reads =
+        let known_same : reads.known ≡ k = some_same (sym reads.owned.known ∙ ap (λ (z : ℕ). (nodes z).state.known x) (sole.0 owner reads.known reads.owned) ∙ is) in
+        let none : reads.known.part.readers ≡ [] = ap (λ (j : Known). j.part.readers) known_same ∙ (sound me x k is).owner_writes owns held in
+        let listed : Contains [] n = subst (λ (l : List ℕ). Contains l n) none reads.listed in
+        omega (arith, listed.1)
+
+    pub writer_alone : IsAlone past nodes me x
+    writer_alone = record {
+      copies = λ n apart fields has. (let j = known_copy ((nodes n).state.known x) fields has in by_role n apart j.0 j.1 j.2 j.0.part.role refl);
+      grants = λ n m l info fields there brought named. by_message n m l info fields there named l.msg refl brought;
+    }
+      where
+        by_role : (n : ℕ) → n ≢ me → (j : Known) → (nodes n).state.known x ≡ Some j → IsSome j.copy → (r : Role) → j.part.role ≡ r → ⊥
+        by_role n apart j at copy Owner e = apart (sole.0 n j (record { known = at; owns = e }))
+        by_role n apart j at copy (Parent parent) e =
+            no_reader parent n ((readers_are_listed_always st past nodes now.opening now.legal now.after).copies n x parent j (record { known = at; asks = e }) copy)
+
+        by_message : (n m : ℕ) (l : Letter) (info : Info) (fields : List Field) → Contains (in_flight n m past) l → info.name ≡ x → (g : Msg) → l.msg ≡ g → grant_in g ≡ Some (info, fields) → ⊥
+        by_message n m l info fields there named (ReadGrant i f) e some = no_reader n m (subst (λ (z : ℕ). HasReader (world_of nodes past) z n m) (granted_name (ReadGrant i f) info fields some ∙ named)
+            ((readers_are_listed_always st past nodes now.opening now.legal now.after).grants n m l i f there e))
+        by_message n m l info fields there named (WriteGrant i f) e some = omega (
+          arith,
+          sole.1 n m,
+          moving_counted (world_of nodes past) x n m l i f (record { there = there; grants = e; named = granted_name (WriteGrant i f) info fields some ∙ named }),
+        )
+        by_message n m l info fields there named _ e some = none_some some
+
+  -- ## objects that effects leave
+
+  -- each object that an effect changes is nowhere else
+  abbrev pub IsAlonePer : ℕ → State → Effect → Type 0
+  IsAlonePer me g (MakesOne register bunch size) = IsAlone past nodes me (graph_step.next_name g me)
+  IsAlonePer me g (Stores name index v) = IsAlone past nodes me name
+  IsAlonePer me g _ = Unit {0}
+
+  pub alone_per : (me : ℕ) (g : State) (v : ℕ → Option Mode) (e : Effect) → IsEarly me past → IsPart me (nodes me).state g v → IsOwnStore me g e → IsAlonePer me g e
+  alone_per me g v (MakesOne register bunch size) few part own = subst (IsAlone past nodes me) (ap (λ (n : ℕ). name_word me (n + 1)) part.made) (new_alone me few)
+  alone_per me g v (Stores name index value) few part own =
+      (let k = known_of (λ j. j.part.held) ((nodes me).state.known name) Write ((part.known name).held ∙ own) in writer_alone me name k.0 k.1 k.2)
+  alone_per me g v _ few part own = tt
+
+  -- it leaves what isn't alone
+  pub beside : (me : ℕ) (g : State) (e : Effect) → IsAlonePer me g e → (x : ℕ) → (IsAlone past nodes me x → ⊥) → IsBeside g me x e
+  beside me g (MakesOne register bunch size) alone x other = λ same. other (subst (IsAlone past nodes me) same alone)
+  beside me g (Stores name index v) alone x other = λ same. other (subst (IsAlone past nodes me) same alone)
+  beside me g _ alone x other = tt
+
+-- ## what stands
 
 -- what stands after events
 pub record Stands (st : Setting) (past : List Event) (nodes : ℕ → Node) : Type 0 where
@@ -252,43 +408,28 @@ module _ (st : Setting) (opening : IsOpening st.nodes st.limit st.births) (past 
           ((λ i. held_of ((put_apart nodes me k after (eqb_apart me k (λ same. d (sym same))) i).state.known x)) ∙ ((stands.parts k).known x).held)
 
   command_seen : (c : Command) → e.input ≡ Do c → IsSeen st past nodes e (rule st me s ev.step.told (Do c))
-  command_seen c is = record {
-    effect_is = shown.effect_is;
-    graph = ap (state_after_all (opening_state st.births)) acts ∙ after_more (opening_state st.births) (acts_of past) (act ∷ []) ∙ shown.leads;
-    some = subst (λ (d : Option Command). IfSome d (λ c. IsSome (act_of e))) (sym (ap command_in is)) (subst (λ (a : Option Act). IsSome a) (sym act_is) refl);
-    run = rw acts (run_more (opening_state st.births) (acts_of past) (act ∷ []) stands.run (shown.fits, tt));
-    part = subst (λ (w : Option Command). IsPart me (after_changes s o.changes) (changed g me shown.effect_is) (wants (changed g me shown.effect_is) me w)) after_it shown.part;
-    waits = subst (λ (w : Option Command). IfSome w (IsWaiting (changed g me shown.effect_is) me)) after_it shown.waits;
-    brings = ungranted_brings (changed g me shown.effect_is) o.drafts shown.ungranting;
-    own = shown.own;
-    names = shown.names;
-  }
-    where
-      o : Reaction
-      o = rule st me s ev.step.told (Do c)
-
-      ruled : o ≡ rule st me s ev.step.told e.input
-      ruled = ap (rule st me s ev.step.told) (sym is)
-
-      answered : e.done.answer ≡ o.answer
-      answered = step_answer ev.step o ruled
-
-      shown : IsShown me s g c o
-      shown = command_shown st me s g waiting steady ev.step.told.full ev.step.told.lies c (subst (IsInputOf st) is ev.fits.an_input) (subst (IsAgain waiting) is ev.fits.again) (free o ruled)
-
-      after_it : waiting_after c o.answer ≡ waits_after waiting e.input e.done.answer
-      after_it = (λ i. waiting_after c (sym answered i)) ∙ ap (λ (j : Input). waits_after waiting j e.done.answer) (sym is)
-
-      act : Act
-      act = record { node = me; command = c; answer = shown.answer_is }
-
-      act_is : act_of e ≡ Some act
-      act_is = ap (λ (d : Option Command). option_and_then (λ (f : Command). option_map (λ (a : Answer). record { node = me; command = f; answer = a }) (graph_answer e.done.answer)) d) (ap command_in is)
-          ∙ ap (λ (a : NodeAnswer). option_map (λ (b : Answer). record { node = me; command = c; answer = b }) (graph_answer a)) answered
-          ∙ ap (option_map (λ (b : Answer). record { node = me; command = c; answer = b })) shown.same
-
-      acts : acts_of (past ++ e ∷ []) ≡ acts_of past ++ act ∷ []
-      acts = acts_more past e (Some act) act_is
+  command_seen c is =
+      let o : Reaction = rule st me s ev.step.told (Do c) in
+      let ruled : o ≡ rule st me s ev.step.told e.input = ap (rule st me s ev.step.told) (sym is) in
+      let answered : e.done.answer ≡ o.answer = step_answer ev.step o ruled in
+      let shown : IsShown me s g c o = command_shown st me s g waiting steady ev.step.told.full ev.step.told.lies c (subst (IsInputOf st) is ev.fits.an_input) (subst (IsAgain waiting) is ev.fits.again) (free o ruled) in
+      let after_it : waiting_after c o.answer ≡ waits_after waiting e.input e.done.answer = (λ i. waiting_after c (sym answered i)) ∙ ap (λ (j : Input). waits_after waiting j e.done.answer) (sym is) in
+      let act : Act = record { node = me; command = c; answer = shown.answer_is } in
+      let act_is : act_of e ≡ Some act = ap (λ (d : Option Command). option_and_then (λ (f : Command). option_map (λ (a : Answer). record { node = me; command = f; answer = a }) (graph_answer e.done.answer)) d) (ap command_in is)
+      ∙ ap (λ (a : NodeAnswer). option_map (λ (b : Answer). record { node = me; command = c; answer = b }) (graph_answer a)) answered
+      ∙ ap (option_map (λ (b : Answer). record { node = me; command = c; answer = b })) shown.same in
+      let acts : acts_of (past ++ e ∷ []) ≡ acts_of past ++ act ∷ [] = acts_more past e (Some act) act_is in
+      record {
+        effect_is = shown.effect_is;
+        graph = ap (state_after_all (opening_state st.births)) acts ∙ after_more (opening_state st.births) (acts_of past) (act ∷ []) ∙ shown.leads;
+        some = subst (λ (d : Option Command). IfSome d (λ c. IsSome (act_of e))) (sym (ap command_in is)) (subst (λ (a : Option Act). IsSome a) (sym act_is) refl);
+        run = rw acts (run_more (opening_state st.births) (acts_of past) (act ∷ []) stands.run (shown.fits, tt));
+        part = subst (λ (w : Option Command). IsPart me (after_changes s o.changes) (changed g me shown.effect_is) (wants (changed g me shown.effect_is) me w)) after_it shown.part;
+        waits = subst (λ (w : Option Command). IfSome w (IsWaiting (changed g me shown.effect_is) me)) after_it shown.waits;
+        brings = ungranted_brings (changed g me shown.effect_is) o.drafts shown.ungranting;
+        own = shown.own;
+        names = shown.names;
+      }
 
   -- ## each event
 

@@ -2,16 +2,11 @@
 -- that was made and each that is reached; what copies and letters refer to is known; wants are waited for, and where nothing
 -- can go on what is waited for is held elsewhere.
 use Rattle.bmx_store_laws.proofs.Words.{◌≡◌, ℕ, refl, ap, sym, subst, ◌∙◌, Bool, true, false, cond, List, [], ◌∷◌, map, ◌<◌, arith, zero, suc, ◌⊎◌, inl, inr, ◌≤◌, nat_tests, list_any, option_map, option_map_or, Option, Some, None, is_some, unwrap_or, ◌==◌}
-use Rattle.bmx_store_laws.proofs.Words.{◌&&◌, ◌||◌, Contains, IsSome, IfSome, count_by}
-use Rattle.bmx_store_laws.proofs.Words.{name_word, anchor_of, Command, Operand, Anchor, Mode, Read, Write, Val, targets, given, Field, Letter, Msg, Record}
-use Rattle.bmx_store_laws.proofs.Words.{State, target_of}
-use Rattle.bmx_store_laws.proofs.Words.{Note, can_serve, same_mode, is_request_of, is_grant_of, Ask, Part, Role, Owner, Parent, IsAsking, IsRequested, requested_run, gifts_are_recorded, each_owes_one_answer, RecordsAreKept, is_owner, answers_owed, owes, is_due}
-use Rattle.bmx_store_laws.proofs.Words.{waits_for, count_notes, is_recall, is_return, AnswersAreOwed, Numbers, Object, IsFirst, Run}
-use Rattle.bmx_store_laws.proofs.Words.{eqb_same, some_same, none_some, eqb_of, in_flight, waits_with, Setting, Known, fields_known, value_in, seen_graph, share_of, grant_in, knows, is_ready, ready_at, Node, world_of, IsCurrent, World, Sent, names_in}
-use Rattle.bmx_store_laws.proofs.Words.{IsSomewhere, IsReached, Event, ViewField}
-use Rattle.bmx_store_laws.proofs.Words.{tested, some_is, contains_map, each_name, one_seat, wants_stand_once, HandsAmong, among, one_if, HasNo, notes_give, seen_known, has_name, seen, seen_record, seen_message, IsSeated, Spot, Asked, Queued, Granted}
-use Rattle.bmx_store_laws.proofs.Words.{letters_about, times_at, StandsOnce, IsFree, IsUnborn}
-use Rattle.bmx_store_laws.proofs.Words.command
+use Rattle.bmx_store_laws.proofs.Words.{◌&&◌, ◌||◌, Contains, IsSome, count_by, name_word, anchor_of, Command, Operand, Anchor, Mode, Val, targets, given, Field, Letter, Msg, Record, State, target_of, Note, can_serve, same_mode, is_request_of, is_grant_of, Ask}
+use Rattle.bmx_store_laws.proofs.Words.{Part, Role, Owner, IsAsking, IsRequested, requested_run, gifts_are_recorded, each_owes_one_answer, RecordsAreKept, is_owner, answers_owed, owes, is_due, waits_for, count_notes, is_recall, is_return, AnswersAreOwed}
+use Rattle.bmx_store_laws.proofs.Words.{Numbers, Object, IsFirst, Run, eqb_same, some_same, none_some, eqb_of, in_flight, waits_with, Setting, NodeState, Known, fields_known, value_in, seen_graph, share_of, grant_in, knows, is_ready, ready_at, Node, world_of}
+use Rattle.bmx_store_laws.proofs.Words.{IsCurrent, World, Sent, names_in, IsSomewhere, IsReached, Event, ViewField, tested, some_or_none, some_is, contains_map, each_name, one_seat, wants_stand_once, HandsAmong, among, one_if, HasNo, notes_give, seen_known}
+use Rattle.bmx_store_laws.proofs.Words.{has_name, seen, seen_record, seen_message, IsSeated, Spot, Asked, Queued, Granted, letters_about, times_at, StandsOnce, IsFree, IsUnborn}
 use Rattle.bmx_store_laws.proofs.Words.val
 use Rattle.bmx_store_laws.proofs.Words.msg_field
 use Rattle.bmx_store_laws.proofs.Words.Reached
@@ -22,10 +17,9 @@ use Rattle.bmx_coherence.specs.Graphs.{graph_after}
 use Rattle.bmx_coherence.specs.Copies.{HasRecord}
 use Rattle.bmx_coherence.specs.Waits.{taking, WaitsFor, Wants, WantsAreWaitedFor}
 use Rattle.bmx_coherence.specs.Stuck.{IsStuck, IsHeldElsewhere, StuckNamesHolders}
-use Rattle.bmx_coherence.proofs.Events.{Stands}
-use Rattle.bmx_coherence.proofs.Moments.{real, aware, knows_it, sound, came}
-use Rattle.bmx_coherence.proofs.Parts.{seen_target, held_of, known_of, taken_at, wanted_at, want_of, wants, waited, waiting_token, IsWaiting}
-use Rattle.bmx_coherence.proofs.Transitions.{values_told}
+use Rattle.std.specs.Prelude.{IfSome}
+use Rattle.bmx_coherence.proofs.Events.{Stands, came, aware, knows_it, only_owner, real, sound}
+use Rattle.bmx_coherence.proofs.Parts.{wants, want_of, IsWaiting, wanted_at, held_of, values_told, taken_at, known_of, waiting_token, waited, seen_target}
 
 -- ## lists
 
@@ -58,6 +52,9 @@ wanted_is t m x e = grind (arith, nat_tests)
 abbrev not_empty : List ℕ → Bool
 not_empty [] = false
 not_empty (r ∷ rs) = true
+
+taken_ready : (n : ℕ) (s : NodeState) (c : Command) (m : Mode) (on : Operand) → taking c ≡ Some (m, on) → is_ready n s c ≡ ready_at s (target_of (seen_graph n s) n on)
+taken_ready n s c m on takes = grind arith
 
 -- why the head of a queue can't be served: the token is held, or answers are waited for
 queue_kept : (at : ℕ) (p : Part) → p.ready ≡ false → p.role ≡ Owner → can_serve at p ≡ false → (p.queue ≡ [] → ⊥) → (is_some p.held || not_empty p.waiting) ≡ true
@@ -219,26 +216,17 @@ module _ (st : Setting) (past : List Event) (nodes : ℕ → Node) (stands : Sta
   module _ (stuck : IsStuck st w past) where
     -- no token that is wanted is ready, and so none is
     unready : (n x : ℕ) (k : Known) (m : Mode) → (nodes n).state.known x ≡ Some k → k.part.want ≡ Some m → k.part.ready ≡ false
-    unready n x k m is want = sym (taken_ready i.command (m, i.operand) i.takes ∙ ap (ready_at (nodes n).state) i.means ∙ ap (λ (j : Option Known). option_map_or (λ (l : Known). l.part.ready) j false) is)
+    unready n x k m is want = sym (taken_ready n (nodes n).state i.command m i.operand i.takes ∙ ap (ready_at (nodes n).state) i.means ∙ ap (λ (j : Option Known). option_map_or (λ (l : Known). l.part.ready) j false) is)
         ∙ stuck.not_ready n i.command (real st past nodes stands.now n x k is) i.waits
       where
         i : WaitsFor w past n m x
         i = waits_for_it n x m (ap want_of is ∙ want)
 
-        taken_ready : (c : Command) (t : Mode × Operand) → taking c ≡ Some t → is_ready n (nodes n).state c ≡ ready_at (nodes n).state (target_of (seen_graph n (nodes n).state) n t.1)
-        taken_ready (command.Read on) t e = ap (λ (p : Mode × Operand). ready_at (nodes n).state (target_of (seen_graph n (nodes n).state) n p.1)) (some_same e)
-        taken_ready (command.Write on) t e = ap (λ (p : Mode × Operand). ready_at (nodes n).state (target_of (seen_graph n (nodes n).state) n p.1)) (some_same e)
-        taken_ready _ t e = none_some e
-
     requested : (n x : ℕ) (k : Known) → (nodes n).state.known x ≡ Some k → IsAsking n (Some (share_of k))
     requested n x k is = subst (IsAsking n) (ap seen_known is) ((law IsRequested requested_run x).nodes n)
 
     never_ready : (n x : ℕ) (k : Known) → (nodes n).state.known x ≡ Some k → k.part.ready ≡ false
-    never_ready n x k is = by_want k.part.want refl
-      where
-        by_want : (m : Option Mode) → k.part.want ≡ m → k.part.ready ≡ false
-        by_want None e = (requested n x k is).calm e
-        by_want (Some m) e = unready n x k m is e
+    never_ready n x k is = elim (some_or_none k.part.want) [ inl none ↦ (requested n x k is).calm none | inr m ↦ unready n x k m.0 is m.1 ]
 
     -- a node that wants x, and what it knows of it
     module _ (n x : ℕ) (k : Known) (m : Mode) (is : (nodes n).state.known x ≡ Some k) (want : k.part.want ≡ Some m) where
@@ -287,11 +275,7 @@ module _ (st : Setting) (past : List Event) (nodes : ℕ → Node) (stands : Sta
       queued at j there some = by_kept (tested (is_some j.part.held)) j.part.waiting refl (queue_kept at j.part (never_ready at x j there) owns idle some)
         where
           owns : j.part.role ≡ Owner
-          owns = by_role j.part.role refl
-            where
-              by_role : (r : Role) → j.part.role ≡ r → j.part.role ≡ Owner
-              by_role Owner e = e
-              by_role (Parent parent) e = absurd (some ((requested at x j there).empty (ap (λ (r : Role). one_if (is_owner r)) e)))
+          owns = only_owner j.part.role (λ parent e. some ((requested at x j there).empty (ap (λ (r : Role). one_if (is_owner r)) e)))
 
           idle : can_serve at j.part ≡ false
           idle = elim (tested (can_serve at j.part)) [
@@ -305,27 +289,24 @@ module _ (st : Setting) (past : List Event) (nodes : ℕ → Node) (stands : Sta
           by_kept (inr free) (r ∷ rest) waits kept = waited_for at j there r rest waits
 
     holders : (n : ℕ) (m : Mode) (x : ℕ) → n < st.nodes → WaitsFor w past n m x → IsHeldElsewhere w n x
-    holders n m x below waits = by_spot once.spot once.once
+    holders n m x below waits =
+        let wanted : Wants w n m x = known_wants n x m (waiting_wants n x m waits) in
+        let once : StandsOnce w x m n = (wants_stand_once st past nodes stands.now.opening stands.now.legal stands.now.after x).waits m n
+        (record { known = wanted.known; knows = wanted.knows; want = wanted.want; unready = unready n x wanted.known m wanted.knows wanted.want }) in
+        by_spot wanted once.spot once.once
       where
-        wanted : Wants w n m x
-        wanted = known_wants n x m (waiting_wants n x m waits)
-
-        once : StandsOnce w x m n
-        once = (wants_stand_once st past nodes stands.now.opening stands.now.legal stands.now.after x).waits m n
-            (record { known = wanted.known; knows = wanted.knows; want = wanted.want; unready = unready n x wanted.known m wanted.knows wanted.want })
-
         none_about : (test : Note → Bool) (from to : ℕ) → letters_about x test (w.channel from to) ≡ 0
         none_about test from to = ap (letters_about x test) (stuck.no_letter from to)
 
-        by_queue : (at : ℕ) (k : Option Known) → (nodes at).state.known x ≡ k → option_map_or (λ (l : Known). count_by (λ (q : Ask). same_mode m q.mode && (q.asker == n)) l.part.queue) k 0 ≡ 1 → IsHeldElsewhere w n x
-        by_queue at None there one = absurd (omega (arith, one))
-        by_queue at (Some j) there one = queued n x wanted.known m wanted.knows wanted.want at j there
+        by_queue : (wanted : Wants w n m x) (at : ℕ) (k : Option Known) → (nodes at).state.known x ≡ k → option_map_or (λ (l : Known). count_by (λ (q : Ask). same_mode m q.mode && (q.asker == n)) l.part.queue) k 0 ≡ 1 → IsHeldElsewhere w n x
+        by_queue wanted at None there one = absurd (omega (arith, one))
+        by_queue wanted at (Some j) there one = queued n x wanted.known m wanted.knows wanted.want at j there
             (λ none. (let both : 0 ≡ 1 = ap (λ (l : List Ask). count_by (λ (q : Ask). same_mode m q.mode && (q.asker == n)) l) (sym none) ∙ one in cc))
 
-        by_spot : (s : Spot) → times_at w x m n s ≡ 1 → IsHeldElsewhere w n x
-        by_spot (Asked from to) one = absurd (omega (arith, one, none_about (is_request_of m n) from to))
-        by_spot (Granted from) one = absurd (omega (arith, one, none_about (is_grant_of m) from n))
-        by_spot (Queued at) one = by_queue at ((nodes at).state.known x) refl one
+        by_spot : (wanted : Wants w n m x) (s : Spot) → times_at w x m n s ≡ 1 → IsHeldElsewhere w n x
+        by_spot wanted (Asked from to) one = absurd (omega (arith, one, none_about (is_request_of m n) from to))
+        by_spot wanted (Granted from) one = absurd (omega (arith, one, none_about (is_grant_of m) from n))
+        by_spot wanted (Queued at) one = by_queue wanted at ((nodes at).state.known x) refl one
 
   pub stuck_names_holders : StuckNamesHolders st w past
   stuck_names_holders stuck = holders stuck

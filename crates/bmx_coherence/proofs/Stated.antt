@@ -1,17 +1,14 @@
 -- What stands after every legal history, by induction over its events from the opening, and the laws as they are stated.
 use Rattle.bmx_store_laws.proofs.Words.{◌≡◌, ℕ, refl, ap, sym, subst, ◌∙◌, Bool, true, false, cond, List, [], ◌∷◌, arith, length, inl, inr, ◌≤◌, ◌++◌, ◌-◌, slice_get_cases, option_map, option_map_or, ◌↔◌, Option, Some, None, is_some, ◌==◌, ◌&&◌, nat_lt}
-use Rattle.bmx_store_laws.proofs.Words.{IsOpening, put, name_word, Command, Birth, Val}
-use Rattle.bmx_store_laws.proofs.Words.{opening_state}
-use Rattle.bmx_store_laws.proofs.Words.{eqb_is, empty_is_legal, replay_is_determined, AreAfter, IsLegal, Replays, Setting, Known, fields_known, first_known, birth_of, is_anchor, owned_birth, heard_birth, is_full, Reaction, refused, answered, graph_rule}
-use Rattle.bmx_store_laws.proofs.Words.{first_node, Node, command_in, rule, IsStep, finds_full, Event, Input, Do}
-use Rattle.bmx_store_laws.proofs.Words.{along_history, step_answer, finds_birth}
+use Rattle.bmx_store_laws.proofs.Words.{IsOpening, put, name_word, Command, Birth, Val, opening_state, eqb_is, empty_is_legal, replay_is_determined, AreAfter, IsLegal, Replays, Setting, Known, fields_known, first_known, birth_of, is_anchor, owned_birth}
+use Rattle.bmx_store_laws.proofs.Words.{heard_birth, is_full, Reaction, refused, answered, graph_rule, first_node, Node, command_in, rule, IsStep, finds_full, Event, Input, Do, along_history, step_answer, finds_birth}
 use Rattle.bmx_store_laws.proofs.Words.command
 use Rattle.bmx_store_laws.proofs.Words.refusal
 use Rattle.bmx_store_laws.proofs.Words.answer
 use Rattle.bmx_coherence.specs.Laws.{EveryHistoryIsAGraphRun, FullIsAtTheLimit, NodesHaveTheGraph, CopiesAreCurrent, TargetsStand, EachWaitsForItsWant, StuckNodesNameHolders}
 use Rattle.bmx_coherence.proofs.Events.{Stands, one_more}
-use Rattle.bmx_coherence.proofs.Following.{reached_current, stuck_names_holders, given_known, wants_waited_for, target_refers, made_current}
-use Rattle.bmx_coherence.proofs.Parts.{values_again, want_of, held_of, IsPart, nothing}
+use Rattle.bmx_coherence.proofs.Following.{given_known, stuck_names_holders, target_refers, made_current, reached_current, wants_waited_for}
+use Rattle.bmx_coherence.proofs.Parts.{want_of, values_again, IsPart, nothing, held_of}
 
 -- ## the opening
 

@@ -1,17 +1,14 @@
 -- The laws, over every legal history.
-use Rattle.bmx_store_laws.proofs.Words.{◌≡◌, ℕ, refl, ap, sym, subst, ◌∙◌, false, cond, List, [], ◌∷◌, ◌<◌, arith, drop, length, zero, suc, ◌≢◌, option_map, Option, Some, None, ◌||◌, Contains, IsSome}
-use Rattle.bmx_store_laws.proofs.Words.{IsOpening, Info, Place, Letter}
-use Rattle.bmx_store_laws.proofs.Words.{Transition, note_transition}
+use Rattle.bmx_store_laws.proofs.Words.{◌≡◌, ℕ, refl, ap, sym, subst, ◌∙◌, false, cond, List, [], ◌∷◌, ◌<◌, arith, drop, length, zero, suc, ◌≢◌, option_map, Option, Some, None, ◌||◌, Contains, IsSome, IsOpening, Info, Place, Letter, Transition, note_transition}
 use Rattle.bmx_store_laws.proofs.Words.{some_same, none_some, Every, in_flight, taken, issued, AreAfter, IsLegal, Setting, NodeState, Known, share_of, only, name_in, note_in, took, infos, Node, IsStep, some_clash, world_of, World, Event, Done, Take}
 use Rattle.bmx_store_laws.proofs.Words.{every_there, along_history}
 use Rattle.bmx_store_laws.proofs.Words.answer
 use Rattle.bmx_places.specs.Ledger.{Block, block_at, block_of, LiesIn, IsOf, HasLedger}
 use Rattle.bmx_places.specs.Laws.{HasShape, KnownAt, ToldIn, HasPlace, At, Between, NoLetterIsStray, PlacesAgree, ShapesAgree}
 use Rattle.bmx_places.specs.Laws as law
-use Rattle.bmx_places.proofs.Blocks.{hears_all, IsTold}
+use Rattle.bmx_places.proofs.Blocks.{r, hears_all, IsTold}
 use Rattle.bmx_places.proofs.Kept.{Kept, one_more}
-use Rattle.bmx_places.proofs.Making.{r}
-use Rattle.bmx_places.proofs.Next.{all_issued, IsIssued, IsTakeable, next_is_takeable}
+use Rattle.bmx_places.proofs.Next.{IsIssued, next_is_takeable, all_issued, IsTakeable}
 use Rattle.bmx_places.proofs.Opened.{first_kept}
 
 kept_after : (st : Setting) (history : List Event) (nodes : ℕ → Node) → IsOpening st.nodes st.limit st.births → IsLegal st history → AreAfter st history nodes → Kept st history nodes

@@ -1,8 +1,6 @@
 -- The laws apply to a legal history, and fail in one that isn't.
-use Rattle.bmx_store_laws.proofs.Words.{◌≡◌, ℕ, refl, ap, sym, ◌∙◌, true, false, [], arith, drop, Some, unwrap_or, Contains, slice_index_or}
-use Rattle.bmx_store_laws.proofs.Words.{Place}
-use Rattle.bmx_store_laws.proofs.Words.{some_same, prefix_is_legal, the_anchor, told_of_the_object, told_at, one_bunch, heard_of, Known, rule, closed, done_of, Event, Serve, Take}
-use Rattle.bmx_store_laws.proofs.Words.{laws_apply}
+use Rattle.bmx_store_laws.proofs.Words.{◌≡◌, ℕ, refl, ap, sym, ◌∙◌, true, false, [], arith, drop, Some, unwrap_or, Contains, slice_index_or, Place, some_same, prefix_is_legal, the_anchor, told_of_the_object, told_at, one_bunch, heard_of, Known, rule, closed}
+use Rattle.bmx_store_laws.proofs.Words.{done_of, Event, Serve, Take, laws_apply}
 use Rattle.bmx_store_laws.proofs.Words.answer
 use Rattle.bmx_places.specs.Ledger.{HasLedger, LiesIn, block_at, block_of}
 use Rattle.bmx_places.specs.Laws.{KnownAt, ToldIn, At, Between}

@@ -1,24 +1,20 @@
 -- What is kept along a legal history: a ledger to which all belongs, and that no letter was stray.
 use Rattle.bmx_store_laws.proofs.Words.{◌≡◌, ℕ, refl, ap, sym, subst, ◌∙◌, Bool, true, false, cond, List, [], ◌∷◌, map, ◌<◌, arith, drop, length, suc, inl, inr, ◌+◌, ◌≤◌, ◌++◌, ◌≢◌, ◌^◌, length-append, nat_tests, length-map, length-replicate, sum_by-append}
-use Rattle.bmx_store_laws.proofs.Words.{flat_map, option_map, option_map_or, Option, Some, None, is_some, unwrap_or, slice_get, ◌==◌, ◌&&◌, not, ◌||◌, nat_le, count_by, filter}
-use Rattle.bmx_store_laws.proofs.Words.{IsOpening, bunches_of, put, maker, count_of, Info, Place, Command, Write, Field, Letter, Msg, ReadGrant, WriteGrant}
-use Rattle.bmx_store_laws.proofs.Words.{Note, Grants, Serves, note_transition, Owner, IsShared, shared_run, IsSoundIf}
-use Rattle.bmx_store_laws.proofs.Words.{put_same, some_same, none_some, eqb_of, Every, at_each, every_append, after_append, Each, each_append, Knows, after_changes, with_step, Change, Sets, Hears, after_change, in_flight, taken, issued, arrived, IsNext}
-use Rattle.bmx_store_laws.proofs.Words.{IsInputOf, Fits, AreAfter, IsLegal, Setting, NodeState, Known, share_of, Places, with_learnt, with_all_learnt, has_room, with_made, Draft, Reaction, next_name, new_object, only, name_in, note_in, copy_after, took}
-use Rattle.bmx_store_laws.proofs.Words.{heard_field, infos, known_change, Node, command_in, rule, letters_of, sent_changes, closed, IsStep, is_taken, finds_full, letter_in, nowhere, changes_of, is_nil, made_places, MovesTo, some_clash, world_of, World, Event}
-use Rattle.bmx_store_laws.proofs.Words.{Input, Do, Serve, Take, NodeAnswer, ViewField}
-use Rattle.bmx_store_laws.proofs.Words.{slice_drop, put_each, heard_each, every_map, step_state, step_letters, step_answer, taking_each, numbered_each, GrantsNothing, note_grants, each_name, Came, came_after, maker_is, count_is, FreeOf, seen_known, seen}
-use Rattle.bmx_store_laws.proofs.Words.{first_world, IsCounted}
+use Rattle.bmx_store_laws.proofs.Words.{flat_map, option_map, option_map_or, Option, Some, None, is_some, unwrap_or, slice_get, ◌==◌, ◌&&◌, not, ◌||◌, nat_le, count_by, filter, IsOpening, bunches_of, put, maker, count_of, Info, Place, Command, Write, Field}
+use Rattle.bmx_store_laws.proofs.Words.{Letter, Msg, ReadGrant, WriteGrant, Note, Grants, Serves, note_transition, Owner, IsShared, shared_run, IsSoundIf, put_same, some_same, none_some, eqb_of, Every, at_each, every_append, after_append, Each, each_append}
+use Rattle.bmx_store_laws.proofs.Words.{Knows, after_changes, with_step, Change, Sets, Hears, after_change, in_flight, taken, issued, arrived, IsNext, IsInputOf, Fits, AreAfter, IsLegal, Setting, NodeState, Known, share_of, Places, with_learnt, with_all_learnt}
+use Rattle.bmx_store_laws.proofs.Words.{has_room, with_made, Draft, Reaction, next_name, new_object, only, name_in, note_in, copy_after, took, heard_field, infos, known_change, Node, command_in, rule, letters_of, sent_changes, closed, IsStep, is_taken}
+use Rattle.bmx_store_laws.proofs.Words.{finds_full, letter_in, nowhere, changes_of, is_nil, made_places, MovesTo, some_clash, world_of, World, Event, Input, Do, Serve, Take, NodeAnswer, ViewField, slice_drop, put_each, heard_each, every_map, step_state}
+use Rattle.bmx_store_laws.proofs.Words.{step_letters, step_answer, taking_each, numbered_each, GrantsNothing, note_grants, each_name, Came, came_after, maker_is, count_is, FreeOf, seen_known, seen, first_world, IsCounted}
 use Rattle.bmx_store_laws.proofs.Words.command
 use Rattle.bmx_store_laws.proofs.Words.val
 use Rattle.bmx_store_laws.proofs.Words.answer
 use Rattle.bmx_store_laws.proofs.Words.field
 use Rattle.bmx_protocol.specs.Changes.{Makes}
 use Rattle.bmx_places.specs.Ledger.{Block, AreBlocks, block_of, LiesIn}
-use Rattle.bmx_places.proofs.Blocks.{Keeps, hears_all, IsTold, learnt_handed, same_shape, learnt_either}
-use Rattle.bmx_places.proofs.Making.{IsHome, made_grows, Grows, made_keeps, home_made, IsLaterThan, made_blocks, blocks_later, keeps_grown, made_or_old, with_block, r, handed_more}
-use Rattle.bmx_places.proofs.Next.{EachIssued, Goes, next_is_takeable, IsTakeable, IsIssued, IssuesRight}
-use Rattle.bmx_places.proofs.Outcomes.{never_stray, act_plain, Comes, known_plain, serve_not_stray, Belongs, IsDraft, sent_plain, AllOf, changes_kept, IsPlain, silent_drafts, Plainly, Plain, New, command_comes, IsRight, IsKnown}
+use Rattle.bmx_places.proofs.Blocks.{Grows, home_made, IsTold, keeps_grown, made_keeps, IsLaterThan, learnt_handed, IsHome, made_grows, same_shape, r, with_block, blocks_later, hears_all, handed_more, learnt_either, Keeps, made_blocks, made_or_old}
+use Rattle.bmx_places.proofs.Next.{IssuesRight, IsIssued, next_is_takeable, Goes, IsTakeable, EachIssued}
+use Rattle.bmx_places.proofs.Outcomes.{serve_not_stray, Belongs, IsRight, silent_drafts, Comes, Plainly, changes_kept, IsPlain, act_plain, known_plain, IsDraft, AllOf, never_stray, New, command_comes, IsKnown, Plain, sent_plain}
 
 -- ## how many events there are
 
@@ -186,27 +182,24 @@ module _ (st : Setting) (past : List Event) (nodes : ℕ → Node) (e : Event) (
     -- after changes that begin with hearing of objects, and then are plain
     plainly : (a : Places) → after.places ≡ a → ((n : ℕ) → a.handed n ≡ here.places.handed n) → IsHome a → (t : NodeState) (rest : List Change) → after_changes s o.changes ≡ after_changes t rest →
         Each (Plain t.known) rest → Keeps kept.blocks t.known a → t.entering ≡ s.entering → Every (IsDraft kept.blocks t.known) o.drafts → NotStray o.answer → Kept st (past ++ e ∷ []) (put nodes me after)
-    plainly a places handed home t rest goes plain keeps entering drafts right = kept_again kept.blocks (record {
-      grows = λ x b h. h;
-      are = blocks_later st w v kept.blocks (later (λ n. omega (arith, handed n, ap (λ (p : Places). p.handed n) places))) kept.are;
-      still = kept.still;
-      home = rw places home;
-      keeps = rw (places, leads) belongs.keeps;
-      records = rw leads belongs.records;
-      letters = subst (Every (Goes kept.blocks)) (sym (step_letters step o is)) (numbered_each (IsIssued kept.blocks) e.stamp o.drafts s.issued
-          (every_map (IsDraft kept.blocks t.known) (λ (d : Draft). (seq : ℕ) → IsIssued kept.blocks (record { seq = seq; stamp = e.stamp; msg = d.msg })) (λ d draft seq. record { right = draft.right; stamp = small_stamp }) o.drafts drafts));
-      answer = λ stray. right (sym answer_is ∙ stray);
-    })
-      where
-        sent : List Change
-        sent = flat_map sent_changes (letters_of e.stamp s o)
-
-        leads : after.state ≡ with_step (after_changes t (rest ++ sent))
-        leads = state_is ∙ ap with_step (after_append s o.changes sent ∙ ap (λ (u : NodeState). after_changes u sent) goes ∙ sym (after_append t rest sent))
-
-        belongs : Belongs kept.blocks a t.known (after_changes t (rest ++ sent))
-        belongs = changes_kept kept.blocks a t.known (rest ++ sent) (each_append (Plain t.known) rest sent plain (sent_plain kept.blocks t.known o.drafts s.issued e.stamp drafts)) t
-            (record { keeps = keeps; records = rw entering (kept.records me); shapes = λ x. refl })
+    plainly a places handed home t rest goes plain keeps entering drafts right =
+        let sent : List Change = flat_map sent_changes (letters_of e.stamp s o) in
+        let leads : after.state ≡ with_step (after_changes t (rest ++ sent)) =
+        state_is ∙ ap with_step (after_append s o.changes sent ∙ ap (λ (u : NodeState). after_changes u sent) goes ∙ sym (after_append t rest sent)) in
+        let belongs : Belongs kept.blocks a t.known (after_changes t (rest ++ sent)) =
+        changes_kept kept.blocks a t.known (rest ++ sent) (each_append (Plain t.known) rest sent plain (sent_plain kept.blocks t.known o.drafts s.issued e.stamp drafts)) t
+        (record { keeps = keeps; records = rw entering (kept.records me); shapes = λ x. refl }) in
+        kept_again kept.blocks (record {
+          grows = λ x b h. h;
+          are = blocks_later st w v kept.blocks (later (λ n. omega (arith, handed n, ap (λ (p : Places). p.handed n) places))) kept.are;
+          still = kept.still;
+          home = rw places home;
+          keeps = rw (places, leads) belongs.keeps;
+          records = rw leads belongs.records;
+          letters = subst (Every (Goes kept.blocks)) (sym (step_letters step o is)) (numbered_each (IsIssued kept.blocks) e.stamp o.drafts s.issued
+              (every_map (IsDraft kept.blocks t.known) (λ (d : Draft). (seq : ℕ) → IsIssued kept.blocks (record { seq = seq; stamp = e.stamp; msg = d.msg })) (λ d draft seq. record { right = draft.right; stamp = small_stamp }) o.drafts drafts));
+          answer = λ stray. right (sym answer_is ∙ stray);
+        })
 
     -- plain changes alone
     stays : IsPlain kept.blocks s.known o → NotStray o.answer → after.places ≡ here.places → Kept st (past ++ e ∷ []) (put nodes me after)
@@ -259,14 +252,11 @@ module _ (st : Setting) (past : List Event) (nodes : ℕ → Node) (e : Event) (
     state_then : after.state ≡ closed e.stamp s (record { changes = Knows (next_name me s) (new_object bunch size) ∷ Sets register (val.Ref (next_name me s)) ∷ Makes ∷ []; drafts = []; answer = answer.Nil })
     state_then = state_is o from_rule ∙ ap (closed e.stamp s) makes
 
-    made_then : after.state.made ≡ s.made + 1
-    made_then = ap (λ (t : NodeState). t.made) state_then
-
     counted : IsCounted st v x
     counted = record {
       by_a_node = omega (arith, by_me, fits.a_node);
       from_one = omega (arith, number);
-      made = (let now : (put nodes me after (maker x)).state.made ≡ s.made + 1 = ap (λ (z : Node). z.state.made) (λ i. cond (eqb_of (sym by_me) i) after (nodes (maker x))) ∙ made_then in omega (arith, now, number));
+      made = (let now : (put nodes me after (maker x)).state.made ≡ s.made + 1 = ap (λ (z : Node). z.state.made) (λ i. cond (eqb_of (sym by_me) i) after (nodes (maker x))) ∙ ap (λ (t : NodeState). t.made) state_then in omega (arith, now, number));
     }
 
     unnamed : (c : ℕ) (b : Block) → kept.blocks c ≡ Some b → b.name ≢ x
@@ -276,20 +266,14 @@ module _ (st : Setting) (past : List Event) (nodes : ℕ → Node) (e : Event) (
         let count : count_of b.name ≡ s.made + 1 = ap count_of named ∙ number in
         absurd (omega arith)
 
-    handed_then : (n : ℕ) → here.places.handed n ≤ after.places.handed n
-    handed_then n = omega (arith, handed_more st w v kept.blocks kept.are me s.known x k (kept.homes me) of_store.2 room n, ap (λ (p : Places). p.handed n) places_are)
-
     then_later : IsLaterThan w v
-    then_later = later o from_rule handed_then
+    then_later = later o from_rule (λ n. omega (arith, handed_more st w v kept.blocks kept.are me s.known x k (kept.homes me) of_store.2 room n, ap (λ (p : Places). p.handed n) places_are))
 
     abbrev more : ℕ → Option Block
     more = with_block st w v kept.blocks kept.are me s.known x k (kept.homes me) of_store.2 room
 
     handed_is : (v.places me).handed ≡ (with_made me here.places x bunch size).handed
     handed_is = ap (λ (z : Node). z.places.handed) (put_same nodes me after) ∙ ap (λ (p : Places). p.handed) places_are
-
-    replicate_full : (fields : List ViewField) → k.copy ≡ Some fields → length fields ≡ size
-    replicate_full fields c = ap length (sym (some_same c)) ∙ length-replicate size field.Null
 
     grown : Grows kept.blocks more
     grown = made_grows st w v kept.blocks kept.are me s.known x k (kept.homes me) of_store.2 room then_later fits.a_node handed_is of_store.1 counted unnamed
@@ -301,7 +285,8 @@ module _ (st : Setting) (past : List Event) (nodes : ℕ → Node) (e : Event) (
       still = λ c b there. elim (made_or_old st w v kept.blocks kept.are me s.known x k (kept.homes me) of_store.2 room c b there) [ inl new ↦ new.1 | inr old ↦ kept.still c b old ];
       home = subst IsHome (sym places_are) (home_made st w v kept.blocks kept.are me s.known x k (kept.homes me) of_store.2 room);
       keeps = subst (Keeps more after.state.known) (sym places_are) (subst (λ (f : ℕ → Option Known). Keeps more f (with_made me here.places x bunch size)) (sym (ap (λ (t : NodeState). t.known) state_then))
-          (made_keeps st w v kept.blocks kept.are me s.known x k (kept.homes me) of_store.2 room then_later fits.a_node handed_is of_store.1 counted unnamed (kept.keeps me) replicate_full));
+          (made_keeps st w v kept.blocks kept.are me s.known x k (kept.homes me) of_store.2 room then_later fits.a_node handed_is of_store.1 counted unnamed (kept.keeps me)
+          (λ fields c. ap length (sym (some_same c)) ∙ length-replicate size field.Null)));
       records = subst (AllOf more) (sym (ap (λ (t : NodeState). t.entering) state_then)) (records_grown kept.blocks more grown s.entering (kept.records me));
       letters = subst (Every (Goes more)) (sym (step_letters step o from_rule ∙ ap (letters_of e.stamp s) makes)) tt;
       answer = λ stray. (let both : answer.Nil ≡ answer.Stray = sym (ap (λ (p : Reaction). p.answer) makes) ∙ sym (answer_is o from_rule) ∙ stray in cc);
@@ -335,11 +320,9 @@ module _ (st : Setting) (past : List Event) (nodes : ℕ → Node) (e : Event) (
     abbrev o : Reaction
     o = took s step.told.lies from l.seq m (s.known (name_in m)) (Some takeable.turn)
 
-    calm : step.told.clash ≡ false
-    calm = step.is_told.clash ∙ ap (λ (i : Input). option_map_or (λ (y : ℕ × Letter). some_clash me y.0 s.known here.places (infos y.1.msg)) (letter_in i) false) is ∙ takeable.calm
-
     takes : o ≡ rule st me s step.told e.input
     takes =
+        let calm : step.told.clash ≡ false = step.is_told.clash ∙ ap (λ (i : Input). option_map_or (λ (y : ℕ × Letter). some_clash me y.0 s.known here.places (infos y.1.msg)) (letter_in i) false) is ∙ takeable.calm in
         ap (took s step.told.lies from l.seq m (s.known (name_in m))) (sym takeable.turns)
         ∙ (λ i. cond (sym takeable.good i || sym calm i) (only answer.Stray) (took s step.told.lies from l.seq m (s.known (name_in m)) (note_transition me from (note_in m) (option_map share_of (s.known (name_in m))))))
         ∙ ap (rule st me s step.told) (sym is)

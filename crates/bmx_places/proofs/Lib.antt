@@ -1,5 +1,4 @@
 pub mod Blocks
-pub mod Making
 pub mod Outcomes
 pub mod Next
 pub mod Kept

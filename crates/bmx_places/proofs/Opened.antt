@@ -1,15 +1,12 @@
 -- The ledger that a store opens with: the blocks of its births, in the order in which they are placed.
 use Rattle.bmx_store_laws.proofs.Words.{◌≡◌, ℕ, refl, ap, sym, subst, ◌∙◌, Bool, true, false, cond, List, [], ◌∷◌, ◌<◌, arith, length, zero, suc, ◌⊎◌, inl, inr, ◌+◌, ◌≤◌, ◌≢◌, ◌^◌, length-append, ◌*◌, length-map, length-filter_both, option_map, Option, Some}
-use Rattle.bmx_store_laws.proofs.Words.{None, unwrap_or, slice_get, ◌==◌, ◌&&◌, nat_lt, not, filter}
-use Rattle.bmx_store_laws.proofs.Words.{IsOpening, bunches_of, put, maker, count_of, Info, Place, Birth, blank, Record}
-use Rattle.bmx_store_laws.proofs.Words.{put_same, some_same, none_some, put_apart, eqb_apart, Every, In, Distinct, every_in, every_of, in_contains, found, numbered_above, in_bunches, of_bunches, all_bunches, distinct_bunches, learns, learns_in, distinct}
-use Rattle.bmx_store_laws.proofs.Words.{ordered, known_first, anchors, anchors_of, known_told, Setting, Known, first_known, birth_of, is_anchor, owned_birth, heard_birth, field_of, first_entering, Places, with_made, no_places, with_births, by_bunch}
-use Rattle.bmx_store_laws.proofs.Words.{owner_places, told_place, with_told, first_node, nowhere, clashes, world_of, World}
-use Rattle.bmx_store_laws.proofs.Words.{IsCounted}
+use Rattle.bmx_store_laws.proofs.Words.{None, unwrap_or, slice_get, ◌==◌, ◌&&◌, nat_lt, not, filter, IsOpening, bunches_of, put, maker, count_of, Info, Place, Birth, blank, Record, put_same, some_same, none_some, put_apart, eqb_apart, Every, In, Distinct}
+use Rattle.bmx_store_laws.proofs.Words.{every_in, every_of, in_contains, found, numbered_above, in_bunches, of_bunches, all_bunches, distinct_bunches, learns, learns_in, distinct, ordered, known_first, anchors, anchors_of, known_told, Setting, Known}
+use Rattle.bmx_store_laws.proofs.Words.{first_known, birth_of, is_anchor, owned_birth, heard_birth, field_of, first_entering, Places, with_made, no_places, with_births, by_bunch, owner_places, told_place, with_told, first_node, nowhere, clashes, world_of}
+use Rattle.bmx_store_laws.proofs.Words.{World, IsCounted}
 use Rattle.bmx_places.specs.Ledger.{Block, AreBlocks, block_at, LiesIn, IsOf, block_of}
-use Rattle.bmx_places.proofs.Blocks.{no_clash, object_keeps, Keeps, none_keeps}
+use Rattle.bmx_places.proofs.Blocks.{no_clash, handed_more, none_keeps, r, object_keeps, with_block, Keeps, IsLaterThan, made_blocks, made_keeps, made_or_old, blocks_later, home_made, IsHome}
 use Rattle.bmx_places.proofs.Kept.{Kept}
-use Rattle.bmx_places.proofs.Making.{made_or_old, made_blocks, made_keeps, blocks_later, IsLaterThan, IsHome, r, home_made, handed_more, with_block}
 use Rattle.bmx_places.proofs.Outcomes.{AllOf}
 
 no_home : IsHome no_places

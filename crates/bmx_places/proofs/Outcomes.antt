@@ -1,22 +1,18 @@
 -- What a rule comes to for blocks: plain changes, which make nothing known and change no bunch or size, and messages of
 -- known objects, or a new object; and that no rule but that of a letter answers that it is stray.
 use Rattle.bmx_store_laws.proofs.Words.{◌≡◌, ℕ, refl, ap, sym, subst, ◌∙◌, Bool, true, false, cond, List, [], ◌∷◌, map, arith, length, ◌⊎◌, inl, inr, ◌+◌, ◌++◌, ◌≢◌, length-set, length-map, flat_map, list_any, option_map, option_map_or, Option, Some, None}
-use Rattle.bmx_store_laws.proofs.Words.{is_some, unwrap_or, ◌||◌, slice_set, filter_map}
-use Rattle.bmx_store_laws.proofs.Words.{put, put_at, Info, Place, Command, Read, Write, Val, targets, given, Field, Msg, blank, sent_by, got_by, Record}
-use Rattle.bmx_store_laws.proofs.Words.{State, target_of, effect, Effect, MakesOne, SetsOne, Stores}
-use Rattle.bmx_store_laws.proofs.Words.{Share, Note, Asks, Grants, Send, Transition, Operation, Acquires, Releases, transition_of, Serves, Owner, is_grant}
-use Rattle.bmx_store_laws.proofs.Words.{some_same, none_some, Every, Each, kept_by_each, each_append, Knows, after_changes, Change, Sets, Hears, after_change, Gets, Gives, Issues, record_of, issued, NodeState, Known, seen_graph, share_of, field_of, Places}
-use Rattle.bmx_store_laws.proofs.Words.{Draft, Reaction, message, drafts_of, info_of, told_fields, grant_in, operation_answer, after_operation, operation_rule, next_name, new_object, graph_changes, token_rule, command_rule, about, stored, told_field, infos}
-use Rattle.bmx_store_laws.proofs.Words.{known_change, info_in, Node, numbered, sent_changes, is_nil, made_places, Done, NodeAnswer, ViewField}
-use Rattle.bmx_store_laws.proofs.Words.{some_or_none, some_is, either, put_each, NoGrants, HasNo, FreeOf}
+use Rattle.bmx_store_laws.proofs.Words.{is_some, unwrap_or, ◌||◌, slice_set, filter_map, put, put_at, Info, Place, Command, Read, Write, Val, targets, given, Field, Msg, blank, sent_by, got_by, Record, State, target_of, effect, Effect, MakesOne, SetsOne}
+use Rattle.bmx_store_laws.proofs.Words.{Stores, Share, Note, Asks, Grants, Send, Transition, Operation, Acquires, Releases, transition_of, Serves, Owner, is_grant, some_same, none_some, Every, Each, kept_by_each, each_append, Knows, after_changes, Change, Sets}
+use Rattle.bmx_store_laws.proofs.Words.{Hears, after_change, Gets, Gives, Issues, record_of, issued, NodeState, Known, seen_graph, share_of, field_of, Places, Draft, Reaction, message, drafts_of, info_of, told_fields, grant_in, operation_answer}
+use Rattle.bmx_store_laws.proofs.Words.{after_operation, operation_rule, next_name, new_object, graph_changes, token_rule, command_rule, about, stored, told_field, infos, known_change, info_in, Node, numbered, sent_changes, is_nil, made_places, Done}
+use Rattle.bmx_store_laws.proofs.Words.{NodeAnswer, ViewField, some_or_none, some_is, either, put_each, NoGrants, HasNo, FreeOf}
 use Rattle.bmx_store_laws.proofs.Words.command
 use Rattle.bmx_store_laws.proofs.Words.val
 use Rattle.bmx_store_laws.proofs.Words.answer
 use Rattle.bmx_store_laws.proofs.Words.field
 use Rattle.bmx_protocol.specs.Changes.{Makes}
 use Rattle.bmx_places.specs.Ledger.{Block, block_at, LiesIn, IsOf}
-use Rattle.bmx_places.proofs.Blocks.{one_keeps, IsFull, KeepsOne, IsTold, Keeps}
-use Rattle.bmx_places.proofs.Making.{r}
+use Rattle.bmx_places.proofs.Blocks.{KeepsOne, r, Keeps, IsFull, IsTold, one_keeps}
 
 -- ## shapes
 
