@@ -14,7 +14,7 @@ use Rattle.bmx_store_laws.proofs.Words.answer
 use Rattle.bmx_coherence.specs.Graphs.{graph_answer}
 use Rattle.bmx_coherence.specs.Waits.{taking}
 use Rattle.std.specs.Prelude.{IfSome}
-use Rattle.bmx_coherence.proofs.Parts.{fits_else, Given, wants, Taken, effect_part, want_of, IsWaiting, wanted_at, acquiring, held_of, IsOwnStore, nothing, FitsAt, IsPart, taken_at, seen_value, known_of, releasing, waiting_token, waited, IsReadyFor, seen_target, fields_kept}
+use Rattle.bmx_coherence.proofs.Parts.{waited, wanted_at, IsOwnStore, held_of, nothing, IsReadyFor, releasing, IsWaiting, FitsAt, seen_target, fields_kept, effect_part, fits_else, taken_at, Given, known_of, want_of, IsPart, Taken, acquiring, seen_value, waiting_token, wants}
 
 -- no message grants
 abbrev pub Ungranting : List Draft → Type 0
@@ -95,25 +95,18 @@ may_answer st me s full lies c plain of means = grind arith
 
 -- a node whose values, holds and fields of what it holds are the graph's does what the graph does
 module _ (st : Setting) (me : ℕ) (s : NodeState) (g : State) (full : Bool) (lies : ℕ → Place) (c : Command) (plain : tokenless c ≡ true) where
-  done_same : graph_answer (command_rule me s full lies c (about c)).answer ≡ Some (answered_as (command_rule me s full lies c (about c)).answer)
-  done_same = grind arith
-
-  done_silent : ((command_rule me s full lies c (about c)).drafts ≡ []) × (waiting_after c (command_rule me s full lies c (about c)).answer ≡ None)
-  done_silent = (grind arith, grind arith)
+  done_alone : (graph_answer (command_rule me s full lies c (about c)).answer ≡ Some (answered_as (command_rule me s full lies c (about c)).answer))
+      × ((command_rule me s full lies c (about c)).drafts ≡ []) × (waiting_after c (command_rule me s full lies c (about c)).answer ≡ None)
+  done_alone = (grind arith, grind arith, grind arith)
 
   module _ (values : (on : Operand) → value_of (seen_graph me s) me on ≡ value_of g me on) (holds : (x : ℕ) → (seen_graph me s).held me x ≡ g.held me x)
       (fields : (x : ℕ) → is_some (g.held me x) ≡ true → fields_of (seen_graph me s) x ≡ fields_of g x) where
-    done_changes : (command_rule me s full lies c (about c)).changes ≡ graph_changes me s (done_effect st me s g full lies c)
-    done_changes = grind arith
-
-    done_agrees : answer_of (seen_graph me s) me c ≡ answer_of g me c
-    done_agrees = grind arith
+    done_alike : (answer_of (seen_graph me s) me c ≡ answer_of g me c) × ((command_rule me s full lies c (about c)).changes ≡ graph_changes me s (done_effect st me s g full lies c))
+        × IsOwnStore me g (done_effect st me s g full lies c)
+    done_alike = (grind arith, grind arith, grind arith)
 
     done_ready : ((x : ℕ) → is_some (g.held me x) ≡ true → is_some (s.known x) ≡ true) → s.known (next_name me s) ≡ None → IsReadyFor me s (done_effect st me s g full lies c)
     done_ready known new = grind arith
-
-    done_own : IsOwnStore me g (done_effect st me s g full lies c)
-    done_own = grind arith
 
 -- ## commands on tokens
 
@@ -202,20 +195,20 @@ module _ (st : Setting) (me : ℕ) (s : NodeState) (g : State) (w : Option Comma
   graph_shown : (full : Bool) (lies : ℕ → Place) (c : Command) → IsCommandOf st c → tokenless c ≡ true → IsPart me s g nothing → IsShown me s g c (command_rule me s full lies c (about c))
   graph_shown full lies c of plain p =
       let values : (on : Operand) → value_of h me on ≡ value_of g me on = seen_value me s g (wants g me w) steady.part in
-      let silent = done_silent st me s g full lies c plain in
-      let changes : (command_rule me s full lies c (about c)).changes ≡ graph_changes me s (done_effect st me s g full lies c) = done_changes st me s g full lies c plain values held_same fields_same in
+      let alone = done_alone st me s g full lies c plain in
+      let alike = done_alike st me s g full lies c plain values held_same fields_same in
       record {
         effect_is = done_effect st me s g full lies c;
         answer_is = answered_as (command_rule me s full lies c (about c)).answer;
-        same = done_same st me s g full lies c plain;
-        fits = subst (λ (b : Answer). MayAnswer c b (answered_as (command_rule me s full lies c (about c)).answer)) (done_agrees st me s g full lies c plain values held_same fields_same)
+        same = alone.0;
+        fits = subst (λ (b : Answer). MayAnswer c b (answered_as (command_rule me s full lies c (about c)).answer)) alike.0
             (may_answer st me s full lies c plain of known_same);
         leads = refl;
-        part = rw (silent.1, changes) (effect_part me s g (done_effect st me s g full lies c) (done_ready st me s g full lies c plain values held_same fields_same held_known steady.new) p);
-        waits = rw silent.1 tt;
-        ungranting = rw silent.0 tt;
-        own = done_own st me s g full lies c plain values held_same fields_same;
-        names = rw changes (effect_names me s (done_effect st me s g full lies c));
+        part = rw (alone.2, alike.1) (effect_part me s g (done_effect st me s g full lies c) (done_ready st me s g full lies c plain values held_same fields_same held_known steady.new) p);
+        waits = rw alone.2 tt;
+        ungranting = rw alone.1 tt;
+        own = alike.2;
+        names = rw alike.1 (effect_names me s (done_effect st me s g full lies c));
       }
 
   -- ## commands on tokens

@@ -17,8 +17,8 @@ use Rattle.std.proofs.Common.{not}
 use Rattle.bmx_coherence.specs.Graphs.{graph_answer, act_of, acts_of, graph_after}
 use Rattle.bmx_protocol.specs.Worlds.{At}
 use Rattle.std.specs.Prelude.{IfSome}
-use Rattle.bmx_coherence.proofs.Answers.{waiting_after, command_shown, Ungranting, notes_ungranting, NamesIt, IsShown, IsSteady}
-use Rattle.bmx_coherence.proofs.Parts.{BringsFields, wants, EachBrings, took_part, IsWaiting, held_of, IsOwnStore, FitsAt, IsPart, IsBeside, served_part, waiting_else, known_of, object_kept, part_else}
+use Rattle.bmx_coherence.proofs.Answers.{command_shown, IsShown, waiting_after, Ungranting, IsSteady, NamesIt, notes_ungranting}
+use Rattle.bmx_coherence.proofs.Parts.{IsOwnStore, held_of, object_kept, IsWaiting, FitsAt, served_part, known_of, EachBrings, IsBeside, IsPart, BringsFields, took_part, part_else, waiting_else, wants}
 
 -- a legal history of a store, and the nodes after it
 pub record IsMoment (st : Setting) (past : List Event) (nodes : ℕ → Node) : Type 0 where
@@ -33,25 +33,18 @@ pub record IsAlone (past : List Event) (nodes : ℕ → Node) (me x : ℕ) : Typ
 
 -- what isn't unknown is known, and what is seen as unknown is
 pub knows_it : (k : Option Known) → (k ≡ None → ⊥) → is_some k ≡ true
-knows_it None none = absurd (none refl)
-knows_it (Some k) none = refl
+knows_it k none = grind arith
 
 pub unknown : (k : Option Known) → seen_known k ≡ None → k ≡ None
-unknown None e = refl
-unknown (Some k) e = absurd cc
+unknown k e = grind arith
 
 known_copy : (k : Option Known) (fields : List Val) → fields_known k ≡ Some fields → (j : Known) × (k ≡ Some j) × IsSome j.copy
 known_copy None fields e = none_some e
-known_copy (Some j) fields e = (j, refl, copied j fields e)
-  where
-    copied : (j : Known) (fields : List Val) → fields_known (Some j) ≡ Some fields → is_some j.copy ≡ true
-    copied j fields e = grind arith
+known_copy (Some j) fields e = (j, refl, grind arith)
 
 -- a letter that grants an object is about it
 granted_name : (m : Msg) (info : Info) (fields : List Field) → grant_in m ≡ Some (info, fields) → name_in m ≡ info.name
-granted_name (ReadGrant i l) info fields e = ap (λ (p : Info × List Field). p.0.name) (some_same e)
-granted_name (WriteGrant i l) info fields e = ap (λ (p : Info × List Field). p.0.name) (some_same e)
-granted_name _ info fields e = none_some e
+granted_name m info fields e = grind arith
 
 pub only_owner : (r : Role) → ((parent : ℕ) → r ≡ Parent parent → ⊥) → r ≡ Owner
 only_owner r none = grind arith

@@ -86,8 +86,7 @@ register_put : (me : ℕ) (f : ℕ → Val) (g : State) (register : ℕ) (v : Va
 register_put me f g register v same r = ap (λ (u : Val). cond (register == r) v u) (same r) ∙ sym (put_at_row g.register me register r v)
 
 values_same : (v : Val) → value_in (field_of v) ≡ v
-values_same val.Null = refl
-values_same _ = refl
+values_same v = grind arith
 
 pub values_again : (fields : List Val) → map value_in (map field_of fields) ≡ fields
 values_again [] = refl
