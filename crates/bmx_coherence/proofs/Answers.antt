@@ -1,10 +1,10 @@
 -- What a node answers a command the graph may answer, and what the command changes at the node it changes in the graph.
-use Rattle.bmx_store_laws.proofs.Words.{◌≡◌, ℕ, refl, ap, sym, subst, ◌∙◌, Bool, true, false, cond, List, [], ◌∷◌, map, arith, ◌⊎◌, inl, inr, ◌≢◌, option_map, Option, Some, None, is_some, unwrap_or, ◌==◌, Place, Command, Operand, Refusal, Mode, Read, Write}
-use Rattle.bmx_store_laws.proofs.Words.{Val, is_excluded, State, fields_of, value_of, target_of, done_answer, answer_of, holding, changed, state_after, MayAnswer, IsAnswer, effect_after, Answer, Effect, Nothing, MakesOne, Holds, acquire, release, Share, Note}
-use Rattle.bmx_store_laws.proofs.Words.{Asks, Grants, Send, Operation, Acquires, Releases, saying, transition_of, Returns, acquired, released, with_token, without_copy, send, Acquire, Release, Part, is_grant, eqb_same, put_same, some_same, none_some, put_apart}
-use Rattle.bmx_store_laws.proofs.Words.{put_at_row, Every, Knows, after_changes, is_wait, IsOperandOf, IsCommandOf, IsAgain, Setting, NodeState, Known, fields_known, value_in, seen_graph, share_of, Draft, Reaction, refused, message, drafts_of, info_of}
-use Rattle.bmx_store_laws.proofs.Words.{told_fields, grant_in, with_share, operation_answer, after_operation, operation_rule, next_name, new_object, graph_changes, token_rule, knows, command_rule, about, acquire_answer, release_answer, Done, Do, NodeAnswer}
-use Rattle.bmx_store_laws.proofs.Words.{some_is, either, put_each, NoGrants}
+use Rattle.bmx_store_laws.proofs.Words.{◌≡◌, ℕ, refl, ap, sym, subst, ◌∙◌, Bool, true, false, cond, List, [], ◌∷◌, map, arith, ◌⊎◌, inl, inr, ◌≢◌, option_map, Option, Some, None, is_some, unwrap_or, ◌==◌, Info, Place, Command, Operand, Refusal, Mode, Read}
+use Rattle.bmx_store_laws.proofs.Words.{Write, Val, Field, is_excluded, State, fields_of, value_of, target_of, done_answer, answer_of, holding, changed, state_after, MayAnswer, IsAnswer, effect_after, Answer, Effect, Nothing, MakesOne, Holds, acquire, release}
+use Rattle.bmx_store_laws.proofs.Words.{Share, Note, Asks, Send, Operation, Acquires, Releases, saying, transition_of, Returns, acquired, released, with_token, without_copy, send, Acquire, Release, Part, is_grant, eqb_same, put_same, some_same, none_some}
+use Rattle.bmx_store_laws.proofs.Words.{put_apart, put_at_row, Every, Knows, after_changes, is_wait, IsOperandOf, IsCommandOf, IsAgain, Setting, NodeState, Known, fields_known, value_in, seen_graph, share_of, Draft, Reaction, refused, message, drafts_of}
+use Rattle.bmx_store_laws.proofs.Words.{info_of, told_fields, grant_in, with_share, operation_answer, after_operation, operation_rule, next_name, new_object, graph_changes, token_rule, knows, command_rule, about, acquire_answer, release_answer, Do}
+use Rattle.bmx_store_laws.proofs.Words.{NodeAnswer, some_is, either, put_each, NoGrants}
 use Rattle.bmx_store_laws.proofs.Words.command
 use Rattle.bmx_store_laws.proofs.Words.refusal
 use Rattle.bmx_store_laws.proofs.Words.graph
@@ -14,7 +14,7 @@ use Rattle.bmx_store_laws.proofs.Words.answer
 use Rattle.bmx_coherence.specs.Graphs.{graph_answer}
 use Rattle.bmx_coherence.specs.Waits.{taking}
 use Rattle.std.specs.Prelude.{IfSome}
-use Rattle.bmx_coherence.proofs.Parts.{waited, wanted_at, IsOwnStore, held_of, nothing, IsReadyFor, releasing, IsWaiting, FitsAt, seen_target, fields_kept, effect_part, fits_else, taken_at, Given, known_of, want_of, IsPart, Taken, acquiring, seen_value, waiting_token, wants}
+use Rattle.bmx_coherence.proofs.Parts.{IsPart, held_of, IsOwnStore, wants, taken_at, nothing, FitsAt, releasing, effect_part, waited, IsReadyFor, Given, seen_target, waiting_token, seen_value, IsWaiting, acquiring, fits_else, want_of, known_of, fields_kept, wanted_at, Taken}
 
 -- no message grants
 abbrev pub Ungranting : List Draft → Type 0
@@ -58,15 +58,12 @@ pub record IsSteady (st : Setting) (me : ℕ) (s : NodeState) (g : State) (w : O
   -- what an operand means is known
   pub aware : (on : Operand) (x : ℕ) → IsOperandOf st on → target_of g me on ≡ Some x → is_some (s.known x) ≡ true
 
+other_grants : (info : Info) (fields : List Field) (n : Note) → is_grant n ≡ false → grant_in (message info fields n) ≡ None
+other_grants info fields n e = grind arith
+
 pub notes_ungranting : (s : NodeState) (lies : ℕ → Place) (name : ℕ) (sends : List Send) → NoGrants sends → Ungranting (drafts_of s lies name sends)
 notes_ungranting s lies name [] none = tt
-notes_ungranting s lies name (n ∷ sends) none = (by_note n.note none.0, notes_ungranting s lies name sends none.1)
-  where
-    by_note : (n : Note) → is_grant n ≡ false → grant_in (message (info_of s lies name) (told_fields s lies name) n) ≡ None
-    by_note (Grants Read) e = absurd cc
-    by_note (Grants Write) e = absurd cc
-    by_note (Asks Read asker) e = refl
-    by_note _ e = refl
+notes_ungranting s lies name (n ∷ sends) none = (other_grants (info_of s lies name) (told_fields s lies name) n.note none.0, notes_ungranting s lies name sends none.1)
 
 -- ## commands without a token
 

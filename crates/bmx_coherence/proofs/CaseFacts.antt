@@ -1,7 +1,7 @@
 -- Each law applies to runs worked by hand, and tells them from the same with one outcome changed.
 use Rattle.bmx_store_laws.proofs.Words.{◌≡◌, ℕ, refl, ap, sym, subst, ◌∙◌, Bool, true, false, cond, List, [], ◌∷◌, ◌<◌, arith, drop, length, zero, suc, option_map, option_map_or, Option, Some, None, is_some, ◌==◌, ◌&&◌, nat_lt, put, Command, Mode, Read, Write}
-use Rattle.bmx_store_laws.proofs.Words.{Birth, Val, targets, Letter, can_serve, some_same, none_some, Two, Same, Apart, two, put_apart, Play, anchor, the_anchor, told_of_the_object, written_by_its_taker, in_flight, waits_with, taken, Known, first_known}
-use Rattle.bmx_store_laws.proofs.Words.{birth_of, is_anchor, owned_birth, heard_birth, knows, CanServe, is_ready, first_node, world_of, IsCurrent, laws_apply, put_each}
+use Rattle.bmx_store_laws.proofs.Words.{Birth, Val, Letter, can_serve, some_same, none_some, Two, Same, Apart, two, put_apart, Play, anchor, the_anchor, told_of_the_object, written_by_its_taker, in_flight, waits_with, taken, Known, first_known}
+use Rattle.bmx_store_laws.proofs.Words.{birth_of, is_anchor, owned_birth, heard_birth, CanServe, is_ready, first_node, world_of, IsCurrent, laws_apply, put_each}
 use Rattle.bmx_store_laws.proofs.Words.command
 use Rattle.bmx_store_laws.proofs.Words.val
 use Rattle.bmx_store_laws.proofs.Words.msg_field

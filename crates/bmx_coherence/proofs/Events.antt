@@ -3,8 +3,8 @@
 use Rattle.bmx_store_laws.proofs.Words.{◌≡◌, ℕ, refl, ap, sym, subst, ◌∙◌, true, false, cond, List, [], ◌∷◌, map, ◌<◌, arith, zero, suc, ◌⊎◌, inl, inr, ◌+◌, ◌≤◌, ◌++◌, ◌≢◌, ◌^◌, append-nil, map-append, filter_map-append, Contains-append_cases, cons_option}
 use Rattle.bmx_store_laws.proofs.Words.{option_map, option_and_then, Option, Some, None, is_some, ◌==◌, ◌&&◌, ◌||◌, nat_le, Contains, IsSome, count_by, IsOpening, put, name_word, Info, Command, Operand, Register, Anchor, Mode, Read, Write, Val, Field, Letter}
 use Rattle.bmx_store_laws.proofs.Words.{Msg, ReadGrant, WriteGrant, is_excluded-none, is_excluded, excludes, State, opening_state, reference, target_of, changed, state_after, state_after_all, Act, IsRun, Answer, Effect, Nothing, MakesOne, Stores, Transition}
-use Rattle.bmx_store_laws.proofs.Words.{note_transition, served, Role, Owner, Parent, IsShared, shared_run, IsSound, IsSoundIf, IsNowhere, eqb_same, put_same, some_same, none_some, Same, Apart, two, put_apart, eqb_is, eqb_not, eqb_of, eqb_apart, after_changes}
-use Rattle.bmx_store_laws.proofs.Words.{IsOperandOf, in_flight, waits_with, letters_to, issued, IsNext, waits_after, IsAgain, IsInputOf, AreAfter, IsLegal, Setting, NodeState, Known, fields_known, share_of, Draft, Reaction, grant_in, next_name, answered, knows}
+use Rattle.bmx_store_laws.proofs.Words.{note_transition, Role, Owner, Parent, IsShared, shared_run, IsSound, IsSoundIf, IsNowhere, eqb_same, put_same, some_same, none_some, Same, Apart, two, put_apart, eqb_is, eqb_not, eqb_of, eqb_apart, after_changes}
+use Rattle.bmx_store_laws.proofs.Words.{IsOperandOf, in_flight, waits_with, letters_to, IsNext, waits_after, IsAgain, IsInputOf, AreAfter, IsLegal, Setting, NodeState, Known, fields_known, share_of, Draft, Reaction, grant_in, next_name, knows}
 use Rattle.bmx_store_laws.proofs.Words.{only, name_in, note_in, took, take_rule, Node, command_in, rule, too_large, is_no_node, is_bad_msg, is_bad_letter, world_of, HasOwned, Event, Input, Do, Serve, Take, NodeAnswer, Sending, nodes_of, tested, either}
 use Rattle.bmx_store_laws.proofs.Words.{put_each, every_map, every_there, first_there, flight_more, IsOneMore, step_letters, step_answer, step_leaves, numbered_each, issued_to, GrantsNothing, note_grants, each_name, Came, came_after, first_letter, good_letter}
 use Rattle.bmx_store_laws.proofs.Words.{new_nowhere, write_excludes, one_seat, readers_are_listed_always, split_at, moving_counted, IsLeft, shares_changed, all_spared, seen_known, seen, seen_message, seen_note, first_world, IsSeated, HasReader, handovers_of}
@@ -17,8 +17,8 @@ use Rattle.std.proofs.Common.{not}
 use Rattle.bmx_coherence.specs.Graphs.{graph_answer, act_of, acts_of, graph_after}
 use Rattle.bmx_protocol.specs.Worlds.{At}
 use Rattle.std.specs.Prelude.{IfSome}
-use Rattle.bmx_coherence.proofs.Answers.{command_shown, IsShown, waiting_after, Ungranting, IsSteady, NamesIt, notes_ungranting}
-use Rattle.bmx_coherence.proofs.Parts.{IsOwnStore, held_of, object_kept, IsWaiting, FitsAt, served_part, known_of, EachBrings, IsBeside, IsPart, BringsFields, took_part, part_else, waiting_else, wants}
+use Rattle.bmx_coherence.proofs.Answers.{IsShown, Ungranting, NamesIt, command_shown, IsSteady, waiting_after, notes_ungranting}
+use Rattle.bmx_coherence.proofs.Parts.{IsPart, EachBrings, took_part, waiting_else, held_of, IsOwnStore, object_kept, wants, FitsAt, IsBeside, IsWaiting, part_else, known_of, served_part, BringsFields}
 
 -- a legal history of a store, and the nodes after it
 pub record IsMoment (st : Setting) (past : List Event) (nodes : ℕ → Node) : Type 0 where
@@ -41,6 +41,9 @@ unknown k e = grind arith
 known_copy : (k : Option Known) (fields : List Val) → fields_known k ≡ Some fields → (j : Known) × (k ≡ Some j) × IsSome j.copy
 known_copy None fields e = none_some e
 known_copy (Some j) fields e = (j, refl, grind arith)
+
+is_reference : (v : Val) (x : ℕ) → reference v ≡ Some x → v ≡ val.Ref x
+is_reference v x e = grind arith
 
 -- a letter that grants an object is about it
 granted_name : (m : Msg) (info : Info) (fields : List Field) → grant_in m ≡ Some (info, fields) → name_in m ≡ info.name
@@ -69,12 +72,8 @@ module _ (st : Setting) (past : List Event) (nodes : ℕ → Node) (now : IsMome
       is_some ((nodes me).state.known x) ≡ true
   aware me x on g below same of means = knows_it ((nodes me).state.known x) (λ none. absurd (refers on of means ((came x).aware me below (ap seen_known none))))
     where
-      is_ref : (v : Val) → reference v ≡ Some x → v ≡ val.Ref x
-      is_ref (val.Ref y) e = ap (λ (z : ℕ). val.Ref z) (some_same e)
-      is_ref _ e = none_some e
-
       refers : (on : Operand) → IsOperandOf st on → target_of g me on ≡ Some x → IsFree x (nodes me).state × IsUnborn st x → ⊥
-      refers (Register r) of means aware = aware.0.registers r (same r ∙ is_ref (g.register me r) means)
+      refers (Register r) of means aware = aware.0.registers r (same r ∙ is_reference (g.register me r) x means)
       refers (Anchor b) of means aware = aware.1 b of (sym (some_same means))
       refers _ of means aware = none_some means
 

@@ -2,7 +2,7 @@
 -- that was made and each that is reached; what copies and letters refer to is known; wants are waited for, and where nothing
 -- can go on what is waited for is held elsewhere.
 use Rattle.bmx_store_laws.proofs.Words.{◌≡◌, ℕ, refl, ap, sym, subst, ◌∙◌, Bool, true, false, cond, List, [], ◌∷◌, map, ◌<◌, arith, zero, suc, ◌⊎◌, inl, inr, ◌≤◌, nat_tests, list_any, option_map, option_map_or, Option, Some, None, is_some, unwrap_or, ◌==◌}
-use Rattle.bmx_store_laws.proofs.Words.{◌&&◌, ◌||◌, Contains, IsSome, count_by, name_word, anchor_of, Command, Operand, Anchor, Mode, Val, targets, given, Field, Letter, Msg, Record, State, target_of, Note, can_serve, same_mode, is_request_of, is_grant_of, Ask}
+use Rattle.bmx_store_laws.proofs.Words.{◌&&◌, ◌||◌, Contains, IsSome, count_by, name_word, anchor_of, Command, Operand, Mode, Val, targets, given, Field, Letter, Msg, Record, State, target_of, Note, can_serve, same_mode, is_request_of, is_grant_of, Ask}
 use Rattle.bmx_store_laws.proofs.Words.{Part, Role, Owner, IsAsking, IsRequested, requested_run, gifts_are_recorded, each_owes_one_answer, RecordsAreKept, is_owner, answers_owed, owes, is_due, waits_for, count_notes, is_recall, is_return, AnswersAreOwed}
 use Rattle.bmx_store_laws.proofs.Words.{Numbers, Object, IsFirst, Run, eqb_same, some_same, none_some, eqb_of, in_flight, waits_with, Setting, NodeState, Known, fields_known, value_in, seen_graph, share_of, grant_in, knows, is_ready, ready_at, Node, world_of}
 use Rattle.bmx_store_laws.proofs.Words.{IsCurrent, World, Sent, names_in, IsSomewhere, IsReached, Event, ViewField, tested, some_or_none, some_is, contains_map, each_name, one_seat, wants_stand_once, HandsAmong, among, one_if, HasNo, notes_give, seen_known}
@@ -18,7 +18,7 @@ use Rattle.bmx_coherence.specs.Copies.{HasRecord}
 use Rattle.bmx_coherence.specs.Waits.{taking, WaitsFor, Wants, WantsAreWaitedFor}
 use Rattle.bmx_coherence.specs.Stuck.{IsStuck, IsHeldElsewhere, StuckNamesHolders}
 use Rattle.std.specs.Prelude.{IfSome}
-use Rattle.bmx_coherence.proofs.Events.{Stands, came, aware, knows_it, only_owner, real, sound}
+use Rattle.bmx_coherence.proofs.Events.{Stands, came, knows_it, only_owner, real, sound}
 use Rattle.bmx_coherence.proofs.Parts.{wants, want_of, IsWaiting, wanted_at, held_of, values_told, taken_at, known_of, waiting_token, waited, seen_target}
 
 -- ## lists

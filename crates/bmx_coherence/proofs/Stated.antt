@@ -1,7 +1,7 @@
 -- What stands after every legal history, by induction over its events from the opening, and the laws as they are stated.
 use Rattle.bmx_store_laws.proofs.Words.{◌≡◌, ℕ, refl, ap, sym, subst, ◌∙◌, Bool, true, false, cond, List, [], ◌∷◌, arith, length, inl, inr, ◌≤◌, ◌++◌, ◌-◌, slice_get_cases, option_map, option_map_or, ◌↔◌, Option, Some, None, is_some, ◌==◌, ◌&&◌, nat_lt}
 use Rattle.bmx_store_laws.proofs.Words.{IsOpening, put, name_word, Command, Birth, Val, opening_state, eqb_is, empty_is_legal, replay_is_determined, AreAfter, IsLegal, Replays, Setting, Known, fields_known, first_known, birth_of, is_anchor, owned_birth}
-use Rattle.bmx_store_laws.proofs.Words.{heard_birth, is_full, Reaction, refused, answered, graph_rule, first_node, Node, command_in, rule, IsStep, finds_full, Event, Input, Do, along_history, step_answer, finds_birth}
+use Rattle.bmx_store_laws.proofs.Words.{heard_birth, is_full, Reaction, refused, graph_rule, first_node, Node, command_in, rule, IsStep, finds_full, Event, Input, Do, along_history, step_answer, finds_birth}
 use Rattle.bmx_store_laws.proofs.Words.command
 use Rattle.bmx_store_laws.proofs.Words.refusal
 use Rattle.bmx_store_laws.proofs.Words.answer

@@ -1,14 +1,14 @@
 -- The laws, over every legal history.
-use Rattle.bmx_store_laws.proofs.Words.{◌≡◌, ℕ, refl, ap, sym, subst, ◌∙◌, false, cond, List, [], ◌∷◌, ◌<◌, arith, drop, length, zero, suc, ◌≢◌, option_map, Option, Some, None, ◌||◌, Contains, IsSome, IsOpening, Info, Place, Letter, Transition, note_transition}
-use Rattle.bmx_store_laws.proofs.Words.{some_same, none_some, Every, in_flight, taken, issued, AreAfter, IsLegal, Setting, NodeState, Known, share_of, only, name_in, note_in, took, infos, Node, IsStep, some_clash, world_of, World, Event, Done, Take}
-use Rattle.bmx_store_laws.proofs.Words.{every_there, along_history}
+use Rattle.bmx_store_laws.proofs.Words.{◌≡◌, ℕ, refl, ap, sym, subst, ◌∙◌, false, cond, List, [], ◌∷◌, ◌<◌, arith, drop, length, zero, suc, inl, inr, ◌≢◌, option_map, Option, Some, ◌||◌, Contains, IsSome, IsOpening, Info, Place, Letter, Transition}
+use Rattle.bmx_store_laws.proofs.Words.{note_transition, some_same, none_some, Every, in_flight, taken, issued, AreAfter, IsLegal, Setting, NodeState, share_of, only, name_in, note_in, took, infos, Node, IsStep, some_clash, world_of, World, Event, Done, Take}
+use Rattle.bmx_store_laws.proofs.Words.{some_or_none, every_there, along_history}
 use Rattle.bmx_store_laws.proofs.Words.answer
 use Rattle.bmx_places.specs.Ledger.{Block, block_at, block_of, LiesIn, IsOf, HasLedger}
 use Rattle.bmx_places.specs.Laws.{HasShape, KnownAt, ToldIn, HasPlace, At, Between, NoLetterIsStray, PlacesAgree, ShapesAgree}
 use Rattle.bmx_places.specs.Laws as law
-use Rattle.bmx_places.proofs.Blocks.{r, hears_all, IsTold}
+use Rattle.bmx_places.proofs.Blocks.{hears_all, IsTold}
 use Rattle.bmx_places.proofs.Kept.{Kept, one_more}
-use Rattle.bmx_places.proofs.Next.{IsIssued, next_is_takeable, all_issued, IsTakeable}
+use Rattle.bmx_places.proofs.Next.{IsTakeable, next_is_takeable, all_issued, IsIssued}
 use Rattle.bmx_places.proofs.Opened.{first_kept}
 
 kept_after : (st : Setting) (history : List Event) (nodes : ℕ → Node) → IsOpening st.nodes st.limit st.births → IsLegal st history → AreAfter st history nodes → Kept st history nodes
@@ -69,13 +69,11 @@ module _ (st : Setting) (history : List Event) (nodes : ℕ → Node) (opening :
   Lying x p = (b : Block) × (k.blocks p.address ≡ Some b) × (b.name ≡ x) × (b.moves ≡ p.moves)
 
   lying : (x : ℕ) (p : Place) → HasPlace w x p → Lying x p
-  lying x p (At n e) = by_known ((nodes n).state.known x) refl
-    where
-      by_known : (j : Option Known) → (nodes n).state.known x ≡ j → Lying x p
-      by_known None f = none_some (sym (((k.keeps n).known x).unplaced f) ∙ e)
-      by_known (Some j) f =
-          let l : LiesIn k.blocks ((nodes n).places.place x) x j = ((k.keeps n).known x).lies j f in
-          subst (Lying x) (some_same (sym l.lies ∙ e)) (block_at x j l.place, l.block, refl, refl)
+  lying x p (At n e) = elim (some_or_none ((nodes n).state.known x)) [
+    | inl none ↦ none_some (sym (((k.keeps n).known x).unplaced none) ∙ e)
+    | inr j ↦ (let l : LiesIn k.blocks ((nodes n).places.place x) x j.0 = ((k.keeps n).known x).lies j.0 j.1 in
+        subst (Lying x) (some_same (sym l.lies ∙ e)) (block_at x j.0 l.place, l.block, refl, refl))
+  ]
   lying x p (Between n m l info there within named at) = subst (Lying x) at (block_of info, info_told n m l info there within, named, refl)
 
   pub one_place : law.PlacesAgree w

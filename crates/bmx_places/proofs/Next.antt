@@ -2,7 +2,7 @@
 use Rattle.bmx_store_laws.proofs.Words.{◌≡◌, ℕ, refl, ap, sym, subst, ◌∙◌, Bool, true, false, cond, List, [], ◌∷◌, map, ◌<◌, arith, drop, length, zero, suc, ◌+◌, ◌≤◌, ◌≢◌, ◌^◌, ltb-true, ltb-false, nat_tests, sum_by-cons, list_any, option_map, option_map_or}
 use Rattle.bmx_store_laws.proofs.Words.{Option, Some, None, is_some, slice_get, ◌==◌, ◌&&◌, nat_lt, not, ◌||◌, IsSome, IsOpening, bunches_of, maker, count_of, home_of, Info, Mode, Read, Write, Field, Letter, Msg, ReadReq, WriteReq, ReadGrant, WriteGrant, Note}
 use Rattle.bmx_store_laws.proofs.Words.{Asks, Transition, note_transition, is_request_of, nobody_asks_itself, NoneIsStray, IsApart, hears, said_transition, eqb_same, some_same, none_some, eqb_of, Every, every_append, in_flight, taken, letters_to, issued}
-use Rattle.bmx_store_laws.proofs.Words.{AreAfter, IsLegal, Setting, NodeState, share_of, grant_in, knows, name_in, note_in, infos, Node, is_no_node, is_bad_msg, is_bad_letter, some_clash, is_no_name, is_bad_info, asker_in, world_of, World, Event, Sending}
+use Rattle.bmx_store_laws.proofs.Words.{AreAfter, IsLegal, Setting, NodeState, share_of, grant_in, name_in, note_in, infos, Node, is_no_node, is_bad_msg, is_bad_letter, some_clash, is_no_name, is_bad_info, asker_in, world_of, World, Event, Sending}
 use Rattle.bmx_store_laws.proofs.Words.{numbered_at, some_is, either, first_there, issued_to, each_name, Came, came_after, wants_stand_once, names_are_counted, seen_known, seen, seen_message, first_world, Asked, letters_about, times_at, IsCounted}
 use Rattle.bmx_token_model.proofs.Stated.{no_letter_is_stray}
 use Rattle.bmx_protocol.specs.Worlds.{Between}

@@ -3,11 +3,11 @@ use Rattle.bmx_store_laws.proofs.Words.{◌≡◌, ℕ, refl, ap, sym, subst, �
 use Rattle.bmx_store_laws.proofs.Words.{None, unwrap_or, slice_get, ◌==◌, ◌&&◌, nat_lt, not, filter, IsOpening, bunches_of, put, maker, count_of, Info, Place, Birth, blank, Record, put_same, some_same, none_some, put_apart, eqb_apart, Every, In, Distinct}
 use Rattle.bmx_store_laws.proofs.Words.{every_in, every_of, in_contains, found, numbered_above, in_bunches, of_bunches, all_bunches, distinct_bunches, learns, learns_in, distinct, ordered, known_first, anchors, anchors_of, known_told, Setting, Known}
 use Rattle.bmx_store_laws.proofs.Words.{first_known, birth_of, is_anchor, owned_birth, heard_birth, field_of, first_entering, Places, with_made, no_places, with_births, by_bunch, owner_places, told_place, with_told, first_node, nowhere, clashes, world_of}
-use Rattle.bmx_store_laws.proofs.Words.{World, IsCounted}
-use Rattle.bmx_places.specs.Ledger.{Block, AreBlocks, block_at, LiesIn, IsOf, block_of}
-use Rattle.bmx_places.proofs.Blocks.{no_clash, handed_more, none_keeps, r, object_keeps, with_block, Keeps, IsLaterThan, made_blocks, made_keeps, made_or_old, blocks_later, home_made, IsHome}
+use Rattle.bmx_store_laws.proofs.Words.{World, some_or_none, IsCounted}
+use Rattle.bmx_places.specs.Ledger.{Block, AreBlocks, block_at, LiesIn, block_of}
+use Rattle.bmx_places.proofs.Blocks.{Keeps, r, handed_more, IsHome, blocks_later, with_block, no_clash, IsLaterThan, object_keeps, made_or_old, home_made, made_blocks, none_keeps, made_keeps}
 use Rattle.bmx_places.proofs.Kept.{Kept}
-use Rattle.bmx_places.proofs.Outcomes.{AllOf}
+use Rattle.bmx_places.proofs.Outcomes.{AllOf, of_kept}
 
 no_home : IsHome no_places
 no_home = record { opened = λ b s e. none_some e; above = λ s h. refl; within = λ s. omega arith; few = omega arith }
@@ -204,18 +204,15 @@ module _ (st : Setting) (opening : IsOpening st.nodes st.limit st.births) where
   node_home false false = no_home
 
   first_records : (n : ℕ) → AllOf placed.blocks (first_entering st n)
-  first_records n x m r e = by_test (n == 0 && nat_lt 0 m && nat_lt m st.nodes && is_anchor st x) e
-    where
-      by_birth : (b : Option Birth) → birth_of st x ≡ b → option_map (λ (c : Birth). blank x c.bunch m) b ≡ Some r → IsOf placed.blocks x r.bunch
-      by_birth None is f = none_some f
-      by_birth (Some b) is f =
-          let g : In b st.births × (b.name ≡ x) = found st.births x b is in
-          let l : LiesIn placed.blocks (owned.place b.name) b.name (owned_birth b) = lies_there b g.0 in
-          record { address = l.place.address; block = block_at b.name (owned_birth b) l.place; there = l.block; named = g.1; of = ap (λ (q : Record). q.bunch) (some_same f) }
-
-      by_test : (t : Bool) → cond t (option_map (λ (b : Birth). blank x b.bunch m) (birth_of st x)) None ≡ Some r → IsOf placed.blocks x r.bunch
-      by_test true f = by_birth (birth_of st x) refl f
-      by_test false f = none_some f
+  first_records n x m r e =
+      let born : option_map (λ (b : Birth). blank x b.bunch m) (birth_of st x) ≡ Some r = of_kept (n == 0 && nat_lt 0 m && nat_lt m st.nodes && is_anchor st x) _ r e in
+      elim (some_or_none (birth_of st x)) [
+        | inl none ↦ none_some (ap (option_map (λ (b : Birth). blank x b.bunch m)) (sym none) ∙ born)
+        | inr b ↦ (let g : In b.0 st.births × (b.0.name ≡ x) = found st.births x b.0 b.1 in
+            let l : LiesIn placed.blocks (owned.place b.0.name) b.0.name (owned_birth b.0) = lies_there b.0 g.0 in
+            let same : blank x b.0.bunch m ≡ r = some_same (ap (option_map (λ (c : Birth). blank x c.bunch m)) (sym b.1) ∙ born) in
+            record { address = l.place.address; block = block_at b.0.name (owned_birth b.0) l.place; there = l.block; named = g.1; of = ap (λ (q : Record). q.bunch) same })
+      ]
 
   pub first_kept : Kept st [] (first_node st)
   first_kept = record {

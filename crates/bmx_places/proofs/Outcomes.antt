@@ -4,7 +4,7 @@ use Rattle.bmx_store_laws.proofs.Words.{◌≡◌, ℕ, refl, ap, sym, subst, �
 use Rattle.bmx_store_laws.proofs.Words.{is_some, unwrap_or, ◌||◌, slice_set, filter_map, put, put_at, Info, Place, Command, Read, Write, Val, targets, given, Field, Msg, blank, sent_by, got_by, Record, State, target_of, effect, Effect, MakesOne, SetsOne}
 use Rattle.bmx_store_laws.proofs.Words.{Stores, Share, Note, Asks, Grants, Send, Transition, Operation, Acquires, Releases, transition_of, Serves, Owner, is_grant, some_same, none_some, Every, Each, kept_by_each, each_append, Knows, after_changes, Change, Sets}
 use Rattle.bmx_store_laws.proofs.Words.{Hears, after_change, Gets, Gives, Issues, record_of, issued, NodeState, Known, seen_graph, share_of, field_of, Places, Draft, Reaction, message, drafts_of, info_of, told_fields, grant_in, operation_answer}
-use Rattle.bmx_store_laws.proofs.Words.{after_operation, operation_rule, next_name, new_object, graph_changes, token_rule, command_rule, about, stored, told_field, infos, known_change, info_in, Node, numbered, sent_changes, is_nil, made_places, Done}
+use Rattle.bmx_store_laws.proofs.Words.{after_operation, operation_rule, next_name, new_object, graph_changes, token_rule, command_rule, about, stored, told_field, infos, known_change, info_in, Node, numbered, sent_changes, is_nil, made_places}
 use Rattle.bmx_store_laws.proofs.Words.{NodeAnswer, ViewField, some_or_none, some_is, either, put_each, NoGrants, HasNo, FreeOf}
 use Rattle.bmx_store_laws.proofs.Words.command
 use Rattle.bmx_store_laws.proofs.Words.val
@@ -12,7 +12,7 @@ use Rattle.bmx_store_laws.proofs.Words.answer
 use Rattle.bmx_store_laws.proofs.Words.field
 use Rattle.bmx_protocol.specs.Changes.{Makes}
 use Rattle.bmx_places.specs.Ledger.{Block, block_at, LiesIn, IsOf}
-use Rattle.bmx_places.proofs.Blocks.{KeepsOne, r, Keeps, IsFull, IsTold, one_keeps}
+use Rattle.bmx_places.proofs.Blocks.{Keeps, r, IsFull, one_keeps, IsTold, KeepsOne}
 
 -- ## shapes
 
@@ -197,15 +197,15 @@ pub record IsPlain (blocks : ℕ → Option Block) (known : ℕ → Option Known
   pub changes : Each (Plain known) o.changes
   pub drafts : Every (IsDraft blocks known) o.drafts
 
+pub of_kept : {A : Type 0} (b : Bool) (o : Option A) (a : A) → cond b o None ≡ Some a → o ≡ Some a
+of_kept true o a e = e
+of_kept false o a e = none_some e
+
 -- what a transition leaves of what was known is of its shape
 pub known_plain : (known : ℕ → Option Known) (name : ℕ) (k : Known) (fields : Option (List ViewField)) (h : Option Share) → known name ≡ Some k → IsFull fields k.size →
     Each (Plain known) (known_change name (Some k) fields h)
 known_plain known name k fields None is full = tt
-known_plain known name k fields (Some h) is full = ((ap shape is, λ f e. by_copy h.copy f e), tt)
-  where
-    by_copy : (b : Bool) (f : List ViewField) → cond b fields None ≡ Some f → length f ≡ k.size
-    by_copy true f e = full f e
-    by_copy false f e = none_some e
+known_plain known name k fields (Some h) is full = ((ap shape is, λ f e. full f (of_kept h.copy fields f e)), tt)
 
 -- a transition grants only what it has a copy of
 act_grants : (me : ℕ) (a : Operation) (h : Share) (t : Transition) → (h.part.role ≡ Owner → h.copy ≡ true) → transition_of me a h ≡ Some t → Granting t.sends ≡ true → h.copy ≡ true
