@@ -4,9 +4,10 @@
   bench/nodes.py
 
 Puts a small program over bmx_node into a folder of its own and runs it with `rt try`, before any proof and with
-every test of the language in place, so the times tell how they grow, and not how long a built program takes. Two
-nodes share a ring of objects, each of which refers to the next. Both walk round it and write each object in turn, so
-that every token goes there and back by letters.
+every test of the language in place: a built program would have to be proved first. So the times tell how they grow,
+and not how long a built program takes; a line for each store has both, how long its owner takes to open and what a
+step takes. Two nodes share a ring of objects, each of which refers to the next. Both walk round it and write each
+object in turn, so that every token goes there and back by letters.
 """
 import os
 import shutil
