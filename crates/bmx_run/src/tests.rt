@@ -3,6 +3,8 @@ ghost use Rattle.std.specs.Prelude.{◌<◌, ◌^◌};
 
 use crate::run_script;
 use bmx_msg::Msg;
+use bmx_node::Node;
+use bmx_owner::Record;
 use bmx_protocol::{Event, Input, NodeAnswer, Sending};
 use bmx_script::{Script, read_script};
 use bmx_types::Name;
@@ -388,6 +390,77 @@ fn events_and_letters_of_runs(rt: HostRuntime) -> Result<(), Fail> {
     ] {
         let events = events_of(rt.alloc(), case, 0, skipped).ok_or("no memory")?;
         assert_eq!(rt; events.as_str(), lines);
+    }
+    Ok(())
+}
+
+fn record_text(alloc: Global, record: &Record) -> Option<String> {
+    let name = name_text(alloc, record.name)?;
+    let (from, sent, got) = (record.from.get(), record.sent, record.got);
+    format!(in alloc; "{name} from {from}: sent {sent}, got {got}\n").ok()
+}
+
+fn records_text(alloc: Global, records: &[Record]) -> Option<String> {
+    let mut text = String::from_str(alloc, "node\n").ok()?;
+    for record in records {
+        let line = record_text(alloc, record)?;
+        text.push_str(line.as_str()).ok()?;
+    }
+    Some(text)
+}
+
+/// A line for each record of a node.
+fn node_text(alloc: Global, node: &Node) -> Option<String> {
+    match node.view(alloc) {
+        Ok(view) => records_text(alloc, view.records.as_slice()),
+        Err(_) => None,
+    }
+}
+
+fn nodes_text(alloc: Global, nodes: &[Node]) -> Option<String> {
+    let mut text = String::new(alloc);
+    for node in nodes {
+        let lines = node_text(alloc, node)?;
+        text.push_str(lines.as_str()).ok()?;
+    }
+    Some(text)
+}
+
+/// The records of each node at the end of a script's run.
+fn records_of(alloc: Global, case: &Case, seed: u64) -> Option<String> {
+    let script = script_of(alloc, case)?;
+    match run_script(alloc, script, seed, MANY) {
+        Ok((run, _)) => nodes_text(alloc, run.nodes.as_slice()),
+        Err(_) => None,
+    }
+}
+
+// Node 0 gave node 1 the anchor with the first letter, and 0.2 with the first and again with the second.
+#[test]
+fn records_of_two_nodes(rt: HostRuntime) -> Result<(), Fail> {
+    for seed in 0..10 {
+        let records = records_of(rt.alloc(), &ONE_READER, seed).ok_or("no memory")?;
+        assert_eq!(rt;
+            records.as_str(),
+            "node\n0.1 from 1: sent 1, got 0\n0.2 from 1: sent 2, got 0\nnode\n",
+            "seed {seed}"
+        );
+    }
+    Ok(())
+}
+
+fn times(text: &str, words: &str) -> usize {
+    text.split(words).skip(1).count()
+}
+
+// Node 1 and then node 0 become the owner of 0.2, for which the two readers give up their copies.
+#[test]
+fn ownership_moves_twice(rt: HostRuntime) -> Result<(), Fail> {
+    for seed in 0..10 {
+        let events = events_of(rt.alloc(), &TWO_READERS_ONE_WRITER, seed, 0).ok_or("no memory")?;
+        let invals = times(events.as_str(), "Inval 0.2");
+        let grants = times(events.as_str(), "WriteGrant 0.2");
+        assert_eq!(rt; (invals, grants), (2, 2), "seed {seed}");
     }
     Ok(())
 }
