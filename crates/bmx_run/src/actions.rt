@@ -78,6 +78,7 @@ impl Runner {
     }
 
     /// Whether the node may try its next command: it has one, which doesn't wait, or waits and its token is ready.
+    #[inline(always)]
     fn may_try(&self, node: NodeNo) -> bool
         requires at { (p : Point) × IsAt p self.now }
         requires node { node < length self.now.nodes.items }

@@ -25,6 +25,7 @@ const LONGEST_LINE: usize = 96;
 
 impl Runner {
     /// A node does a step, which is the run's next event.
+    #[inline(always)]
     pub(crate) fn event(&mut self, node: NodeNo, input: Input) -> Result<(), NoMemory>
         requires { CanStep self.old node input }
         ensures ok { (st : Setting) → AreNodes st self.old.nodes.items → OnOk result (Steps st self.old node input self.new) }
@@ -46,6 +47,7 @@ impl Runner {
     }
 
     /// The letters of the last event, which a node made, are in flight.
+    #[inline(always)]
     pub(crate) fn post(&mut self, node: NodeNo) -> Result<(), NoMemory>
         requires { 0 < length self.old.history.items }
         ensures ok { OnOk result (Posts self.old node self.new) }
@@ -134,6 +136,7 @@ impl Runner {
 }
 
 /// The letters of an event that a node made come into flight.
+#[inline(always)]
 fn send(
     lanes: &mut Lanes<Position>,
     node: NodeNo,

@@ -7,7 +7,7 @@ ghost use Rattle.bmx_script.specs.Grammar.{AreScript};
 ghost use Rattle.bmx_world.specs.Scripts.{body_of};
 ghost use Rattle.bmx_world.specs.Runs.{IsRunOf, IsEnd};
 ghost use Rattle.bmx_run.specs.Inside.Running.{IsBetween};
-ghost use Rattle.bmx_run.specs.Inside.Phases.{IsRun, IsOpeningOf, Walk, ComesTo, Obeys, Gives};
+ghost use Rattle.bmx_run.specs.Inside.Phases.{IsRun, Walk, ComesTo, Obeys, Gives};
 ghost use Rattle.bmx_script.specs.declared.lines.Line.{Line};
 
 use crate::seats::{Order, Seat};
@@ -15,7 +15,7 @@ use bmx_lanes::Lanes;
 use bmx_node::Node;
 use bmx_protocol::Event;
 use bmx_script::{Line, LineKind, Script};
-use bmx_types::{Items, NoMemory, NodeNo, Opening, Text};
+use bmx_types::{Items, NoMemory, NodeNo, Text};
 use bmx_world::{Run, RunEnd, opening};
 use rand_core::SeedableRng;
 use rand_pcg::Lcg64Xsh32;
@@ -69,8 +69,7 @@ pub fn run_script(
     ensures end { IfOk result (λ r. IsEnd script budget r.0.history r.1) }
     ensures few { IfOk result (λ r. length r.0.history ≤ budget) }
 {
-    let opening = opening(alloc, &script)?;
-    let mut runner = Runner::open(alloc, &opening, seed, budget)?;
+    let mut runner = Runner::open(alloc, &script, seed, budget)?;
     let end = runner.run(script.lines().as_slice());
     look_at(runner.nodes.as_slice());
     let Runner {
@@ -98,16 +97,17 @@ fn look_at(nodes: &[Node])
 }
 
 impl Runner {
-    /// A run with no event: its nodes as they open.
-    fn open(alloc: Global, opening: &Opening, seed: u64, budget: u64) -> Result<Runner, NoMemory>
+    /// A run of a script with no event: its nodes as they open.
+    fn open(alloc: Global, script: &Script, seed: u64, budget: u64) -> Result<Runner, NoMemory>
         requires { budget < 2 ^ 55 }
         ensures budget { IfOk result (λ r. r.budget ≡ budget) }
-        ensures opens { (lines : List Line) → IsOpeningOf lines opening.now → IfOk result (λ r. IsBetween lines seed [] [] (stages (body_of lines)) r) }
+        ensures opens { IfOk result (λ r. IsBetween script.now seed [] [] (stages (body_of script.now)) r) }
     {
+        let opening = opening(alloc, script)?;
         let mut nodes = Vec::new(alloc);
         let mut seats = Vec::new(alloc);
         for number in 0..opening.nodes {
-            nodes.push(Node::open(alloc, node_no(number), opening)?)?;
+            nodes.push(Node::open(alloc, node_no(number), &opening)?)?;
             seats.push(Seat::new(alloc))?;
         }
         Ok(Runner {
@@ -116,7 +116,7 @@ impl Runner {
             seats,
             lanes: Lanes::new(alloc)?,
             generator: Lcg64Xsh32::seed_from_u64(seed),
-            history: Vec::new(alloc),
+            history: no_events(alloc, script.lines().len()),
             text: String::new(alloc),
             budget,
         })
@@ -169,6 +169,17 @@ impl Runner {
             Ok(()) => RunEnd::Ended,
             Err(NoMemory) => RunEnd::NoMemory,
         }
+    }
+}
+
+/// A history of no event, with room for as many as are expected. Where there is no memory for them at once, each
+/// event asks for its own.
+fn no_events(alloc: Global, expected: usize) -> Vec<Event>
+    ensures { result.items ≡ [] }
+{
+    match Vec::with_capacity(alloc, expected) {
+        Ok(history) => history,
+        Err(_) => Vec::new(alloc),
     }
 }
 

@@ -2,7 +2,6 @@
 use Rattle.std.specs.Prelude.{◌≡◌, ℕ, ◌<◌, ◌⊎◌, Bool, List, [], ◌∷◌, ◌++◌, length, slice_get, slice_set, Some, false}
 use Rattle.std.specs.List.{cons_option}
 use Rattle.bmx_types.specs.declared.commands.Command.{Command}
-use Rattle.bmx_types.specs.declared.openings.Opening.{Opening}
 use Rattle.bmx_script.specs.declared.lines.Line.{Line}
 use Rattle.bmx_script.specs.declared.lines.LineKind.TheVariants as line
 use Rattle.bmx_protocol.specs.declared.events.Event.{Event}
@@ -10,7 +9,6 @@ use Rattle.bmx_protocol.specs.Runs.Programs.{Body, Order, stages, program_in, co
 use Rattle.bmx_protocol.specs.Runs.Turns.{IsSerial}
 use Rattle.bmx_turns.specs.Stuck.{IsUnfinished}
 use Rattle.bmx_turns.specs.Inside.Walks.{onto}
-use Rattle.bmx_node.specs.Openings.{setting_of}
 use Rattle.bmx_world.specs.declared.runs.RunEnd.{RunEnd}
 use Rattle.bmx_world.specs.declared.runs.RunEnd.TheVariants as end
 use Rattle.bmx_world.specs.Scripts.{body_line, body_of, setting_of_script}
@@ -91,10 +89,6 @@ AfterPhase p end.Spent r = IsSpentThere p r
 AfterPhase p end.NoMemory r = IsLeft p r
 
 -- ## all of them
-
--- an opening is that of a script
-pub record IsOpeningOf (lines : List Line) (o : Opening) : Type 0 where
-  pub is : setting_of o ≡ setting_of_script lines
 
 -- a command was added to its node's program
 pub record IsGivenTo (old : Runner) (order : Order) (new : Runner) : Type 0 where

@@ -8,7 +8,7 @@ use Rattle.bmx_run.proofs.runner.run_script.Goals as goal
 pub returns-clause-run : goal.returns-clause-run
 returns-clause-run c =
     let lines = c.args.script in
-    let opened = c.in_ok-runner.ensures.opens lines (record { is = c.in_ok-opening.ensures }) in
+    let opened = c.in_ok-runner.ensures.opens in
     let shown : c.as_slice.result.now ≡ lines = c.as_slice.ensures ∙ c.lines.ensures.lines in
     run_of lines c.args.seed c.in_ok-runner.runner.budget c.run-end.result c.run-end.new.self _
     (run_shown c.as_slice.result.now lines c.args.seed c.in_ok-runner.runner.budget c.run-end.result c.in_ok-runner.runner c.run-end.new.self shown c.run-end.ensures.ends opened)
@@ -18,7 +18,7 @@ returns-clause-run c =
 pub returns-clause-few : goal.returns-clause-few
 returns-clause-few c =
     let lines = c.args.script in
-    let opened = c.in_ok-runner.ensures.opens lines (record { is = c.in_ok-opening.ensures }) in
+    let opened = c.in_ok-runner.ensures.opens in
     let shown : c.as_slice.result.now ≡ lines = c.as_slice.ensures ∙ c.lines.ensures.lines in
     run_few lines c.args.seed c.in_ok-runner.runner.budget c.args.budget c.run-end.result c.run-end.new.self _
     (run_shown c.as_slice.result.now lines c.args.seed c.in_ok-runner.runner.budget c.run-end.result c.in_ok-runner.runner c.run-end.new.self shown c.run-end.ensures.ends opened)

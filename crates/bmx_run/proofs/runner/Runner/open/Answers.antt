@@ -8,7 +8,7 @@ use Rattle.bmx_run.proofs.runner.Runner.open.Goals as goal
 
 pub loop-number-preserved : goal.loop-number-preserved
 loop-number-preserved c =
-    let st = setting_of c.args.opening.now in
+    let st = setting_of c.in_ok-opening.opening in
     let n = c.loop-number.number in
     let nodes = c.loop-number.nodes.items in
     let seats = c.loop-number.seats.items in
@@ -24,9 +24,9 @@ loop-number-preserved c =
     (fresh_more st n nodes seats c.in_ok-open.field-0 c.new.result c.loop-number.invariant fresh bare))
 
 pub returns-clause-opens : goal.returns-clause-opens
-returns-clause-opens c = λ lines is.
-    let st = setting_of c.args.opening.now in
-    let all : c.loop-number.number ≡ c.args.opening.now.nodes = omega (arith, c.loop-number.auto.number-end, c.loop-number-test.false) in
-    begins lines c.args.seed st _ is.is c.args.opening.now.opened
+returns-clause-opens c =
+    let st = setting_of c.in_ok-opening.opening in
+    let all : c.loop-number.number ≡ c.in_ok-opening.opening.nodes = omega (arith, c.loop-number.auto.number-end, c.loop-number-test.false) in
+    begins c.args.script.now c.args.seed st _ c.in_ok-opening.ensures c.in_ok-opening.opening.opened
     (subst (λ k. AreFresh st k c.loop-number.nodes.items c.loop-number.seats.items) all c.loop-number.invariant)
-    c.in_ok-new.ensures c.seed_from_u64.ensures c.new-3.ensures.items c.new-4.ensures.bytes c.requires
+    c.in_ok-new.ensures c.seed_from_u64.ensures c.no_events.ensures c.new-3.ensures.bytes c.requires
