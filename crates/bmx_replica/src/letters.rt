@@ -122,9 +122,9 @@ fn clears(other: &Info, info: &Info) -> bool
 
 impl Replica {
     /// Whether learning the Infos of a message one after another, the granted object's first and then
-    /// those of its fields in order, would clash. It takes no memory and changes nothing. Each Info is
-    /// looked up once; one that brings a place is compared with those before it besides, and one of those
-    /// whose place meets that is looked up again.
+    /// those of its fields in order, would clash. It takes no memory and changes nothing. A name is looked
+    /// up only where its object isn't where the Info says; an Info that brings a place is compared with those
+    /// before it besides.
     pub fn clashes(&self, msg: &Msg) -> bool
         requires { All (λ (i : InfoOf). i.size ≤ 32) (infos_in msg.now) }
         ensures { (result ≡ false) ↔ CanLearn (sketch_of self.now) (infos_in msg.now) }
@@ -159,7 +159,7 @@ impl Replica {
         requires { info.now.size ≤ 32 }
         ensures { IsTrue result ↔ Accepts self.now.heap info.now (entry_of self.now info.now.name) }
     {
-        match told(info, &self.info(info.name)) {
+        match told(info, &self.known_of(info)) {
             News::Clash => false,
             News::Old => true,
             News::New => self.can_lie(info),
@@ -172,7 +172,7 @@ impl Replica {
         requires learned { CanLearn (sketch_of self.now) (infos_told object.now fields.now) }
         ensures { let s = after (sketch_of self.now) (infos_told object.now fields.now) in IsTrue result ↔ AcceptsOn s.ground info.now (s.entry info.now.name) }
     {
-        let known = self.info(info.name);
+        let known = self.known_of(info);
         if let News::Old = told(info, &known) {
             return true;
         }
@@ -193,7 +193,7 @@ impl Replica {
         if !self.can_lie(info) {
             return false;
         }
-        if !clears(object, info) && brings_place(object, self.info(object.name)) {
+        if !clears(object, info) && brings_place(object, self.known_of(object)) {
             return false;
         }
         for (place, field) in fields.iter().enumerate() {
@@ -210,7 +210,7 @@ impl Replica {
     fn brings_after(&self, object: &Info, fields: &[Field], info: &Info) -> bool
         ensures { result ≡ is_newer info.now ((after (sketch_of self.now) (infos_told object.now fields.now)).entry info.now.name) }
     {
-        let known = known_after(self.info(info.name), info.name, object, fields);
+        let known = known_after(self.known_of(info), info.name, object, fields);
         brings_place(info, known)
     }
 }

@@ -1,14 +1,17 @@
 //! Objects as they are found by words, and values with their words: what a program's command on a register
 //! needs, without a look-up by name.
-ghost use Rattle.std.specs.Prelude.{◌≡◌, ℕ, ◌<◌, ◌↔◌, None, IsTrue, IsSome, IfSome, IfNone, is_some, nat_lt};
+ghost use Rattle.std.specs.Prelude.{◌≡◌, ℕ, ◌<◌, ◌↔◌, true, None, IsTrue, IsSome, IfSome, IfNone, is_some, nat_lt};
 ghost use Rattle.std.specs.Option.{option_map};
 ghost use Rattle.bmx_segment.specs.Headers.{kind_number};
-ghost use Rattle.bmx_replica.specs.Chains.{Means, name_at};
-ghost use Rattle.bmx_replica.specs.Replicas.{entry_of, info_in, copy_of, field_of, value_in, target_in, HasTarget, IsField, IsReplica, StandsAt, IsHolding, WritesField};
+ghost use Rattle.bmx_replica.specs.Chains.{Means, name_at, is_live};
+ghost use Rattle.bmx_replica.specs.Replicas.{entry_of, info_in, copy_of, field_of, value_in, word_in, target_in, HasTarget, IsField, IsReplica, StandsAt, IsHolding, WritesField};
+ghost use Rattle.bmx_replica.specs.Letters.{value_told};
 
 use crate::layout::kind_in;
+use crate::letters::value_told;
 use crate::replica::{Found, Replica};
 use crate::words::Word;
+use bmx_msg::Field;
 use bmx_segment::{Header, Kind, State};
 use bmx_types::{Address, Info, Name, Place, Val};
 
@@ -50,6 +53,52 @@ impl Replica {
         }
         let address = slot.address;
         Some(Object { address, header })
+    }
+
+    /// The object of an Info's name where it stands, None where the name has no entry. The name is looked up
+    /// only where its object isn't where the Info says.
+    pub(crate) fn object_told(&self, info: &Info) -> Option<Object>
+        ensures stands { IfSome result (λ o. StandsAt self.now o) }
+        ensures named { IfSome result (λ o. o.header.name ≡ info.now.name) }
+        ensures some { is_some result ≡ is_some (entry_of self.now info.now.name) }
+        ensures replica { IsReplica self.now.slots self.now.heap.blocks }
+    {
+        let segments = &self.segments;
+        let address = info.place.address;
+        match segments.header(address) {
+            Some(header) if is_live_of(&header, info.name) => Some(Object { address, header }),
+            _ => self.object(info.name),
+        }
+    }
+
+    /// What the node knows of the object of an Info's name, None where the name has no entry.
+    pub(crate) fn known_of(&self, info: &Info) -> Option<Info>
+        ensures { result ≡ option_map (info_in info.now.name) (entry_of self.now info.now.name) }
+    {
+        match self.object_told(info) {
+            Some(object) => Some(self.info_at(&object)),
+            None => None,
+        }
+    }
+
+    /// The word that holds what a field of a letter tells.
+    pub(crate) fn word_told(&self, field: &Field) -> Word
+        requires { HasTarget self.now (value_told field.now) }
+        ensures word { result ≡ word_in self.now (value_told field.now) }
+        ensures field { IsField self.now.heap.blocks (kind_number result.kind) result.word }
+        ensures holds { value_in self.now.heap.blocks (kind_number result.kind) result.word ≡ value_told field.now }
+    {
+        match field {
+            Field::Ref(info) => {
+                let Some(object) = self.object_told(info) else {
+                    unreachable!()
+                };
+                let kind = Kind::Ref;
+                let word = object.address.word();
+                Word { kind, word }
+            }
+            _ => self.word(value_told(field)),
+        }
     }
 
     /// Whether the name of an object has a copy. It is looked up only where all fields are null.
@@ -217,5 +266,15 @@ impl Replica {
     {
         let Word { kind, word } = held.word;
         self.segments.set_word(object.address, i, kind, word);
+    }
+}
+
+/// Whether a header is that of the name's object.
+fn is_live_of(header: &Header, name: Name) -> bool
+    ensures live { IsTrue result → (is_live header.now.state ≡ true) × (header.now.name ≡ name) }
+{
+    match header.state {
+        State::Live { .. } => header.name == name,
+        _ => false,
     }
 }

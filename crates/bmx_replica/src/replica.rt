@@ -13,12 +13,11 @@ ghost use Rattle.bmx_replica.specs.Layouts.{Moves, CanLie, blank_header, kinds_o
 ghost use Rattle.bmx_replica.specs.Replicas.{entry_of, info_in, copy_of, field_of, value_in, word_in, IsCurrent, HasTargets, CanMove, Accepts, Same, HasTarget, IsField, IsReplica, ReachesTarget, WritesField, ClearsCopy, MakesObject, Learns, MovesObject, Forgets, Repoints, Installs};
 ghost use Rattle.bmx_replica.specs.Inside.Slots.{PutsSlot};
 ghost use Rattle.bmx_replica.specs.Inside.Layouts.{Readies};
-ghost use Rattle.bmx_replica.specs.Inside.Replicas.{IsFound, OthersStay, AreHeld};
+ghost use Rattle.bmx_replica.specs.Inside.Replicas.{IsFound, OthersStay, AreHeld, Tells};
 ghost use Rattle.bmx_replica.specs.Letters.{values_told};
 
 use crate::directory::{Directory, Slot};
 use crate::layout::{FIELDS, NO_WORDS, field_words, kind_bits, kind_in};
-use crate::letters::value_told;
 use crate::words::Word;
 use bmx_msg::{Field, Fields};
 use bmx_segment::{Clash, HEADER_WORDS, Header, Kind, PlaceError, SEGMENT_WORDS, Segments, State};
@@ -439,7 +438,7 @@ impl Replica {
         let mut kinds = 0;
         let mut words = NO_WORDS;
         for (i, field) in fields.iter().enumerate() {
-            let Word { kind, word } = self.word(value_told(field));
+            let Word { kind, word } = self.word_told(field);
             kinds += kind_bits(kind, i);
             words[i] = word;
         }
@@ -534,6 +533,9 @@ impl Replica {
         ensures err { OnErr result (Same self.old self.new) }
         ensures free { 0 < self.old.spare → ¬ IsErrOf result out_of_memory }
     {
+        if self.knows(info) {
+            return Ok(false);
+        }
         match self.find(info.name) {
             Some(found) => match self.learn_again(info, &found) {
                 Ok(()) => Ok(false),
@@ -543,6 +545,17 @@ impl Replica {
                 Ok(()) => Ok(true),
                 Err(why) => Err(why),
             },
+        }
+    }
+
+    /// Whether an Info tells nothing new of an object that stands where it says. It looks nothing up.
+    fn knows(&self, info: &Info) -> bool
+        ensures learned { IsTrue result → Learns self.now self.now info.now }
+        ensures known { IsTrue result → is_some (entry_of self.now info.now.name) ≡ true }
+    {
+        match self.segments.header(info.place.address) {
+            Some(header) => tells(&header, info),
+            None => false,
         }
     }
 
@@ -633,6 +646,19 @@ impl Replica {
             unreachable!()
         };
     }
+}
+
+/// Whether a header is that of an Info's object, moved no less often than the Info says.
+fn tells(header: &Header, info: &Info) -> bool
+    ensures { IsTrue result → Tells header.now info.now }
+{
+    let State::Live { moves, .. } = header.state else {
+        return false;
+    };
+    header.name == info.name
+        && header.bunch == info.bunch
+        && header.size == info.size
+        && info.place.moves <= moves
 }
 
 /// Looks at a header, for what all headers keep: no two share a word.

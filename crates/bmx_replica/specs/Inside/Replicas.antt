@@ -1,6 +1,8 @@
 -- Where a name's object is found.
-use Rattle.std.specs.Prelude.{◌≡◌, ℕ, ◌+◌, true, List, Some, IsSome, slice_get, slice_index}
+use Rattle.std.specs.Prelude.{◌≡◌, ℕ, ◌+◌, ◌≤◌, true, List, Some, IsSome, slice_get, slice_index}
 use Rattle.bmx_types.specs.declared.values.Val.{Val}
+use Rattle.bmx_types.specs.declared.addresses.Info.{Info}
+use Rattle.bmx_replica.specs.Layouts.{moves_in}
 use Rattle.bmx_segment.specs.Headers.{header_words, kind_number}
 use Rattle.bmx_segment.specs.Blocks.{Block}
 use Rattle.bmx_segment.specs.Stores.{header_at, word_at}
@@ -16,6 +18,14 @@ pub record IsFound (slots : List (ℕ × Slot)) (blocks : List Block) (name : �
   pub there : header_at blocks s.address ≡ Some h
   pub live : is_live h.state ≡ true
   pub named : h.name ≡ name
+
+-- a header is that of an Info's object, moved no less often than the Info says
+pub record Tells (h : Header) (i : Info) : Type 0 where
+  pub live : is_live h.state ≡ true
+  pub named : h.name ≡ i.name
+  pub bunch : h.bunch ≡ i.bunch
+  pub size : h.size ≡ i.size
+  pub old : i.place.moves ≤ moves_in h.state
 
 -- no word of another field of a copy changes
 abbrev pub OthersStay : Holding → Holding → ℕ → ℕ → Type 0

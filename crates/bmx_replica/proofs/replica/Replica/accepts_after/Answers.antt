@@ -16,7 +16,7 @@ returns-in-Old c =
     let i : Info = c.args.info.now in
     let s : Sketch = sketch_of c.args.self.now in
     let is : List Info = infos_told c.args.object.now c.args.fields.now in
-    let old : told_beside i (option_map (info_in i.name) (s.entry i.name)) ≡ Old = ap (told_beside i) (sym c.info-known.ensures) ∙ sym c.in-Old.ensures in
+    let old : told_beside i (option_map (info_in i.name) (s.entry i.name)) ≡ Old = ap (told_beside i) (sym c.known_of-known.ensures) ∙ sym c.in-Old.ensures in
     (λ t. AcceptsOn-old s i is old, λ a. refl)
 
 pub returns-in-Clash : goal.returns-in-Clash
@@ -26,7 +26,7 @@ returns-in-Clash c =
     let is : List Info = infos_told c.args.object.now c.args.fields.now in
     let e : Option Entry = (after s is).entry i.name in
     let same : told_beside i (option_map (info_in i.name) e) ≡ Clash =
-    ap (told_beside i) (known_after-is s i.name is ∙ ap (λ o. known_after o i.name is) (sym c.info-known.ensures) ∙ sym c.known_after.ensures) ∙ sym c.in-Clash.ensures in
+    ap (told_beside i) (known_after-is s i.name is ∙ ap (λ o. known_after o i.name is) (sym c.known_of-known.ensures) ∙ sym c.known_after.ensures) ∙ sym c.in-Clash.ensures in
     let A : News → Type 0 = λ n. Admits n (LiesOn (after s is).ground i.place.address i.name i.size) in
     let told = AcceptsOn-told (after s is).ground i i.name e in
     (λ t. absurd (false≢true t), λ a. absurd (subst A same (told.0 a)))
@@ -38,7 +38,7 @@ returns-in-Old-told c =
     let is : List Info = infos_told c.args.object.now c.args.fields.now in
     let e : Option Entry = (after s is).entry i.name in
     let same : told_beside i (option_map (info_in i.name) e) ≡ Old =
-    ap (told_beside i) (known_after-is s i.name is ∙ ap (λ o. known_after o i.name is) (sym c.info-known.ensures) ∙ sym c.known_after.ensures) ∙ sym c.in-Old-told.ensures in
+    ap (told_beside i) (known_after-is s i.name is ∙ ap (λ o. known_after o i.name is) (sym c.known_of-known.ensures) ∙ sym c.known_after.ensures) ∙ sym c.in-Old-told.ensures in
     let A : News → Type 0 = λ n. Admits n (LiesOn (after s is).ground i.place.address i.name i.size) in
     let told = AcceptsOn-told (after s is).ground i i.name e in
     (λ t. told.1 (subst A (sym same) tt), λ a. refl)
@@ -50,7 +50,7 @@ returns-in-New c =
     let is : List Info = infos_told c.args.object.now c.args.fields.now in
     let e : Option Entry = (after s is).entry i.name in
     let same : told_beside i (option_map (info_in i.name) e) ≡ New =
-    ap (told_beside i) (known_after-is s i.name is ∙ ap (λ o. known_after o i.name is) (sym c.info-known.ensures) ∙ sym c.known_after.ensures) ∙ sym c.in-New.ensures in
+    ap (told_beside i) (known_after-is s i.name is ∙ ap (λ o. known_after o i.name is) (sym c.known_of-known.ensures) ∙ sym c.known_after.ensures) ∙ sym c.in-New.ensures in
     let A : News → Type 0 = λ n. Admits n (LiesOn (after s is).ground i.place.address i.name i.size) in
     let told = AcceptsOn-told (after s is).ground i i.name e in
     (λ t. told.1 (subst A (sym same) (c.lies_after.ensures.0 t)), λ a. c.lies_after.ensures.1 (subst A same (told.0 a)))

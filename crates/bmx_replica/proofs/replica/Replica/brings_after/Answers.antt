@@ -11,5 +11,5 @@ returns c =
     let s : Sketch = sketch_of c.args.self.now in
     let is : List Info = infos_told c.args.object.now c.args.fields.now in
     c.brings_place.ensures
-    ∙ ap (brings_place i) (c.known_after-known.ensures ∙ ap (λ (o : Option Info). known_after o i.name is) c.info.ensures ∙ sym (known_after-is s i.name is))
+    ∙ ap (brings_place i) (c.known_after-known.ensures ∙ ap (λ (o : Option Info). known_after o i.name is) c.known_of.ensures ∙ sym (known_after-is s i.name is))
     ∙ sym (brings_place-is i i.name ((after s is).entry i.name))

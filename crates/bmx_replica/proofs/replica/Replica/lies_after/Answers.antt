@@ -23,7 +23,7 @@ returns-then-brings_place c =
     let i : Info = c.args.info.now in
     let j : Info = c.args.object.now in
     let s : Sketch = sketch_of c.args.self.now in
-    let new : is_newer j (s.entry j.name) ≡ true = brings_place-is j j.name (s.entry j.name) ∙ ap (brings_place j) (sym c.info.ensures) ∙ sym c.brings_place.ensures ∙ c.if-brings_place.true in (
+    let new : is_newer j (s.entry j.name) ≡ true = brings_place-is j j.name (s.entry j.name) ∙ ap (brings_place j) (sym c.known_of.ensures) ∙ sym c.brings_place.ensures ∙ c.if-brings_place.true in (
       λ t. absurd (false≢true t),
       λ l. absurd (false≢true (sym c.if-not-clears.true ∙ c.clears.ensures.clears.1 (Clears-learned s j c.requires.learned.0 i c.clears.ensures.range new (LiesOn-first _ _ i.place.address i.name i.size c.requires.learned.1 l)))),
     )
@@ -38,7 +38,7 @@ loop-place-init c =
     (λ new.
     elim c.else-not-clears.branch [
       | else-not-clears-via-then-not-clears+else-brings_place w ↦
-          absurd (false≢true (sym (brings_place-is j j.name (s.entry j.name) ∙ ap (brings_place j) (sym w.info.ensures) ∙ sym w.brings_place.ensures ∙ w.if-brings_place.false) ∙ new))
+          absurd (false≢true (sym (brings_place-is j j.name (s.entry j.name) ∙ ap (brings_place j) (sym w.known_of.ensures) ∙ sym w.brings_place.ensures ∙ w.if-brings_place.false) ∙ new))
       | else-not-clears-via-else-not-clears w ↦ c.clears.ensures.clears.0 w.if-not-clears.false
     ])
     lies

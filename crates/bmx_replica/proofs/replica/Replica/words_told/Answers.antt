@@ -21,17 +21,17 @@ held_by r v w word field holds =
       value = ap (λ k. value_in r.heap.blocks k w.word) (sym kind) ∙ holds;
     }
 
-pub word-kind-requires : goal.word-kind-requires
-word-kind-requires c =
+pub word_told-kind-requires : goal.word_told-kind-requires
+word_told-kind-requires c =
     let r : Holding = c.args.self.now in
     let P : Val → Type 0 = λ v. HasTarget r v in
-    subst P (sym c.value_told.ensures) (All-mapped P value_told c.args.fields.now c.loop-i.i c.index-fields-i.result c.loop-i-test.true c.index-fields-i.is c.requires.targets)
+    (All-mapped P value_told c.args.fields.now c.loop-i.i c.index-fields-i.result c.loop-i-test.true c.index-fields-i.is c.requires.targets)
 
 pub overflow_add-kinds : goal.overflow_add-kinds
 overflow_add-kinds c =
     let r : Holding = c.args.self.now in
-    let word : c.word-kind.result ≡ word_in r (value_told c.index-fields-i.result) = c.word-kind.ensures.word ∙ ap (word_in r) c.value_told.ensures in
-    let sum = kinds_more r c.args.fields.now c.loop-i.i c.index-fields-i.result c.loop-i.kinds c.kind_bits-kinds.result c.word-kind.result c.loop-i-test.true c.index-fields-i.is c.loop-i.invariant.kinds word c.kind_bits-kinds.ensures in
+    let word : c.word_told-kind.result ≡ word_in r (value_told c.index-fields-i.result) = c.word_told-kind.ensures.word in
+    let sum = kinds_more r c.args.fields.now c.loop-i.i c.index-fields-i.result c.loop-i.kinds c.kind_bits-kinds.result c.word_told-kind.result c.loop-i-test.true c.index-fields-i.is c.loop-i.invariant.kinds word c.kind_bits-kinds.ensures in
     let fit = kinds_fit r c.args.fields.now c.loop-i.i c.loop-i-test.true c.requires.few in
     omega arith
 
@@ -41,8 +41,8 @@ loop-i-preserved c =
     let fields : List Field = c.args.fields.now in
     let i : ℕ = c.loop-i.i in
     let f : Field = c.index-fields-i.result in
-    let w : Word = c.word-kind.result in
-    let word : w ≡ word_in r (value_told f) = c.word-kind.ensures.word ∙ ap (word_in r) c.value_told.ensures in
+    let w : Word = c.word_told-kind.result in
+    let word : w ≡ word_in r (value_told f) = c.word_told-kind.ensures.word in
     record {
       all = length-set c.loop-i.words i w.word ∙ c.loop-i.invariant.all;
       kinds = kinds_more r fields i f c.loop-i.kinds c.kind_bits-kinds.result w c.loop-i-test.true c.index-fields-i.is c.loop-i.invariant.kinds word c.kind_bits-kinds.ensures;
@@ -50,7 +50,7 @@ loop-i-preserved c =
           elim (cases_eq j i) [
             | inl at ↦
                 let is : value_told f ≡ v = get_mapped value_told fields j f v (omega arith) (c.index-fields-i.is ∙ ap (λ n. get_or fields n f) (sym at)) e in
-                let one : IsHeld r (value_told f) w.word = held_by r (value_told f) w word c.word-kind.ensures.field (c.word-kind.ensures.holds ∙ c.value_told.ensures) in
+                let one : IsHeld r (value_told f) w.word = held_by r (value_told f) w word c.word_told-kind.ensures.field c.word_told-kind.ensures.holds in
                 let same : slice_index (set c.loop-i.words i w.word) j ≡ w.word = ap (slice_index (set c.loop-i.words i w.word)) at ∙ get_or-set_same c.loop-i.words i w.word 0 (omega (arith, c.loop-i.invariant.all)) in
                 subst (λ (n : ℕ). IsHeld r v n) (sym same) (subst (λ u. IsHeld r u w.word) is one)
             | inr off ↦ subst (λ (n : ℕ). IsHeld r v n) (sym (get_or-set_other c.loop-i.words i j w.word 0 off)) (c.loop-i.invariant.held j v (omega arith) e)
