@@ -15,6 +15,7 @@ ghost use Rattle.bmx_node.specs.Inside.Reacting.{Reacts, letter_on, request_msg,
 ghost use Rattle.bmx_node.specs.Inside.Taking.{CanTake, IsNext, Took};
 ghost use Rattle.bmx_node.specs.Inside.Hearing.{CanHear, Rooms, KeepsBut, OnlyRoom};
 ghost use Rattle.bmx_types.specs.declared.numbers.Mode.{Mode};
+ghost use Rattle.bmx_types.specs.declared.numbers.Mode.TheVariants as mode_is;
 ghost use Rattle.bmx_token.specs.declared.answers.Requested.TheVariants as requested_is;
 ghost use Rattle.bmx_token.specs.declared.answers.Revoked.TheVariants as revoked_is;
 ghost use Rattle.bmx_token.specs.Tokens.{request, inval, granted};
@@ -160,22 +161,22 @@ impl Holdings {
         ensures frame { Frame self.old self.new }
     {
         let names = names_brought(fields.as_slice())?;
-        self.make_room(names)?;
+        self.make_room(names, records_brought(mode))?;
         let _taken = self.tokens.granted(info.name, taking.from, mode)?;
         self.bring(taking.from, info, fields);
         note_grant(&mut self.mail, taking, mode, info);
         Ok(self.tell(NodeAnswer::Nil))
     }
 
-    /// Makes room to hear of so many names, and for one record.
-    fn make_room(&mut self, names: u32) -> Result<(), NoMemory>
+    /// Makes room to hear of so many names, and for so many records.
+    fn make_room(&mut self, names: u32, records: u32) -> Result<(), NoMemory>
         ensures rooms { OnOk result (Rooms self.new names) }
-        ensures record { OnOk result (1 ≤ self.new.mail.spare) }
+        ensures records { OnOk result (records ≤ self.new.mail.spare) }
         ensures rest { OnlyRoom self.old self.new }
     {
         self.memory.reserve(names)?;
         self.tokens.reserve(names as usize)?;
-        self.mail.reserve(1)
+        self.mail.reserve(records)
     }
 
     /// Hears of the objects that a grant tells of, and has the copy that it brings. Takes no memory. Linear in
@@ -279,9 +280,19 @@ fn letters_to_recall(part: &Part, copy: bool) -> usize
     1
 }
 
+/// For how many records a grant needs room: for one where it hands the object over.
+fn records_brought(mode: Mode) -> u32
+    ensures { mode ≡ mode_is.Write → result ≡ 1 }
+{
+    match mode {
+        Mode::Read => 0,
+        Mode::Write => 1,
+    }
+}
+
 /// Counts the letter that brought a grant, and notes who handed the object over, where it does.
 fn note_grant(mail: &mut Mail, taking: Taking, mode: Mode, info: &Info)
-    requires room { 0 < mail.old.spare }
+    requires room { mode ≡ mode_is.Write → 0 < mail.old.spare }
     requires count { taken_of mail.old taking.from + 1 < 2 ^ 64 }
     ensures { Tracks mail.old mail.new (got_change taking.from taking.seq info.now.name (Grants mode) ++ Takes taking.from ∷ []) (KnowsBunch info.now.name info.now.bunch) }
 {

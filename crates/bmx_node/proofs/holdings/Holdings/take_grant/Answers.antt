@@ -90,10 +90,10 @@ bring-requires-clause-rooms c =
     (rooms_for r c.in_ok-names.names fields c.as_slice.result.now c.as_slice.ensures c.in_ok-names.ensures c.in_ok-make_room.ensures.rooms)
 
 pub note_grant-requires-clause-room : goal.note_grant-requires-clause-room
-note_grant-requires-clause-room c =
-    let there : 1 ≤ c.make_room.new.self.mail.spare = c.in_ok-make_room.ensures.record in
-    let has : 1 ≤ c.bring.new.self.mail.spare = subst (λ (m : MailState). 1 ≤ m.spare) (sym c.bring.ensures.mail) there in
-    omega (arith, has)
+note_grant-requires-clause-room c = λ write.
+    let records : c.records_brought.result ≡ 1 = c.records_brought.ensures write in
+    let has : c.records_brought.result ≤ c.bring.new.self.mail.spare = subst (λ (m : MailState). c.records_brought.result ≤ m.spare) (sym c.bring.ensures.mail) c.in_ok-make_room.ensures.records in
+    omega (arith, records, has)
 
 pub note_grant-requires-clause-count : goal.note_grant-requires-clause-count
 note_grant-requires-clause-count c =
