@@ -35,6 +35,7 @@ enum News {
 }
 
 /// What an Info tells beside what is known of its object.
+#[inline(always)]
 fn told(info: &Info, known: &Option<Info>) -> News
     ensures { result ≡ told_beside info.now known.now }
 {

@@ -57,6 +57,7 @@ impl Replica {
 
     /// The object of an Info's name where it stands, None where the name has no entry. The name is looked up
     /// only where its object isn't where the Info says.
+    #[inline(always)]
     pub(crate) fn object_told(&self, info: &Info) -> Option<Object>
         ensures stands { IfSome result (λ o. StandsAt self.now o) }
         ensures named { IfSome result (λ o. o.header.name ≡ info.now.name) }
@@ -72,6 +73,7 @@ impl Replica {
     }
 
     /// What the node knows of the object of an Info's name, None where the name has no entry.
+    #[inline(always)]
     pub(crate) fn known_of(&self, info: &Info) -> Option<Info>
         ensures { result ≡ option_map (info_in info.now.name) (entry_of self.now info.now.name) }
     {
@@ -82,6 +84,7 @@ impl Replica {
     }
 
     /// The word that holds what a field of a letter tells.
+    #[inline(always)]
     pub(crate) fn word_told(&self, field: &Field) -> Word
         requires { HasTarget self.now (value_told field.now) }
         ensures word { result ≡ word_in self.now (value_told field.now) }

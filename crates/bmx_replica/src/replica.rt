@@ -549,6 +549,7 @@ impl Replica {
     }
 
     /// Whether an Info tells nothing new of an object that stands where it says. It looks nothing up.
+    #[inline(always)]
     fn knows(&self, info: &Info) -> bool
         ensures learned { IsTrue result → Learns self.now self.now info.now }
         ensures known { IsTrue result → is_some (entry_of self.now info.now.name) ≡ true }
@@ -649,6 +650,7 @@ impl Replica {
 }
 
 /// Whether a header is that of an Info's object, moved no less often than the Info says.
+#[inline(always)]
 fn tells(header: &Header, info: &Info) -> bool
     ensures { IsTrue result → Tells header.now info.now }
 {
