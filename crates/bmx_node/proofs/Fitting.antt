@@ -10,7 +10,8 @@ use Rattle.bmx_token.specs.declared.parts.Role.{Role}
 use Rattle.bmx_token.specs.declared.parts.Role.TheVariants.{Owner, Parent}
 use Rattle.bmx_token.specs.Tokens.{owner_part, child_part, take_wanted, want_read, want_write, acquire_by, acquire, release_by, release, is_write, revoke, serve_alone, serve_write, serve_head, serve_by, serve, request_by, request, granted_by, granted, inval_by, inval, ack_by, ack}
 use Rattle.bmx_types.specs.declared.numbers.Mode.TheVariants.{Read, Write}
-use Rattle.bmx_node.specs.Inside.Keeping.{IsFit}
+use Rattle.bmx_node.specs.Inside.Keeping.{IsFair, IsFit}
+use Rattle.bmx_token.proofs.Order.{keeps_order}
 use Rattle.bmx_token.specs.declared.answers.Served.{Served}
 use Rattle.bmx_token.specs.declared.answers.Served.TheVariants as served_is
 use Rattle.bmx_token.specs.declared.answers.Requested.{Requested}
@@ -38,151 +39,180 @@ or_true : (b : Bool) → (b || true) ≡ true
 or_true true = refl
 or_true false = refl
 
-pub fit_owner : IsFit owner_part
-fit_owner = record { wants = λ h. refl; owes = λ h. absurd (false≢true h); owner = λ e. refl }
+fair_owner : IsFair owner_part
+fair_owner = record { wants = λ h. refl; owes = λ h. absurd (false≢true h); owner = λ e. refl }
 
-pub fit_child : (parent : ℕ) → IsFit (child_part parent)
-fit_child parent = record { wants = λ h. refl; owes = λ h. absurd (false≢true h); owner = λ e. refl }
+fair_child : (parent : ℕ) → IsFair (child_part parent)
+fair_child parent = record { wants = λ h. refl; owes = λ h. absurd (false≢true h); owner = λ e. refl }
 
 -- the token is held
-fit_held : (p : Part) (m : Mode) → IsFit p → p.want ≡ None → IsFit (record p { held = Some m })
-fit_held p m fit none = record { wants = λ h. none; owes = λ h. refl; owner = fit.owner }
+fair_held : (p : Part) (m : Mode) → IsFair p → p.want ≡ None → IsFair (record p { held = Some m })
+fair_held p m fair none = record { wants = λ h. none; owes = λ h. refl; owner = fair.owner }
 
 -- it is wanted
-fit_wanted : (p : Part) (m : Mode) → IsFit p → p.held ≡ None → IsFit (record p { want = Some m })
-fit_wanted p m fit none = record { wants = λ h. absurd (none_held p.held none h); owes = fit.owes; owner = fit.owner }
+fair_wanted : (p : Part) (m : Mode) → IsFair p → p.held ≡ None → IsFair (record p { want = Some m })
+fair_wanted p m fair none = record { wants = λ h. absurd (none_held p.held none h); owes = fair.owes; owner = fair.owner }
 
 -- the lists change
-fit_lists : (p : Part) (readers waiting : List ℕ) (queue : List Ask) → IsFit p → IsFit (record p { readers = readers; queue = queue; waiting = waiting })
-fit_lists p readers waiting queue fit = record { wants = fit.wants; owes = fit.owes; owner = fit.owner }
+fair_lists : (p : Part) (readers waiting : List ℕ) (queue : List Ask) → IsFair p → IsFair (record p { readers = readers; queue = queue; waiting = waiting })
+fair_lists p readers waiting queue fair = record { wants = fair.wants; owes = fair.owes; owner = fair.owner }
 
-fit_taken : (p : Part) (m : Mode) (ready : Bool) → IsFit p → IsFit (take_wanted p m ready).0
-fit_taken p m true fit = record { wants = λ h. refl; owes = λ h. refl; owner = fit.owner }
-fit_taken p m false fit = fit
+fair_taken : (p : Part) (m : Mode) (ready : Bool) → IsFair p → IsFair (take_wanted p m ready).0
+fair_taken p m true fair = record { wants = λ h. refl; owes = λ h. refl; owner = fair.owner }
+fair_taken p m false fair = fair
 
-fit_read : (p : Part) (r : Role) (copy : Bool) → IsFit p → p.held ≡ None → p.want ≡ None → IsFit (want_read p r copy).0
-fit_read p Owner copy fit held want = fit_held p Read fit want
-fit_read p (Parent parent) true fit held want = fit_held p Read fit want
-fit_read p (Parent parent) false fit held want = fit_wanted p Read fit held
+fair_read : (p : Part) (r : Role) (copy : Bool) → IsFair p → p.held ≡ None → p.want ≡ None → IsFair (want_read p r copy).0
+fair_read p Owner copy fair held want = fair_held p Read fair want
+fair_read p (Parent parent) true fair held want = fair_held p Read fair want
+fair_read p (Parent parent) false fair held want = fair_wanted p Read fair held
 
-fit_write : (me : ℕ) (p : Part) (r : Role) (readers : List ℕ) → IsFit p → p.held ≡ None → p.want ≡ None → IsFit (want_write me p r readers).0
-fit_write me p Owner [] fit held want = fit_held p Write fit want
-fit_write me p Owner (x ∷ xs) fit held want = record { wants = λ h. absurd (none_held p.held held h); owes = fit.owes; owner = fit.owner }
-fit_write me p (Parent parent) readers fit held want = fit_wanted p Write fit held
+fair_write : (me : ℕ) (p : Part) (r : Role) (readers : List ℕ) → IsFair p → p.held ≡ None → p.want ≡ None → IsFair (want_write me p r readers).0
+fair_write me p Owner [] fair held want = fair_held p Write fair want
+fair_write me p Owner (x ∷ xs) fair held want = record { wants = λ h. absurd (none_held p.held held h); owes = fair.owes; owner = fair.owner }
+fair_write me p (Parent parent) readers fair held want = fair_wanted p Write fair held
 
-pub fit_acquire : (me : ℕ) (p : Part) (m : Mode) (copy : Bool) → IsFit p → IsFit (acquire me p m copy).0
-fit_acquire me p m copy fit = by m p.held p.want refl refl
+fair_acquire : (me : ℕ) (p : Part) (m : Mode) (copy : Bool) → IsFair p → IsFair (acquire me p m copy).0
+fair_acquire me p m copy fair = by m p.held p.want refl refl
   where
-    by : (n : Mode) (held want : Option Mode) → p.held ≡ held → p.want ≡ want → IsFit (acquire_by me p copy n held want).0
-    by Read (Some held) want h w = fit
-    by Write (Some held) want h w = fit
-    by Read None (Some Write) h w = fit
-    by Read None (Some Read) h w = fit_taken p Read p.ready fit
-    by Read None None h w = fit_read p p.role copy fit h w
-    by Write None (Some Read) h w = fit
-    by Write None (Some Write) h w = fit_taken p Write p.ready fit
-    by Write None None h w = fit_write me p p.role p.readers fit h w
+    by : (n : Mode) (held want : Option Mode) → p.held ≡ held → p.want ≡ want → IsFair (acquire_by me p copy n held want).0
+    by Read (Some held) want h w = fair
+    by Write (Some held) want h w = fair
+    by Read None (Some Write) h w = fair
+    by Read None (Some Read) h w = fair_taken p Read p.ready fair
+    by Read None None h w = fair_read p p.role copy fair h w
+    by Write None (Some Read) h w = fair
+    by Write None (Some Write) h w = fair_taken p Write p.ready fair
+    by Write None None h w = fair_write me p p.role p.readers fair h w
 
-pub fit_release : (p : Part) → IsFit p → IsFit (release p).0
-fit_release p fit = by p.held p.due refl
+fair_release : (p : Part) → IsFair p → IsFair (release p).0
+fair_release p fair = by p.held p.due refl
   where
-    by : (held : Option Mode) (due : Option ℕ) → p.due ≡ due → IsFit (release_by p held due).0
-    by None due d = fit
-    by (Some held) None d = record { wants = λ h. absurd (false≢true h); owes = λ h. absurd (none_due p.due d h); owner = fit.owner }
+    by : (held : Option Mode) (due : Option ℕ) → p.due ≡ due → IsFair (release_by p held due).0
+    by None due d = fair
+    by (Some held) None d = record { wants = λ h. absurd (false≢true h); owes = λ h. absurd (none_due p.due d h); owner = fair.owner }
     by (Some held) (Some owner) d = record { wants = λ h. absurd (false≢true h); owes = λ h. absurd (false≢true h); owner = λ e. refl }
 
-fit_alone : (me : ℕ) (p : Part) (asker : ℕ) (rest : List Ask) → IsFit p → IsFit (serve_alone me p asker rest).0
-fit_alone me p asker rest fit = by (is_some p.held || p.ready) (asker == me)
+fair_alone : (me : ℕ) (p : Part) (asker : ℕ) (rest : List Ask) → IsFair p → IsFair (serve_alone me p asker rest).0
+fair_alone me p asker rest fair = by (is_some p.held || p.ready) (asker == me)
   where
-    by : (busy mine : Bool) → IsFit (cond {A = Part × Served} busy (p, served_is.Idle) (cond {A = Part × Served} mine (record p { queue = rest; ready = true }, served_is.Ready) (record p { role = Parent asker; queue = [] }, served_is.Moves asker rest))).0
-    by true mine = fit
-    by false true = record { wants = fit.wants; owes = λ h. or_true (is_some p.held); owner = fit.owner }
-    by false false = record { wants = fit.wants; owes = fit.owes; owner = λ e. absurd (no_owner asker e) }
+    by : (busy mine : Bool) → IsFair (cond {A = Part × Served} busy (p, served_is.Idle) (cond {A = Part × Served} mine (record p { queue = rest; ready = true }, served_is.Ready) (record p { role = Parent asker; queue = [] }, served_is.Moves asker rest))).0
+    by true mine = fair
+    by false true = record { wants = fair.wants; owes = λ h. or_true (is_some p.held); owner = fair.owner }
+    by false false = record { wants = fair.wants; owes = fair.owes; owner = λ e. absurd (no_owner asker e) }
 
-fit_revoke : (p : Part) (waiting : List ℕ) → IsFit p → IsFit (revoke p waiting).0
-fit_revoke p [] fit = record { wants = fit.wants; owes = fit.owes; owner = fit.owner }
-fit_revoke p (x ∷ xs) fit = fit
+fair_revoke : (p : Part) (waiting : List ℕ) → IsFair p → IsFair (revoke p waiting).0
+fair_revoke p [] fair = record { wants = fair.wants; owes = fair.owes; owner = fair.owner }
+fair_revoke p (x ∷ xs) fair = fair
 
-fit_head : (me : ℕ) (p : Part) (asker : ℕ) (rest : List Ask) (m : Mode) → IsFit p → IsFit (serve_head me p asker rest m).0
-fit_head me p asker rest Read fit = by (is_write p.held || p.ready)
+fair_head : (me : ℕ) (p : Part) (asker : ℕ) (rest : List Ask) (m : Mode) → IsFair p → IsFair (serve_head me p asker rest m).0
+fair_head me p asker rest Read fair = by (is_write p.held || p.ready)
   where
-    by : (b : Bool) → IsFit (cond {A = Part × Served} b (p, served_is.Idle) (record p { queue = rest; readers = nodes_with asker p.readers }, served_is.Read asker)).0
-    by true = fit
-    by false = record { wants = fit.wants; owes = fit.owes; owner = fit.owner }
-fit_head me p asker rest Write fit = by p.readers
+    by : (b : Bool) → IsFair (cond {A = Part × Served} b (p, served_is.Idle) (record p { queue = rest; readers = nodes_with asker p.readers }, served_is.Read asker)).0
+    by true = fair
+    by false = record { wants = fair.wants; owes = fair.owes; owner = fair.owner }
+fair_head me p asker rest Write fair = by p.readers
   where
-    by : (readers : List ℕ) → IsFit (serve_write me p asker rest readers).0
-    by [] = fit_alone me p asker rest fit
-    by (x ∷ xs) = fit_revoke p p.waiting fit
+    by : (readers : List ℕ) → IsFair (serve_write me p asker rest readers).0
+    by [] = fair_alone me p asker rest fair
+    by (x ∷ xs) = fair_revoke p p.waiting fair
 
-pub fit_serve : (me : ℕ) (p : Part) → IsFit p → IsFit (serve me p).0
-fit_serve me p fit = by p.role p.queue
+fair_serve : (me : ℕ) (p : Part) → IsFair p → IsFair (serve me p).0
+fair_serve me p fair = by p.role p.queue
   where
-    by : (r : Role) (queue : List Ask) → IsFit (serve_by me p r queue).0
-    by (Parent parent) queue = fit
-    by Owner [] = fit
-    by Owner (head ∷ rest) = fit_head me p head.asker rest head.mode fit
+    by : (r : Role) (queue : List Ask) → IsFair (serve_by me p r queue).0
+    by (Parent parent) queue = fair
+    by Owner [] = fair
+    by Owner (head ∷ rest) = fair_head me p head.asker rest head.mode fair
 
-pub fit_request : (me : ℕ) (p : Part) (asker : ℕ) (m : Mode) → IsFit p → IsFit (request me p asker m).0
-fit_request me p asker m fit = by p.role
+fair_request : (me : ℕ) (p : Part) (asker : ℕ) (m : Mode) → IsFair p → IsFair (request me p asker m).0
+fair_request me p asker m fair = by p.role
   where
-    at : (b : Bool) → IsFit (cond {A = Part × Requested} b (p, requested_is.Stray) (record p { queue = p.queue ++ record { asker = asker; mode = m } ∷ [] }, requested_is.Queued)).0
-    at true = fit
-    at false = record { wants = fit.wants; owes = fit.owes; owner = fit.owner }
+    at : (b : Bool) → IsFair (cond {A = Part × Requested} b (p, requested_is.Stray) (record p { queue = p.queue ++ record { asker = asker; mode = m } ∷ [] }, requested_is.Queued)).0
+    at true = fair
+    at false = record { wants = fair.wants; owes = fair.owes; owner = fair.owner }
 
-    by : (r : Role) → IsFit (request_by me p asker m r).0
+    by : (r : Role) → IsFair (request_by me p asker m r).0
     by Owner = at (asker == me)
-    by (Parent parent) = fit
+    by (Parent parent) = fair
 
 -- who has waited for a token owes no answer
-owes_none : (p : Part) (m : Mode) (due : Option ℕ) → IsFit p → p.want ≡ Some m → p.ready ≡ false → p.due ≡ due → due ≡ None
-owes_none p m None fit want ready is = refl
-owes_none p m (Some owner) fit want ready is =
-    let busy : (is_some p.held || p.ready) ≡ true = fit.owes (ap is_some is) in
+owes_none : (p : Part) (m : Mode) (due : Option ℕ) → IsFair p → p.want ≡ Some m → p.ready ≡ false → p.due ≡ due → due ≡ None
+owes_none p m None fair want ready is = refl
+owes_none p m (Some owner) fair want ready is =
+    let busy : (is_some p.held || p.ready) ≡ true = fair.owes (ap is_some is) in
     absurd (by p.held (ap (λ b. is_some p.held || b) (sym ready) ∙ busy) refl)
   where
     by : (held : Option Mode) → (is_some p.held || false) ≡ true → p.held ≡ held → ⊥
     by None busy h = false≢true (sym (ap (λ (o : Option Mode). is_some o || false) h) ∙ busy)
-    by (Some x) busy h = false≢true (sym (ap is_some (fit.wants (ap is_some h))) ∙ ap is_some want)
+    by (Some x) busy h = false≢true (sym (ap is_some (fair.wants (ap is_some h))) ∙ ap is_some want)
 
-pub fit_granted : (p : Part) (from : ℕ) (m : Mode) → IsFit p → IsFit (granted p from m).0
-fit_granted p from m fit = by m p.role p.want p.ready refl refl
+fair_granted : (p : Part) (from : ℕ) (m : Mode) → IsFair p → IsFair (granted p from m).0
+fair_granted p from m fair = by m p.role p.want p.ready refl refl
   where
-    by : (n : Mode) (r : Role) (want : Option Mode) (ready : Bool) → p.want ≡ want → p.ready ≡ ready → IsFit (granted_by p from n r want ready).0
-    by Read (Parent parent) (Some Read) false w y = record { wants = fit.wants; owes = λ h. or_true (is_some p.held); owner = λ e. absurd (no_owner from e) }
-    by Write (Parent parent) (Some Write) false w y = record { wants = fit.wants; owes = λ h. or_true (is_some p.held); owner = λ e. owes_none p Write p.due fit w y refl }
-    by Read Owner want ready w y = fit
-    by Write Owner want ready w y = fit
-    by Read (Parent parent) None ready w y = fit
-    by Write (Parent parent) None ready w y = fit
-    by Read (Parent parent) (Some Write) ready w y = fit
-    by Write (Parent parent) (Some Read) ready w y = fit
-    by Read (Parent parent) (Some Read) true w y = fit
-    by Write (Parent parent) (Some Write) true w y = fit
+    by : (n : Mode) (r : Role) (want : Option Mode) (ready : Bool) → p.want ≡ want → p.ready ≡ ready → IsFair (granted_by p from n r want ready).0
+    by Read (Parent parent) (Some Read) false w y = record { wants = fair.wants; owes = λ h. or_true (is_some p.held); owner = λ e. absurd (no_owner from e) }
+    by Write (Parent parent) (Some Write) false w y = record { wants = fair.wants; owes = λ h. or_true (is_some p.held); owner = λ e. owes_none p Write p.due fair w y refl }
+    by Read Owner want ready w y = fair
+    by Write Owner want ready w y = fair
+    by Read (Parent parent) None ready w y = fair
+    by Write (Parent parent) None ready w y = fair
+    by Read (Parent parent) (Some Write) ready w y = fair
+    by Write (Parent parent) (Some Read) ready w y = fair
+    by Read (Parent parent) (Some Read) true w y = fair
+    by Write (Parent parent) (Some Write) true w y = fair
 
-pub fit_inval : (p : Part) (from : ℕ) (copy : Bool) → IsFit p → IsFit (inval p from copy).0
-fit_inval p from copy fit = by p.role p.due copy refl
+fair_inval : (p : Part) (from : ℕ) (copy : Bool) → IsFair p → IsFair (inval p from copy).0
+fair_inval p from copy fair = by p.role p.due copy refl
   where
-    at : (parent : ℕ) (b : Bool) → p.role ≡ Parent parent → (is_some p.held || p.ready) ≡ b → IsFit (cond {A = Part × Option Revoked} b (record p { due = Some from }, Some revoked_is.AtRelease) (p, Some revoked_is.Now)).0
-    at parent true r busy = record { wants = fit.wants; owes = λ h. busy; owner = λ e. absurd (no_owner parent (sym r ∙ e)) }
-    at parent false r busy = fit
+    at : (parent : ℕ) (b : Bool) → p.role ≡ Parent parent → (is_some p.held || p.ready) ≡ b → IsFair (cond {A = Part × Option Revoked} b (record p { due = Some from }, Some revoked_is.AtRelease) (p, Some revoked_is.Now)).0
+    at parent true r busy = record { wants = fair.wants; owes = λ h. busy; owner = λ e. absurd (no_owner parent (sym r ∙ e)) }
+    at parent false r busy = fair
 
-    by : (r : Role) (due : Option ℕ) (c : Bool) → p.role ≡ r → IsFit (inval_by p from r due c).0
-    by Owner due c r = fit
-    by (Parent parent) (Some owner) c r = fit
-    by (Parent parent) None false r = fit
+    by : (r : Role) (due : Option ℕ) (c : Bool) → p.role ≡ r → IsFair (inval_by p from r due c).0
+    by Owner due c r = fair
+    by (Parent parent) (Some owner) c r = fair
+    by (Parent parent) None false r = fair
     by (Parent parent) None true r = at parent (is_some p.held || p.ready) r refl
 
-pub fit_ack : (p : Part) (from : ℕ) → IsFit p → IsFit (ack p from).0
-fit_ack p from fit = by p.role
+fair_ack : (p : Part) (from : ℕ) → IsFair p → IsFair (ack p from).0
+fair_ack p from fair = by p.role
   where
-    at : (b : Bool) → IsFit (cond {A = Part × Bool} b (record p { waiting = nodes_without from p.waiting; readers = nodes_without from p.readers }, true) (p, false)).0
-    at true = record { wants = fit.wants; owes = fit.owes; owner = fit.owner }
-    at false = fit
+    at : (b : Bool) → IsFair (cond {A = Part × Bool} b (record p { waiting = nodes_without from p.waiting; readers = nodes_without from p.readers }, true) (p, false)).0
+    at true = record { wants = fair.wants; owes = fair.owes; owner = fair.owner }
+    at false = fair
 
-    by : (r : Role) → IsFit (ack_by p from r).0
+    by : (r : Role) → IsFair (ack_by p from r).0
     by Owner = at (list_any (λ node. node == from) p.waiting)
-    by (Parent parent) = fit
+    by (Parent parent) = fair
+
+-- ## the same, with the order of readers and of waiting nodes
+
+pub fit_owner : IsFit owner_part
+fit_owner = record { fair = fair_owner; ordered = keeps_order.of_owner }
+
+pub fit_child : (parent : ℕ) → IsFit (child_part parent)
+fit_child parent = record { fair = fair_child parent; ordered = keeps_order.of_child parent }
+
+pub fit_acquire : (me : ℕ) (p : Part) (m : Mode) (copy : Bool) → IsFit p → IsFit (acquire me p m copy).0
+fit_acquire me p m copy fit = record { fair = fair_acquire me p m copy fit.fair; ordered = keeps_order.by_acquire me p m copy fit.ordered }
+
+pub fit_release : (p : Part) → IsFit p → IsFit (release p).0
+fit_release p fit = record { fair = fair_release p fit.fair; ordered = keeps_order.by_release p fit.ordered }
+
+pub fit_serve : (me : ℕ) (p : Part) → IsFit p → IsFit (serve me p).0
+fit_serve me p fit = record { fair = fair_serve me p fit.fair; ordered = keeps_order.by_serve me p fit.ordered }
+
+pub fit_request : (me : ℕ) (p : Part) (asker : ℕ) (m : Mode) → IsFit p → IsFit (request me p asker m).0
+fit_request me p asker m fit = record { fair = fair_request me p asker m fit.fair; ordered = keeps_order.by_request me p asker m fit.ordered }
+
+pub fit_granted : (p : Part) (from : ℕ) (m : Mode) → IsFit p → IsFit (granted p from m).0
+fit_granted p from m fit = record { fair = fair_granted p from m fit.fair; ordered = keeps_order.by_granted p from m fit.ordered }
+
+pub fit_inval : (p : Part) (from : ℕ) (copy : Bool) → IsFit p → IsFit (inval p from copy).0
+fit_inval p from copy fit = record { fair = fair_inval p from copy fit.fair; ordered = keeps_order.by_inval p from copy fit.ordered }
+
+pub fit_ack : (p : Part) (from : ℕ) → IsFit p → IsFit (ack p from).0
+fit_ack p from fit = record { fair = fair_ack p from fit.fair; ordered = keeps_order.by_ack p from fit.ordered }
 
 -- ## who owns
 

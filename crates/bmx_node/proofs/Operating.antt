@@ -251,7 +251,7 @@ release_refused_same p is = by p.held p.due is
 
 -- who answers at its release isn't the owner
 answers_no_owner : (p : Part) (owner : ℕ) → IsFit p → (release p).1 ≡ release_is.Answers owner → p.role ≡ Owner → ⊥
-answers_no_owner p owner fit is own = by p.held p.due is (fit.owner own)
+answers_no_owner p owner fit is own = by p.held p.due is (fit.fair.owner own)
   where
     is_answer : Release → Bool
     is_answer release_is.Free = false

@@ -5,6 +5,8 @@ ghost use Rattle.bmx_memory.specs.Shown.{shown, Object, known_with};
 ghost use Rattle.bmx_protocol.specs.declared.views.Entry.{Entry as EntryOf};
 ghost use Rattle.bmx_protocol.specs.Nodes.{Shows, entry_of};
 ghost use Rattle.bmx_protocol.specs.Rules.{heard_field};
+ghost use Rattle.bmx_token.specs.declared.parts.Part.{Part as PartOf};
+ghost use Rattle.bmx_token.specs.Tokens.{IsInOrder};
 ghost use Rattle.bmx_tokens.specs.Tables.{part_of, part_at};
 ghost use Rattle.bmx_node.specs.Seen.{state_of};
 ghost use Rattle.bmx_node.specs.Inside.Keeping.{Keeps};
@@ -21,9 +23,11 @@ use bmx_types::{Items, Name, NoMemory, Vals};
 use std::alloc::Global;
 
 impl Node {
-    /// All that the node shows, by names. Linear in what it has, and sorts the names.
+    /// All that the node shows, by names: the readers of an object, and those of whom it waits to hear, rise.
+    /// Linear in what it has, and sorts the names.
     pub fn view(&self, alloc: Global) -> Result<View, NoMemory>
-        ensures { IfOk result (λ view. Shows self.now.holdings.store.nodes view (state_of self.now.holdings)) }
+        ensures view { IfOk result (λ view. Shows self.now.holdings.store.nodes view (state_of self.now.holdings)) }
+        ensures order { (name : ℕ) (p : PartOf) → part_of self.now.holdings.tokens name ≡ Some p → IsInOrder p }
     {
         self.holdings.view(alloc)
     }

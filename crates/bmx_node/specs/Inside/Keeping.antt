@@ -3,6 +3,7 @@ use Rattle.std.specs.Prelude.{◌≡◌, ℕ, ◌+◌, ◌^◌, ◌<◌, ◌≤�
 use Rattle.std.specs.Option.{option_map_or}
 use Rattle.bmx_types.specs.Words.{name_word, anchor_of}
 use Rattle.bmx_token.specs.declared.parts.Part.{Part}
+use Rattle.bmx_token.specs.Tokens.{IsInOrder}
 use Rattle.bmx_token.specs.declared.parts.Role.TheVariants.{Owner}
 use Rattle.bmx_tokens.specs.Tables.{part_of}
 use Rattle.bmx_memory.specs.Shown.{Object, shown}
@@ -11,10 +12,15 @@ use Rattle.bmx_node.specs.Seen.{limit_of}
 
 -- nothing is wanted where a token is held, an answer is due only where one is held or ready, and an owner
 -- owes none
-pub record IsFit (p : Part) : Type 0 where
+pub record IsFair (p : Part) : Type 0 where
   pub wants : is_some p.held ≡ true → p.want ≡ None
   pub owes : is_some p.due ≡ true → (is_some p.held || p.ready) ≡ true
   pub owner : p.role ≡ Owner → p.due ≡ None
+
+-- so it is, and readers and waiting nodes stand in rising order
+pub record IsFit (p : Part) : Type 0 where
+  pub fair : IsFair p
+  pub ordered : IsInOrder p
 
 -- the objects and the tokens of names go together: a name has both or none, an owner has a copy, and no name to
 -- come has any

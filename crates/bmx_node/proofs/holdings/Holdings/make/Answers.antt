@@ -1,17 +1,34 @@
 use Rattle.bmx_tokens.proofs.Map.{OnErr-from}
 use Rattle.bmx_node.proofs.Operating.{frame_tokens}
-use Rattle.std.proofs.Common.{◌≡◌, ℕ, ◌+◌, Option, not, true, false, Err, IfSome, sym, ap, subst}
+use Rattle.bmx_tokens.specs.Tables.{Table}
+use Rattle.std.proofs.Common.{refl, ◌≡◌, ℕ, ◌+◌, Option, not, true, false, Err, IfSome, sym, ap, subst}
 use Rattle.bmx_types.specs.Words.{name_word}
 use Rattle.bmx_protocol.specs.Steps.{Node}
 use Rattle.bmx_protocol.specs.Places.{is_full}
 use Rattle.bmx_memory.specs.Shown.{shown}
 use Rattle.bmx_node.specs.declared.holdings.Holdings.{Holdings}
 use Rattle.bmx_node.specs.Seen.{places_of, limit_of}
+use Rattle.bmx_node.proofs.Grants.{room_keeps}
 use Rattle.bmx_node.proofs.Making.{reserved_node, kept_node, kept_frame, made_by, made_state, made_places, made_frame, made_keeps}
 use Rattle.bmx_node.proofs.holdings.Holdings.make.Goals as goal
 
 pub returns-in_err-reserve-clause-err : goal.returns-in_err-reserve-clause-err
 returns-in_err-reserve-clause-err c = OnErr-from c.from_residual.result (reserved_node c.args.self.now c.reserve.new.self c.reserve.ensures.rest)
+
+pub returns-in_err-reserve-clause-keeps : goal.returns-in_err-reserve-clause-keeps
+returns-in_err-reserve-clause-keeps c =
+    let h : Holdings = c.args.self.now in
+    room_keeps h (record h { tokens = c.reserve.new.self }) (ap (λ (t : Table). record h { tokens = t }) c.reserve.ensures.rest, refl) c.requires.keeps
+
+pub returns-in-Err-Full-clause-keeps : goal.returns-in-Err-Full-clause-keeps
+returns-in-Err-Full-clause-keeps c =
+    let h : Holdings = c.args.self.now in
+    room_keeps h (record h { memory = c.make.new.self; tokens = c.reserve.new.self }) (ap (λ (t : Table). record h { memory = c.make.new.self; tokens = t }) c.reserve.ensures.rest, c.in-Err-Full.ensures.err) c.requires.keeps
+
+pub returns-in-Err-NoMemory-clause-keeps : goal.returns-in-Err-NoMemory-clause-keeps
+returns-in-Err-NoMemory-clause-keeps c =
+    let h : Holdings = c.args.self.now in
+    room_keeps h (record h { memory = c.make.new.self; tokens = c.reserve.new.self }) (ap (λ (t : Table). record h { memory = c.make.new.self; tokens = t }) c.reserve.ensures.rest, c.in-Err-NoMemory.ensures.err) c.requires.keeps
 
 pub returns-in_err-reserve-clause-frame : goal.returns-in_err-reserve-clause-frame
 returns-in_err-reserve-clause-frame c = frame_tokens c.args.self.now c.reserve.new.self c.args.self.now.mail
