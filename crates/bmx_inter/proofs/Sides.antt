@@ -1,297 +1,143 @@
--- The pairs of stubs or scions on the shelves of their bunches: what a new one, one in the place of another,
--- one that goes and more room make of them.
-use Rattle.std.proofs.Common.{◌≡◌, ◌≢◌, ℕ, ◌+◌, ◌-◌, ◌<◌, ◌≤◌, Bool, true, false, cond, not, ◌&&◌, ◌==◌, List, [], ◌∷◌, ◌++◌, length, get_or, set, insert, Option, Some, None, refl, sym, ap, ◌∙◌, subst, arith, filter, All, count_by, add-zero, inl, inr}
-use Rattle.std.specs.Option.{option_map_or}
-use Rattle.std.proofs.lemmas.Bool.{cases_eq, cases_Bool, and_right, eqb-true, eq-eqb, ne_eqb}
-use Rattle.std.proofs.lemmas.List.{get_or_default}
-use Rattle.std.proofs.lemmas.List.Sums.{sum_by-set}
+-- What the lists of a side keep as they change.
+use Rattle.std.proofs.Common.{◌≡◌, ◌≢◌, ℕ, ◌+◌, ◌-◌, ◌<◌, ◌≤◌, not, Bool, List, [], ◌∷◌, length, get_or, set, take, Option, Some, None, is_some, is_none, true, false, refl, sym, ap, ◌∙◌, subst, arith, filter, All, ◌⊎◌, inl, inr, ⊎_elim}
+use Rattle.std.proofs.lemmas.List.{length-set, get_or-set_same, get_or-set_other, get_or_default, take_more_set}
+use Rattle.std.proofs.lemmas.List.Elements.{All-set, All-filter, All-push}
+use Rattle.std.proofs.lemmas.Bool.{false≢true, cases_eq}
 use Rattle.bmx_types.specs.declared.names.Pair.{Pair}
-use Rattle.bmx_shelves.specs.Shelves.{Shelved, on_shelf}
-use Rattle.bmx_shelves.proofs.Parts.{find_at, find_passes, length-filter_not}
-use Rattle.bmx_shelves.proofs.Counts.{count_by-push, count_by-insert, count_by-set, count_by-filter, count_by-agree, filter-none_pass}
-use Rattle.bmx_inter.specs.Order.{is_same, is_ahead, IsInOrder, find_one}
-use Rattle.bmx_inter.specs.Inside.Sides.{ends_pair, is_ended_in, AreElsewhere, ArePaired, OnShelves, AreShelved, HasOneMore, HasTheSame, HasReplaced, Kept}
-use Rattle.bmx_inter.proofs.Keys.{is_same-true, is_same-ahead, is_same-itself}
-use Rattle.bmx_inter.specs.Inside.Search.{StandsAt}
-use Rattle.bmx_inter.proofs.Places.{with_one-at}
-use Rattle.bmx_inter.proofs.Found.{find_one-with_one, IsInOrder-with_one, IsInOrder-filter}
+use Rattle.bmx_inter.specs.Order.{IsInOrder, find_one, with_one, without_one}
+use Rattle.bmx_inter.specs.Inside.Sides.{Sided, IsBegun, AreParts, Kept, merged, is_ended_in}
+use Rattle.bmx_inter.proofs.Found.{IsInOrder-with_one, IsInOrder-filter}
+use Rattle.bmx_inter.proofs.Merged.{merged-order, merged-whole, Kept-of}
+use Rattle.bmx_inter.proofs.Changes.{AreParts-put, AreParts-ended, bounded-with, elsewhere-same}
 
-stays_alike : (e t pn : Bool) → (e && (not t && pn)) ≡ (not (e && t) && (e && pn))
-stays_alike true t pn = refl
-stays_alike false t pn = refl
+-- what is found is what was looked for
+pub is_what_was_found : {X : Type 0} (o wanted : Option X) → is_some o ≡ true → ((x : X) → o ≡ Some x → wanted ≡ Some x) → o ≡ wanted
+is_what_was_found None wanted e h = absurd (false≢true e)
+is_what_was_found (Some x) wanted e h = sym (h x refl)
 
-stays_other : (em eb t pn : Bool) → (em ≡ true → eb ≡ false) → (em && pn) ≡ (not (eb && t) && (em && pn))
-stays_other true eb t pn apart = sym (ap (λ b. not (b && t) && pn) (apart refl))
-stays_other false eb t pn apart = sym (and_right (not (eb && t)) false refl)
+pub none_was_found : {X : Type 0} (o : Option X) → is_some o ≡ false → o ≡ None
+none_was_found None e = refl
+none_was_found (Some x) e = absurd (false≢true (sym e))
+
+-- one of the lists with more room
+module _ {X : Type 0} (all : List (Sided X)) (b : ℕ) (was now : Sided X) where
+  pub list-kept : b < length all → was ≡ get_or all b was → now.list ≡ was.list → (k : ℕ) (d : Sided X) → (get_or (set all b now) k d).list ≡ (get_or all k d).list
+  list-kept within read same k d =
+      ⊎_elim
+      (λ (e : k ≡ b). subst (λ m. (get_or (set all b now) m d).list ≡ (get_or all m d).list) (sym e)
+      (ap (λ (s : Sided X). s.list) (get_or-set_same all b now d within) ∙ same ∙ ap (λ (s : Sided X). s.list) (read ∙ get_or_default all b was d within)))
+      (λ (ne : k ≢ b). ap (λ (s : Sided X). s.list) (get_or-set_other all b k now d ne))
+      (cases_eq k b)
+
+  pub spare-kept : (room : ℕ) → b < length all → was ≡ get_or all b was → was.spare ≤ now.spare → All (λ s. room ≤ s.spare) all → All (λ s. room ≤ s.spare) (set all b now)
+  spare-kept room within read more roomy =
+      let old : room ≤ was.spare = subst (λ (s : Sided X). room ≤ s.spare) (sym read) (roomy b was within) in
+      All-set (λ s. room ≤ s.spare) all b now (omega (arith, old, more)) roomy
+
+  pub All-grown : (room : ℕ) → b < length all → room ≤ now.spare → All (λ s. room ≤ s.spare) (take b all) → All (λ s. room ≤ s.spare) (take (b + 1) (set all b now))
+  All-grown room within here front =
+      subst (All (λ s. room ≤ s.spare)) (sym (take_more_set all b now within)) (All-push (λ s. room ≤ s.spare) (take b all) now front here)
 
 module _ {X : Type 0} (pair_of : X → Pair) (bunch_of : X → ℕ) where
-  -- each is the one that is found by its pair
-  pub found_each : (list : List X) → IsInOrder pair_of list → All (λ x. find_one pair_of list (pair_of x).source (pair_of x).target ≡ Some x) list
-  found_each list order k d within =
-      let x = get_or list k d in
-      find_at (λ y. is_same (pair_of y) (pair_of x)) list k d within
-      (λ j e low high. is_same-ahead (pair_of (get_or list j e)) (pair_of x) (subst (λ y. is_ahead (pair_of (get_or list j e)) (pair_of y) ≡ true) (get_or_default list k e d within) (order j k e high within)))
-      (is_same-itself (pair_of x))
+  -- lists that are as they were, with other room
+  module _ (all grown : List (Sided X)) (was room : ℕ) (kept : Kept pair_of bunch_of all was) (long : length grown ≡ length all) (same : (k : ℕ) (d : Sided X) → (get_or grown k d).list ≡ (get_or all k d).list) where
+    grown-parts : AreParts pair_of bunch_of grown (merged pair_of all)
+    grown-parts k d lt = same k d ∙ kept.parts k d (omega (arith, lt, long))
 
-  -- ## What goes
+    grown-bounded : All (λ x. bunch_of x < length grown) (merged pair_of all)
+    grown-bounded = subst (λ n. All (λ x. bunch_of x < n) (merged pair_of all)) (sym long) kept.bounded
 
-  module _ (bunch : ℕ) (ends : X → Bool) (list : List X) (order : IsInOrder pair_of list) where
-    -- a pair goes where what it is the pair of goes
-    own : (x : X) → find_one pair_of list (pair_of x).source (pair_of x).target ≡ Some x → ends_pair pair_of ends list (pair_of x) ≡ ends x
-    own x found = ap (λ (o : Option X). option_map_or ends o false) found
+    pub merged-grown : merged pair_of grown ≡ merged pair_of all
+    merged-grown = merged-whole pair_of bunch_of grown (merged pair_of all) (merged-order pair_of all) grown-parts grown-bounded
 
-    -- as many pairs go as stubs or scions
-    pub as_many_go : (s : Shelved Pair) → bunch < 16 → ArePaired pair_of bunch_of list s.shelves → count_by (ends_pair pair_of ends list) (on_shelf s.shelves bunch) ≡ count_by (is_ended_in bunch_of bunch ends) list
-    as_many_go s lt paired =
-        paired bunch lt (ends_pair pair_of ends list)
-        ∙ count_by-agree (λ x. bunch_of x == bunch && ends_pair pair_of ends list (pair_of x)) (is_ended_in bunch_of bunch ends) list
-        (λ k d within. let x = get_or list k d in ap (λ b. bunch_of x == bunch && b) (own x (found_each list order k d within)))
+    pub Kept-grown : ((length all ≡ 16) ⊎ ((length all ≡ 0) × (room ≡ 0))) → All (λ s. room ≤ s.spare) grown → Kept pair_of bunch_of grown room
+    Kept-grown count roomy =
+        Kept-of pair_of bunch_of grown room (merged pair_of all) (merged-order pair_of all)
+        (subst (λ n. (n ≡ 16) ⊎ ((n ≡ 0) × (room ≡ 0))) (sym long) count) grown-parts grown-bounded roomy
 
-    -- the pairs of what stays are on their shelves
-    paired_still : (s t : Shelved Pair) → bunch < 16 → ArePaired pair_of bunch_of list s.shelves → on_shelf t.shelves bunch ≡ filter (λ p. not (ends_pair pair_of ends list p)) (on_shelf s.shelves bunch) → AreElsewhere bunch s.shelves t.shelves → ArePaired pair_of bunch_of (filter (λ x. not (is_ended_in bunch_of bunch ends x)) list) t.shelves
-    paired_still s t lt paired here others b within p =
-        elim (cases_eq b bunch) [
-          | inl e ↦
-              ap (λ n. count_by p (on_shelf t.shelves n)) e
-              ∙ ap (count_by p) here
-              ∙ count_by-filter p (λ q. not (ends_pair pair_of ends list q)) (on_shelf s.shelves bunch)
-              ∙ paired bunch lt (λ q. not (ends_pair pair_of ends list q) && p q)
-              ∙ count_by-agree (λ x. bunch_of x == bunch && (not (ends_pair pair_of ends list (pair_of x)) && p (pair_of x))) (λ x. not (is_ended_in bunch_of bunch ends x) && (bunch_of x == bunch && p (pair_of x))) list
-              (λ k d short.
-              let x = get_or list k d in
-              ap (λ t. bunch_of x == bunch && (not t && p (pair_of x))) (own x (found_each list order k d short))
-              ∙ stays_alike (bunch_of x == bunch) (ends x) (p (pair_of x)))
-              ∙ sym (count_by-filter (λ x. bunch_of x == bunch && p (pair_of x)) (λ x. not (is_ended_in bunch_of bunch ends x)) list)
-              ∙ ap (λ n. count_by (λ x. bunch_of x == n && p (pair_of x)) (filter (λ x. not (is_ended_in bunch_of bunch ends x)) list)) (sym e)
-          | inr ne ↦
-              ap (count_by p) (others b ne)
-              ∙ paired b within p
-              ∙ count_by-agree (λ x. bunch_of x == b && p (pair_of x)) (λ x. not (is_ended_in bunch_of bunch ends x) && (bunch_of x == b && p (pair_of x))) list
-              (λ k d short.
-              let x = get_or list k d in
-              stays_other (bunch_of x == b) (bunch_of x == bunch) (ends x) (p (pair_of x)) (λ at. ne_eqb (bunch_of x) bunch (λ same. ne (sym (eqb-true (bunch_of x) b at) ∙ same))))
-              ∙ sym (count_by-filter (λ x. bunch_of x == b && p (pair_of x)) (λ x. not (is_ended_in bunch_of bunch ends x)) list)
-        ]
+  -- lists that are begun
+  merged-empty : (all : List (Sided X)) → All (λ s. s.list ≡ []) all → (bound : ℕ) → bound ≡ length all → merged pair_of all ≡ []
+  merged-empty all empty bound e =
+      merged-whole pair_of bunch_of all [] (λ i j d lt within. absurd (omega arith)) (λ k d lt. empty k d lt) (λ k d lt. absurd (omega arith))
 
-    pub OnShelves-ended : (s t : Shelved Pair) (room : ℕ) → bunch < 16 → OnShelves pair_of bunch_of list room s → length t.shelves ≡ length s.shelves → on_shelf t.shelves bunch ≡ filter (λ p. not (ends_pair pair_of ends list p)) (on_shelf s.shelves bunch) → AreElsewhere bunch s.shelves t.shelves → t.spare ≡ s.spare + count_by (ends_pair pair_of ends list) (on_shelf s.shelves bunch) → OnShelves pair_of bunch_of (filter (λ x. not (is_ended_in bunch_of bunch ends x)) list) (room + count_by (is_ended_in bunch_of bunch ends) list) t
-    OnShelves-ended s t room lt on count here others spare =
-        let gone = as_many_go s lt on.paired in
-        let some : room ≤ s.spare = on.roomy in
-        record {
-          count = count ∙ on.count;
-          seen = others 16 (λ e. absurd (omega arith)) ∙ on.seen;
-          roomy = omega (arith, gone, spare, some);
-          paired = paired_still s t lt on.paired here others;
-        }
+  merged-none : (all : List (Sided X)) → length all ≡ 0 → merged pair_of all ≡ []
+  merged-none [] e = refl
+  merged-none (s ∷ all) e = absurd (omega (arith, e))
 
-    -- where no pair goes all stay
-    pub none_go : (s : Shelved Pair) → bunch < 16 → ArePaired pair_of bunch_of list s.shelves → count_by (ends_pair pair_of ends list) (on_shelf s.shelves bunch) ≡ 0 → filter (λ x. not (is_ended_in bunch_of bunch ends x)) list ≡ list
-    none_go s lt paired none = filter-none_pass (is_ended_in bunch_of bunch ends) list (sym (as_many_go s lt paired) ∙ none)
+  pub Kept-begun : (old new : List (Sided X)) (room : ℕ) → Kept pair_of bunch_of old room → IsBegun old new → (Kept pair_of bunch_of new room) × (length new ≡ 16) × (merged pair_of new ≡ merged pair_of old)
+  Kept-begun old new room kept (inl h) = (
+    subst (λ l. Kept pair_of bunch_of l room) (sym h.0) kept,
+    ap length h.0 ∙ ⊎_elim (λ e. e) (λ e. absurd (omega (arith, h.1, e.0))) kept.count,
+    ap (merged pair_of) h.0,
+  )
+  Kept-begun old new room kept (inr h) =
+      let none : room ≡ 0 = ⊎_elim (λ e. absurd (omega (arith, h.0, e))) (λ e. e.1) kept.count in (
+        Kept-of pair_of bunch_of new room [] (λ i j d lt within. absurd (omega arith)) (inl h.1) (λ k d lt. h.2 k d lt) (λ k d lt. absurd (omega arith)) (λ k d lt. omega (arith, none)),
+        h.1,
+        merged-empty new h.2 (length new) refl ∙ sym (merged-none old h.0),
+      )
 
-  -- ## A new one, and one in the place of another
+  -- one that is put
+  module _ (all changed : List (Sided X)) (was room : ℕ) (x : X) (b : ℕ) (kept : Kept pair_of bunch_of all was) (at : b ≡ bunch_of x) (within : b < length all) (long : length changed ≡ length all) (here : (d : Sided X) → b < length all → (get_or changed b d).list ≡ with_one pair_of x (get_or all b d).list) (elsewhere : (c : ℕ) (d : Sided X) → c < length all → c ≢ b → (get_or changed c d).list ≡ without_one pair_of (pair_of x) (get_or all c d).list) where
+    put-parts : AreParts pair_of bunch_of changed (with_one pair_of x (merged pair_of all))
+    put-parts = AreParts-put pair_of bunch_of all changed (merged pair_of all) x b at long here elsewhere kept.parts
 
-  pub OnShelves-noted : (old new : List X) (x : X) (room : ℕ) (s t : Shelved Pair) → bunch_of x < 16 → OnShelves pair_of bunch_of old (room + 1) s → HasOneMore x old new → length t.shelves ≡ length s.shelves → on_shelf t.shelves (bunch_of x) ≡ on_shelf s.shelves (bunch_of x) ++ pair_of x ∷ [] → AreElsewhere (bunch_of x) s.shelves t.shelves → t.spare + 1 ≡ s.spare → OnShelves pair_of bunch_of new room t
-  OnShelves-noted old new x room s t lt on more count here others spare =
-      let some : room + 1 ≤ s.spare = on.roomy in
-      record {
-        count = count ∙ on.count;
-        seen = others 16 (λ e. absurd (omega arith)) ∙ on.seen;
-        roomy = omega arith;
-        paired = λ b within p. elim (cases_eq b (bunch_of x)) [
-          | inl e ↦
-              ap (λ n. count_by p (on_shelf t.shelves n)) e
-              ∙ ap (count_by p) here
-              ∙ count_by-push p (on_shelf s.shelves (bunch_of x)) (pair_of x)
-              ∙ ap (λ k. k + cond (p (pair_of x)) 1 0) (on.paired (bunch_of x) lt p)
-              ∙ ap (λ b. count_by (λ y. bunch_of y == bunch_of x && p (pair_of y)) old + cond (b && p (pair_of x)) 1 0) (sym (eq-eqb (bunch_of x) (bunch_of x) refl))
-              ∙ sym (more (λ y. bunch_of y == bunch_of x && p (pair_of y)))
-              ∙ ap (λ n. count_by (λ y. bunch_of y == n && p (pair_of y)) new) (sym e)
-          | inr ne ↦
-              ap (count_by p) (others b ne)
-              ∙ on.paired b within p
-              ∙ sym (add-zero (count_by (λ y. bunch_of y == b && p (pair_of y)) old))
-              ∙ ap (λ c. count_by (λ y. bunch_of y == b && p (pair_of y)) old + cond (c && p (pair_of x)) 1 0) (sym (ne_eqb (bunch_of x) b (λ same. ne (sym same))))
-              ∙ sym (more (λ y. bunch_of y == b && p (pair_of y)))
-        ];
-      }
+    put-bounded : All (λ y. bunch_of y < length changed) (with_one pair_of x (merged pair_of all))
+    put-bounded = subst (λ n. All (λ y. bunch_of y < n) (with_one pair_of x (merged pair_of all))) (sym long) (bounded-with pair_of bunch_of (length all) x (merged pair_of all) (omega (arith, at, within)) kept.bounded)
 
-  pub HasOneMore-inserted : (list : List X) (i : ℕ) (x : X) → HasOneMore x list (insert list i x)
-  HasOneMore-inserted list i x p = count_by-insert p list i x
+    pub merged-put : merged pair_of changed ≡ with_one pair_of x (merged pair_of all)
+    merged-put = merged-whole pair_of bunch_of changed (with_one pair_of x (merged pair_of all)) (IsInOrder-with_one pair_of x (merged pair_of all) (merged-order pair_of all)) put-parts put-bounded
 
-  pub HasTheSame-set : (list : List X) (i : ℕ) (x d : X) → i < length list → pair_of x ≡ pair_of (get_or list i d) → bunch_of x ≡ bunch_of (get_or list i d) → HasTheSame pair_of bunch_of list (set list i x)
-  HasTheSame-set list i x d within pair bunch b p =
-      count_by-set (λ y. bunch_of y == b && p (pair_of y)) list i x d within
-      (ap (λ n. n == b && p (pair_of x)) bunch ∙ ap (λ q. bunch_of (get_or list i d) == b && p q) pair)
+    pub Kept-put : All (λ s. room ≤ s.spare) changed → Kept pair_of bunch_of changed room
+    Kept-put roomy =
+        let count : length changed ≡ 16 = long ∙ ⊎_elim (λ e. e) (λ e. absurd (omega (arith, within, e.0))) kept.count in
+        Kept-of pair_of bunch_of changed room (with_one pair_of x (merged pair_of all)) (IsInOrder-with_one pair_of x (merged pair_of all) (merged-order pair_of all)) (inl count) put-parts put-bounded roomy
 
-  pub HasReplaced-set : (list : List X) (i : ℕ) (x d : X) → i < length list → pair_of (get_or list i d) ≡ pair_of x → IsInOrder pair_of (set list i x) → find_one pair_of (set list i x) (pair_of x).source (pair_of x).target ≡ Some x → HasReplaced pair_of x (get_or list i d) list (set list i x)
-  HasReplaced-set list i x d within pair order found = record {
-    some = omega (arith, within);
-    pair = pair;
-    order = order;
-    found = found;
-    each = λ p. sum_by-set (λ y. cond (p y) 1 0) list i x d within;
-  }
+  -- what goes of a bunch
+  module _ (all : List (Sided X)) (room b : ℕ) (ends : X → Bool) (was now : Sided X) (kept : Kept pair_of bunch_of all room) (within : b < length all) (read : was ≡ get_or all b was) (left : now.list ≡ filter (λ x. not (ends x)) was.list) where
+    ended-parts : AreParts pair_of bunch_of (set all b now) (filter (λ x. not (is_ended_in bunch_of b ends x)) (merged pair_of all))
+    ended-parts = AreParts-ended pair_of bunch_of all (merged pair_of all) b ends was now within read left kept.parts
 
-  pub HasReplaced-at : (list : List X) (i : ℕ) (x d : X) → IsInOrder pair_of list → StandsAt pair_of list (pair_of x) i → HasReplaced pair_of x (get_or list i d) list (set list i x)
-  HasReplaced-at list i x d order at =
-      let is = with_one-at pair_of list x i at in
-      HasReplaced-set list i x d at.within
-      (is_same-true (pair_of (get_or list i d)) (pair_of x) (find_passes (λ z. is_same (pair_of z) (pair_of x)) list (get_or list i d) (at.found d)))
-      (subst (IsInOrder pair_of) (sym is) (IsInOrder-with_one pair_of x list order))
-      (subst (λ xs. find_one pair_of xs (pair_of x).source (pair_of x).target ≡ Some x) (sym is) (find_one-with_one pair_of x list))
+    ended-bounded : All (λ y. bunch_of y < length (set all b now)) (filter (λ x. not (is_ended_in bunch_of b ends x)) (merged pair_of all))
+    ended-bounded = subst (λ n. All (λ y. bunch_of y < n) (filter (λ x. not (is_ended_in bunch_of b ends x)) (merged pair_of all))) (sym (length-set all b now)) (All-filter (λ x. not (is_ended_in bunch_of b ends x)) (λ y. bunch_of y < length all) (merged pair_of all) kept.bounded)
 
-  pub AreShelved-same : (old new : List X) (room : ℕ) (pairs : Option (Shelved Pair)) → 0 < length old → HasTheSame pair_of bunch_of old new → AreShelved pair_of bunch_of old room pairs → AreShelved pair_of bunch_of new room pairs
-  AreShelved-same old new room None some same on =
-      let empty : length old ≡ 0 = ap length on.0 in
-      absurd (omega arith)
-  AreShelved-same old new room (Some s) some same on = record {
-    count = on.count;
-    seen = on.seen;
-    roomy = on.roomy;
-    paired = λ b lt p. on.paired b lt p ∙ sym (same b p);
-  }
+    ended-order : IsInOrder pair_of (filter (λ x. not (is_ended_in bunch_of b ends x)) (merged pair_of all))
+    ended-order = IsInOrder-filter pair_of (λ x. not (is_ended_in bunch_of b ends x)) (merged pair_of all) (merged-order pair_of all)
 
-  pub HasTheSame-replaced : (old new : List X) (x y : X) → bunch_of x ≡ bunch_of y → HasReplaced pair_of x y old new → HasTheSame pair_of bunch_of old new
-  HasTheSame-replaced old new x y same replaced b p =
-      let q : X → Bool = λ z. bunch_of z == b && p (pair_of z) in
-      let all : count_by q new + cond (q y) 1 0 ≡ count_by q old + cond (q x) 1 0 = replaced.each q in
-      let alike : cond {A = ℕ} (q y) 1 0 ≡ cond {A = ℕ} (q x) 1 0 =
-      ap (λ r. cond {A = ℕ} (bunch_of y == b && p r) 1 0) replaced.pair ∙ ap (λ n. cond {A = ℕ} (n == b && p (pair_of x)) 1 0) (sym same) in
-      omega (arith, all, alike)
+    pub merged-ended : merged pair_of (set all b now) ≡ filter (λ x. not (is_ended_in bunch_of b ends x)) (merged pair_of all)
+    merged-ended = merged-whole pair_of bunch_of (set all b now) (filter (λ x. not (is_ended_in bunch_of b ends x)) (merged pair_of all)) ended-order ended-parts ended-bounded
 
-  -- ## One of another bunch in the place of one
+    pub Kept-ended : was.spare ≤ now.spare → Kept pair_of bunch_of (set all b now) room
+    Kept-ended more =
+        let old : room ≤ was.spare = subst (λ (s : Sided X). room ≤ s.spare) (sym read) (kept.roomy b was within) in
+        Kept-of pair_of bunch_of (set all b now) room (filter (λ x. not (is_ended_in bunch_of b ends x)) (merged pair_of all)) ended-order
+        (subst (λ n. (n ≡ 16) ⊎ ((n ≡ 0) × (room ≡ 0))) (sym (length-set all b now)) kept.count) ended-parts ended-bounded
+        (All-set (λ s. room ≤ s.spare) all b now (omega (arith, old, more)) kept.roomy)
 
-  module _ (old new : List X) (x y : X) (apart : bunch_of x ≢ bunch_of y) (replaced : HasReplaced pair_of x y old new) where
-    -- of the bunch of the earlier one there was one of the pair
-    one_of_it : 0 < count_by (λ z. bunch_of z == bunch_of y && is_same (pair_of z) (pair_of x)) old
-    one_of_it =
-        let p : X → Bool = λ z. bunch_of z == bunch_of y && is_same (pair_of z) (pair_of x) in
-        let all : count_by p new + cond (p y) 1 0 ≡ count_by p old + cond (p x) 1 0 = replaced.each p in
-        let gone : cond {A = ℕ} (p y) 1 0 ≡ 1 =
-        ap (λ b. cond {A = ℕ} (b && is_same (pair_of y) (pair_of x)) 1 0) (eq-eqb (bunch_of y) (bunch_of y) refl)
-        ∙ ap (λ q. cond {A = ℕ} (is_same q (pair_of x)) 1 0) replaced.pair
-        ∙ ap (λ b. cond {A = ℕ} b 1 0) (is_same-itself (pair_of x)) in
-        let come : cond {A = ℕ} (p x) 1 0 ≡ 0 = ap (λ b. cond {A = ℕ} (b && is_same (pair_of x) (pair_of x)) 1 0) (ne_eqb (bunch_of x) (bunch_of y) apart) in
-        omega (arith, all, gone, come)
+  -- there are bunches where there is room
+  pub has_bunches : (all : List (Sided X)) (room b : ℕ) → Kept pair_of bunch_of all room → 0 < room → b < 16 → b < length all
+  has_bunches all room b kept some lt = ⊎_elim (λ e. omega (arith, lt, e)) (λ e. absurd (omega (arith, some, e.1))) kept.count
 
-    pub pair_there : (s : Shelved Pair) → bunch_of y < 16 → ArePaired pair_of bunch_of old s.shelves → 0 < count_by (λ q. is_same q (pair_of x)) (on_shelf s.shelves (bunch_of y))
-    pair_there s low paired = subst (λ n. 0 < n) (sym (paired (bunch_of y) low (λ q. is_same q (pair_of x)))) one_of_it
+  -- no other bunch has one that stands already
+  pub put-beside : (all : List (Sided X)) (b : ℕ) (x : X) (was now : Sided X) (room : ℕ) → Kept pair_of bunch_of all room → b < length all → was ≡ get_or all b was → is_none (find_one pair_of was.list (pair_of x).source (pair_of x).target) ≡ false → (c : ℕ) (d : Sided X) → c < length all → c ≢ b → (get_or (set all b now) c d).list ≡ without_one pair_of (pair_of x) (get_or all c d).list
+  put-beside all b x was now room kept within read stood c d lt apart =
+      ap (λ (s : Sided X). s.list) (get_or-set_other all b c now d apart)
+      ∙ elsewhere-same pair_of bunch_of all (merged pair_of all) (pair_of x) b was (merged-order pair_of all) kept.parts within (subst (λ (s : Sided X). is_none (find_one pair_of s.list (pair_of x).source (pair_of x).target) ≡ false) read stood) c d lt apart
 
-    -- now there is none: the one of the pair is the new one
-    none_of_it : (p : Pair → Bool) → All (λ z. (bunch_of z == bunch_of y && (not (is_same (pair_of z) (pair_of x)) && p (pair_of z))) ≡ (bunch_of z == bunch_of y && p (pair_of z))) new
-    none_of_it p k d within =
-        let z = get_or new k d in
-        elim (cases_Bool (is_same (pair_of z) (pair_of x))) [
-          | inl t ↦
-              let same : pair_of z ≡ pair_of x = is_same-true (pair_of z) (pair_of x) t in
-              let found : Some z ≡ Some x = sym (found_each new replaced.order k d within) ∙ ap (λ (q : Pair). find_one pair_of new q.source q.target) same ∙ replaced.found in
-              let is : z ≡ x = cc in
-              let other : (bunch_of z == bunch_of y) ≡ false = ne_eqb (bunch_of z) (bunch_of y) (λ e. apart (ap bunch_of (sym is) ∙ e)) in
-              ap (λ b. b && (not (is_same (pair_of z) (pair_of x)) && p (pair_of z))) other ∙ sym (ap (λ b. b && p (pair_of z)) other)
-          | inr f ↦ ap (λ b. bunch_of z == bunch_of y && (not b && p (pair_of z))) f
-        ]
+module _ {X : Type 0} (pair_of : X → Pair) where
+  -- its own bunch has it, and another one that was looked through hasn't
+  pub put-here : (all : List (Sided X)) (b : ℕ) (x : X) (was now : Sided X) → b < length all → was ≡ get_or all b was → now.list ≡ with_one pair_of x was.list → (d : Sided X) → (get_or (set all b now) b d).list ≡ with_one pair_of x (get_or all b d).list
+  put-here all b x was now within read put d =
+      ap (λ (s : Sided X). s.list) (get_or-set_same all b now d within)
+      ∙ put
+      ∙ ap (λ (s : Sided X). with_one pair_of x s.list) (read ∙ get_or_default all b was d within)
 
-    -- of the earlier one's bunch all but it are left
-    left_there : (p : Pair → Bool) → count_by (λ z. bunch_of z == bunch_of y && (not (is_same (pair_of z) (pair_of x)) && p (pair_of z))) old ≡ count_by (λ z. bunch_of z == bunch_of y && p (pair_of z)) new
-    left_there p =
-        let q : X → Bool = λ z. bunch_of z == bunch_of y && (not (is_same (pair_of z) (pair_of x)) && p (pair_of z)) in
-        let all : count_by q new + cond (q y) 1 0 ≡ count_by q old + cond (q x) 1 0 = replaced.each q in
-        let gone : cond {A = ℕ} (q y) 1 0 ≡ 0 =
-        ap (λ r. cond {A = ℕ} (bunch_of y == bunch_of y && (not (is_same r (pair_of x)) && p (pair_of y))) 1 0) replaced.pair
-        ∙ ap (λ b. cond {A = ℕ} (bunch_of y == bunch_of y && (not b && p (pair_of y))) 1 0) (is_same-itself (pair_of x))
-        ∙ ap (λ b. cond {A = ℕ} b 1 0) (and_right (bunch_of y == bunch_of y) false refl) in
-        let come : cond {A = ℕ} (q x) 1 0 ≡ 0 = ap (λ b. cond {A = ℕ} (b && (not (is_same (pair_of x) (pair_of x)) && p (pair_of x))) 1 0) (ne_eqb (bunch_of x) (bunch_of y) apart) in
-        let same : count_by q old ≡ count_by q new = omega (arith, all, gone, come) in
-        same ∙ count_by-agree q (λ z. bunch_of z == bunch_of y && p (pair_of z)) new (none_of_it p)
+  pub put-elsewhere : (all changed : List (Sided X)) (b : ℕ) (x : X) (now : Sided X) (p : Pair) → p ≡ pair_of x → ((c : ℕ) (d : Sided X) → c < length (set all b now) → c ≢ b → (get_or changed c d).list ≡ without_one pair_of p (get_or (set all b now) c d).list) → (c : ℕ) (d : Sided X) → c < length all → c ≢ b → (get_or changed c d).list ≡ without_one pair_of (pair_of x) (get_or all c d).list
+  put-elsewhere all changed b x now p is gone c d lt apart =
+      gone c d (omega (arith, lt, length-set all b now)) apart
+      ∙ (λ i. without_one pair_of (is i) (get_or-set_other all b c now d apart i).list)
 
-    -- of the new one's bunch there is one more
-    one_more_here : (p : Pair → Bool) → count_by (λ z. bunch_of z == bunch_of x && p (pair_of z)) old + cond (p (pair_of x)) 1 0 ≡ count_by (λ z. bunch_of z == bunch_of x && p (pair_of z)) new
-    one_more_here p =
-        let q : X → Bool = λ z. bunch_of z == bunch_of x && p (pair_of z) in
-        let all : count_by q new + cond (q y) 1 0 ≡ count_by q old + cond (q x) 1 0 = replaced.each q in
-        let gone : cond {A = ℕ} (q y) 1 0 ≡ 0 = ap (λ b. cond {A = ℕ} (b && p (pair_of y)) 1 0) (ne_eqb (bunch_of y) (bunch_of x) (λ e. apart (sym e))) in
-        let come : cond {A = ℕ} (q x) 1 0 ≡ cond {A = ℕ} (p (pair_of x)) 1 0 = ap (λ b. cond {A = ℕ} (b && p (pair_of x)) 1 0) (eq-eqb (bunch_of x) (bunch_of x) refl) in
-        omega (arith, all, gone, come)
-
-    -- and of all others as many
-    same_elsewhere : (b : ℕ) (p : Pair → Bool) → b ≢ bunch_of x → b ≢ bunch_of y → count_by (λ z. bunch_of z == b && p (pair_of z)) old ≡ count_by (λ z. bunch_of z == b && p (pair_of z)) new
-    same_elsewhere b p not_x not_y =
-        let q : X → Bool = λ z. bunch_of z == b && p (pair_of z) in
-        let all : count_by q new + cond (q y) 1 0 ≡ count_by q old + cond (q x) 1 0 = replaced.each q in
-        let gone : cond {A = ℕ} (q y) 1 0 ≡ 0 = ap (λ c. cond {A = ℕ} (c && p (pair_of y)) 1 0) (ne_eqb (bunch_of y) b (λ e. not_y (sym e))) in
-        let come : cond {A = ℕ} (q x) 1 0 ≡ 0 = ap (λ c. cond {A = ℕ} (c && p (pair_of x)) 1 0) (ne_eqb (bunch_of x) b (λ e. not_x (sym e))) in
-        omega (arith, all, gone, come)
-
-    -- its pair goes from shelf to shelf
-    pub OnShelves-rehomed : (room : ℕ) (s t : Shelved Pair) → bunch_of x < 16 → bunch_of y < 16 → OnShelves pair_of bunch_of old room s
-        → length t.shelves ≡ length s.shelves → on_shelf t.shelves (bunch_of y) ≡ filter (λ q. not (is_same q (pair_of x))) (on_shelf s.shelves (bunch_of y)) → on_shelf t.shelves (bunch_of x) ≡ on_shelf s.shelves (bunch_of x) ++ pair_of x ∷ []
-        → ((b : ℕ) → b ≢ bunch_of y → b ≢ bunch_of x → on_shelf t.shelves b ≡ on_shelf s.shelves b)
-        → t.spare + 1 ≡ s.spare + count_by (λ q. is_same q (pair_of x)) (on_shelf s.shelves (bunch_of y))
-        → OnShelves pair_of bunch_of new room t
-    OnShelves-rehomed room s t x_low y_low on count left here others spare =
-        let some : room ≤ s.spare = on.roomy in
-        let one : 0 < count_by (λ q. is_same q (pair_of x)) (on_shelf s.shelves (bunch_of y)) = pair_there s y_low on.paired in
-        record {
-          count = count ∙ on.count;
-          seen = others 16 (λ e. absurd (omega arith)) (λ e. absurd (omega arith)) ∙ on.seen;
-          roomy = omega (arith, some, one, spare);
-          paired = λ b within p. elim (cases_eq b (bunch_of x)) [
-            | inl e ↦
-                ap (λ n. count_by p (on_shelf t.shelves n)) e
-                ∙ ap (count_by p) here
-                ∙ count_by-push p (on_shelf s.shelves (bunch_of x)) (pair_of x)
-                ∙ ap (λ k. k + cond (p (pair_of x)) 1 0) (on.paired (bunch_of x) x_low p)
-                ∙ one_more_here p
-                ∙ ap (λ n. count_by (λ z. bunch_of z == n && p (pair_of z)) new) (sym e)
-            | inr not_x ↦ elim (cases_eq b (bunch_of y)) [
-              | inl e ↦
-                  ap (λ n. count_by p (on_shelf t.shelves n)) e
-                  ∙ ap (count_by p) left
-                  ∙ count_by-filter p (λ q. not (is_same q (pair_of x))) (on_shelf s.shelves (bunch_of y))
-                  ∙ on.paired (bunch_of y) y_low (λ q. not (is_same q (pair_of x)) && p q)
-                  ∙ left_there p
-                  ∙ ap (λ n. count_by (λ z. bunch_of z == n && p (pair_of z)) new) (sym e)
-              | inr not_y ↦
-                  ap (count_by p) (others b not_y not_x)
-                  ∙ on.paired b within p
-                  ∙ same_elsewhere b p not_x not_y
-            ]
-          ];
-        }
-
-  -- ## More room
-
-  pub OnShelves-roomier : (list : List X) (room more : ℕ) (s t : Shelved Pair) → OnShelves pair_of bunch_of list room s → length t.shelves ≡ length s.shelves → ((b : ℕ) → on_shelf t.shelves b ≡ on_shelf s.shelves b) → t.spare ≡ s.spare + more → OnShelves pair_of bunch_of list (room + more) t
-  OnShelves-roomier list room more s t on count items spare =
-      let some : room ≤ s.spare = on.roomy in
-      record {
-        count = count ∙ on.count;
-        seen = items 16 ∙ on.seen;
-        roomy = omega arith;
-        paired = λ b lt p. ap (count_by p) (items b) ∙ on.paired b lt p;
-      }
-
-  pub OnShelves-first : (list : List X) (room : ℕ) (s : Shelved Pair) → (list ≡ []) × (room ≡ 0) → length s.shelves ≡ 17 → ((b : ℕ) → on_shelf s.shelves b ≡ []) → OnShelves pair_of bunch_of list room s
-  OnShelves-first list room s none count items =
-      let empty : room ≡ 0 = none.1 in
-      record {
-        count = count;
-        seen = items 16;
-        roomy = omega arith;
-        paired = λ b lt p. ap (count_by p) (items b) ∙ ap (count_by (λ x. bunch_of x == b && p (pair_of x))) (sym none.0);
-      }
-
-  -- ## What is kept once some went
-
-  pub Kept-ended : (bunch : ℕ) (ends : X → Bool) (items left : List X) (len capacity room left_len left_capacity before after : ℕ) (pairs walked : Option (Shelved Pair)) → Kept pair_of bunch_of items len capacity room pairs → len ≡ length items → left_len ≡ length left → capacity ≤ left_capacity → before ≡ len → after ≡ left_len → left ≡ filter (λ x. not (is_ended_in bunch_of bunch ends x)) items → AreShelved pair_of bunch_of (filter (λ x. not (is_ended_in bunch_of bunch ends x)) items) (room + count_by (is_ended_in bunch_of bunch ends) items) walked → Kept pair_of bunch_of left left_len left_capacity (room + (before - after)) walked
-  Kept-ended bunch ends items left len capacity room left_len left_capacity before after pairs walked kept len_is left_is larger before_is after_is is shelved =
-      let rest = filter (λ x. not (is_ended_in bunch_of bunch ends x)) items in
-      let all : length rest + count_by (is_ended_in bunch_of bunch ends) items ≡ length items = length-filter_not (is_ended_in bunch_of bunch ends) items in
-      let some : length left ≡ length rest = ap length is in
-      let fits : len + room ≤ capacity = kept.fits in
-      let gone : before - after ≡ count_by (is_ended_in bunch_of bunch ends) items = omega (arith, all, some, len_is, left_is, before_is, after_is) in
-      record {
-        order = subst (IsInOrder pair_of) (sym is) (IsInOrder-filter pair_of (λ x. not (is_ended_in bunch_of bunch ends x)) items kept.order);
-        fits = omega (arith, all, some, len_is, left_is, before_is, after_is, fits, larger);
-        shelved = subst (λ k. AreShelved pair_of bunch_of left (room + k) walked) (sym gone) (subst (λ xs. AreShelved pair_of bunch_of xs (room + count_by (is_ended_in bunch_of bunch ends) items) walked) (sym is) shelved);
-      }
+  pub put-spare : (all : List (Sided X)) (b : ℕ) (was now : Sided X) (room : ℕ) → b < length all → was ≡ get_or all b was → was.spare ≤ now.spare + 1 → All (λ s. room ≤ s.spare) all → All (λ s. room - 1 ≤ s.spare) (set all b now)
+  put-spare all b was now room within read less roomy =
+      let old : room ≤ was.spare = subst (λ (s : Sided X). room ≤ s.spare) (sym read) (roomy b was within) in
+      All-set (λ s. room - 1 ≤ s.spare) all b now (omega (arith, old, less)) (λ k d lt. let one : room ≤ (get_or all k d).spare = roomy k d lt in omega (arith, one))

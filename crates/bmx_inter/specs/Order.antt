@@ -26,3 +26,7 @@ find_one pair_of xs source target = find (λ x. is_same (pair_of x) (record { so
 -- the list with this element in its place, instead of the one for the same pair
 abbrev pub with_one : {X : Type 0} → (X → Pair) → X → List X → List X
 with_one pair_of x xs = filter (λ y. is_ahead (pair_of y) (pair_of x)) xs ++ x ∷ filter (λ y. is_ahead (pair_of x) (pair_of y)) xs
+
+-- the list without the one of the pair
+abbrev pub without_one : {X : Type 0} → (X → Pair) → Pair → List X → List X
+without_one pair_of p xs = filter (λ y. is_ahead (pair_of y) p) xs ++ filter (λ y. is_ahead p (pair_of y)) xs

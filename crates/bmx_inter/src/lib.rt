@@ -5,5 +5,6 @@
 mod inter;
 mod order;
 mod side;
+mod sorted;
 
 pub use inter::{Inter, Scion, Stub};

@@ -150,3 +150,27 @@ fn a_list_that_does_not_rise(rt: HostRuntime) -> Result<(), Fail> {
     assert_eq!(rt; ended, 0);
     Ok(())
 }
+
+// Stubs of two bunches are given by source, whichever bunch they are of.
+#[test]
+fn the_order_goes_over_all_bunches(rt: HostRuntime) -> Result<(), Fail> {
+    let node = NodeNo::new(0).ok_or("no node")?;
+    let first = BunchNo::new(3).ok_or("no bunch")?;
+    let second = BunchNo::new(1).ok_or("no bunch")?;
+    let target = Name::new(node, 9).ok_or("no name")?;
+    let mut inter = Inter::new(rt.alloc());
+    for count in [4, 2, 1, 3] {
+        let source = Name::new(node, count).ok_or("no name")?;
+        let bunch = if count % 2 == 0 { first } else { second };
+        store(&mut inter, source, bunch, target, count)?;
+    }
+    let mut sources = [0; 4];
+    for i in 0..4 {
+        let stub = inter.stub(i as u64).ok_or("no stub")?;
+        sources[i] = stub.source.word();
+    }
+    let none = inter.stub(4);
+    assert!(rt; sources[0] < sources[1] && sources[1] < sources[2] && sources[2] < sources[3]);
+    assert_eq!(rt; none, None);
+    Ok(())
+}
