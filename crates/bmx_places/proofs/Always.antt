@@ -41,9 +41,9 @@ module _ (st : Setting) (history : List Event) (nodes : ℕ → Node) (opening :
     blocks = k.blocks;
     are = k.are;
     belong = record {
-      entries = λ n x j e. ((k.keeps n).known x).lies j e;
-      headers = λ n a h e. (k.keeps n).headers a h e;
-      records = λ n x m r e. k.records n x m r e;
+      entries = λ n x j e. ((k.each n).keeps.known x).lies j e;
+      headers = λ n a h e. (k.each n).keeps.headers a h e;
+      records = λ n x m r e. (k.each n).records x m r e;
       told = info_told;
     };
   }
@@ -51,7 +51,7 @@ module _ (st : Setting) (history : List Event) (nodes : ℕ → Node) (opening :
   -- a shape is that of a block
   shaped : (x bunch size : ℕ) → HasShape w x bunch size → (a : ℕ) × (b : Block) × (k.blocks a ≡ Some b) × (b.name ≡ x) × (b.bunch ≡ bunch) × (b.size ≡ size)
   shaped x bunch size (KnownAt n j e b s) =
-      let l : LiesIn k.blocks ((nodes n).places.place x) x j = ((k.keeps n).known x).lies j e in
+      let l : LiesIn k.blocks ((nodes n).places.place x) x j = ((k.each n).keeps.known x).lies j e in
       (l.place.address, block_at x j l.place, l.block, refl, b, s)
   shaped x bunch size (ToldIn n m l info there within named b s) = (info.place.address, block_of info, info_told n m l info there within, named, b, s)
 
@@ -60,7 +60,7 @@ module _ (st : Setting) (history : List Event) (nodes : ℕ → Node) (opening :
     shapes = λ x bunch size ob os h g. (let a = shaped x bunch size h in let c = shaped x ob os g in
         let same : (a.1.bunch ≡ c.1.bunch) × (a.1.size ≡ c.1.size) = k.are.one_shape a.0 c.0 a.1 c.1 a.2 c.2 (a.3 ∙ sym c.3) in
         (sym a.4 ∙ same.0 ∙ c.4, sym a.5 ∙ same.1 ∙ c.5));
-    records = λ n m x bunch size r e h. (let a = shaped x bunch size h in let of : IsOf k.blocks x r.bunch = k.records n x m r e in
+    records = λ n m x bunch size r e h. (let a = shaped x bunch size h in let of : IsOf k.blocks x r.bunch = (k.each n).records x m r e in
         sym of.of ∙ (k.are.one_shape of.address a.0 of.block a.1 of.there a.2 (of.named ∙ sym a.3)).0 ∙ a.4);
   }
 
@@ -70,8 +70,8 @@ module _ (st : Setting) (history : List Event) (nodes : ℕ → Node) (opening :
 
   lying : (x : ℕ) (p : Place) → HasPlace w x p → Lying x p
   lying x p (At n e) = elim (some_or_none ((nodes n).state.known x)) [
-    | inl none ↦ none_some (sym (((k.keeps n).known x).unplaced none) ∙ e)
-    | inr j ↦ (let l : LiesIn k.blocks ((nodes n).places.place x) x j.0 = ((k.keeps n).known x).lies j.0 j.1 in
+    | inl none ↦ none_some (sym (((k.each n).keeps.known x).unplaced none) ∙ e)
+    | inr j ↦ (let l : LiesIn k.blocks ((nodes n).places.place x) x j.0 = ((k.each n).keeps.known x).lies j.0 j.1 in
         subst (Lying x) (some_same (sym l.lies ∙ e)) (block_at x j.0 l.place, l.block, refl, refl))
   ]
   lying x p (Between n m l info there within named at) = subst (Lying x) at (block_of info, info_told n m l info there within, named, refl)
@@ -81,16 +81,16 @@ module _ (st : Setting) (history : List Event) (nodes : ℕ → Node) (opening :
     one = λ x p q h g moves. (let a = lying x p h in let c = lying x q g in
         k.are.one_address p.address q.address a.0 c.0 a.1 c.1 (a.2 ∙ sym c.2) (a.3 ∙ moves ∙ sym c.3));
     newest = λ x p q h g. (let a = lying x p h in omega (arith, a.3, k.still p.address a.0 a.1));
-    placed = λ n x j e. subst IsSome (sym (((k.keeps n).known x).lies j e).lies) refl;
+    placed = λ n x j e. subst IsSome (sym (((k.each n).keeps.known x).lies j e).lies) refl;
   }
 
   pub no_info_clashes : (from me : ℕ) (l : Letter) → Contains (in_flight from me history) l → some_clash me from (nodes me).state.known (nodes me).places (infos l.msg) ≡ false
-  no_info_clashes from me l there = (hears_all st w k.blocks k.are me from (infos l.msg) (nodes me).state (nodes me).places (letter_right from me l there).right.told (k.keeps me) (λ n. refl)).0
+  no_info_clashes from me l there = (hears_all st w k.blocks k.are me from (infos l.msg) (nodes me).state (nodes me).places (letter_right from me l there).right.told (k.each me).keeps (λ n. refl)).0
 
   pub next_is_taken : (from me stamp : ℕ) (l : Letter) (rest : List Letter) (done : Done) (then : Node) → from < st.nodes → me < st.nodes → in_flight from me history ≡ l ∷ rest →
       IsStep st me (nodes me) stamp (Take from l) done then → done.answer ≡ answer.Nil
   next_is_taken from me stamp l rest done then real real_me first step =
-      let t : IsTakeable st k.blocks me from (nodes me) l = next_is_takeable st history nodes opening legal after k.blocks k.are k.still me from (k.keeps me) k.letters l rest first real_me real in
+      let t : IsTakeable st k.blocks me from (nodes me) l = next_is_takeable st history nodes opening legal after k.blocks k.are k.still me from (k.each me).keeps k.letters l rest first real_me real in
       ap (λ (d : Done). d.answer) step.outcome
       ∙ (λ i. (cond (t.good i || (step.is_told.clash ∙ t.calm) i) (only answer.Stray) (took s step.told.lies from l.seq l.msg (s.known (name_in l.msg)) (note_transition me from (note_in l.msg) (option_map share_of (s.known (name_in l.msg)))))).answer)
       ∙ ap (λ (o : Option Transition). (took s step.told.lies from l.seq l.msg (s.known (name_in l.msg)) o).answer) t.turns

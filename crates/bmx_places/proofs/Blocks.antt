@@ -45,13 +45,18 @@ one_keeps blocks place x k lies full = record {
 pub none_keeps : (blocks : ℕ → Option Block) (x : ℕ) → KeepsOne blocks None x None
 none_keeps blocks x = record { lies = λ j e. none_some e; unplaced = λ e. refl; full = λ j e. none_some e }
 
--- each entry of a node is so, and each header stands in front of a block
-pub record KeepsAt (blocks : ℕ → Option Block) (entries : ℕ → Option Known) (place : ℕ → Option Place) (header : ℕ → Option Header) : Type 0 where
-  pub known : (x : ℕ) → KeepsOne blocks (place x) x (entries x)
-  pub headers : AllHead blocks header
+-- segments that are open were made, words were handed out of those alone, within each, and not too many were made
+pub record IsHome (segments : ℕ → Option ℕ) (handed : ℕ → ℕ) (made : ℕ) : Type 0 where
+  pub opened : (bunch s : ℕ) → segments bunch ≡ Some s → s ≤ made
+  pub above : (s : ℕ) → made < s → handed s ≡ 0
+  pub within : (s : ℕ) → handed s ≤ 1024
+  pub few : made ≤ 6000000
 
-abbrev pub Keeps : (ℕ → Option Block) → (ℕ → Option Known) → Places → Type 0
-Keeps blocks known a = KeepsAt blocks known a.place a.header
+-- each entry of a node is so, each header stands in front of a block, and the node's segments are right
+pub record Keeps (blocks : ℕ → Option Block) (entries : ℕ → Option Known) (a : Places) : Type 0 where
+  pub known : (x : ℕ) → KeepsOne blocks (a.place x) x (entries x)
+  pub headers : AllHead blocks a.header
+  pub home : IsHome a.opened a.handed a.made
 
 -- ## nothing clashes
 
@@ -146,7 +151,7 @@ module _ (blocks : ℕ → Option Block) where
       by_old (Some g) is h f = (let of : Heads blocks old g = all old g is in subst (Heads blocks old) (some_same f) (record { block = of.block; there = of.there; named = of.named; sized = of.sized }))
 
   went_keeps : (known : ℕ → Option Known) (a : Places) (old new : ℕ) → Keeps blocks known a → Keeps blocks known (with_went a old new)
-  went_keeps known a old new keeps = record { known = keeps.known; headers = went_head a old new keeps.headers }
+  went_keeps known a old new keeps = record { known = keeps.known; headers = went_head a old new keeps.headers; home = keeps.home }
 
   -- an object comes to lie in its block, and is known
   pub object_keeps : (known after : ℕ → Option Known) (a : Places) (name : ℕ) (k : Known) (place : Place) → after name ≡ Some k →
@@ -158,6 +163,7 @@ module _ (blocks : ℕ → Option Block) where
         (λ x f. rw (put_apart a.place name x (Some place) f, others x f) (keeps.known x));
     headers = put_head a.header place.address (record { name = name; size = k.size; standing = Lives place.moves }) keeps.headers
         (record { block = block_at name k place; there = there; named = refl; sized = refl });
+    home = keeps.home;
   }
 
 -- learning leaves places as they were, or lays the object at its place, with other headers
@@ -168,10 +174,6 @@ learnt_either P a info stays lies = by_place (a.place info.name)
     by_place : (p : Option Place) → P (learn_at a info p)
     by_place None = lies a.header
     by_place (Some old) = either P (nat_lt old.moves info.place.moves) _ _ (λ _. lies (with_went a old.address info.place.address).header) (λ _. stays)
-
--- it hands nothing out
-pub learnt_handed : (a : Places) (info : Info) → (with_learnt a info).handed ≡ a.handed
-learnt_handed a info = learnt_either (λ b. b.handed ≡ a.handed) a info refl (λ header. refl)
 
 module _ (st : Setting) (w : World) (blocks : ℕ → Option Block) (are : AreBlocks st w blocks) (me from : ℕ) where
   heard_keeps : (known : ℕ → Option Known) (a : Places) (info : Info) → IsTold blocks info → Keeps blocks known a → Keeps blocks (heard from known info) (with_learnt a info)
@@ -197,14 +199,15 @@ module _ (st : Setting) (w : World) (blocks : ℕ → Option Block) (are : AreBl
               (told ∙ (λ i. Some (record { name = info.name; bunch = sym shape.0 i; size = sym shape.1 i; moves = info.place.moves })))
               (went_keeps blocks known a old.address info.place.address keeps))
 
-  -- Infos of blocks, one after another: none clashes
+  -- Infos of blocks, one after another: none clashes, and no words are handed out
   pub hears_all : (more : List Info) (s : NodeState) (a : Places) → Every (IsTold blocks) more → Keeps blocks s.known a → ((n : ℕ) → a.handed n ≡ (w.places me).handed n) →
       (some_clash me from s.known a more ≡ false) × Keeps blocks (after_changes s (map (Hears from) more)).known (with_all_learnt a more)
-  hears_all [] s a told keeps handed = (refl, keeps)
+      × ((n : ℕ) → (with_all_learnt a more).handed n ≡ (w.places me).handed n)
+  hears_all [] s a told keeps handed = (refl, keeps, handed)
   hears_all (info ∷ more) s a told keeps handed =
       let rest = hears_all more (after_change s (Hears from info)) (with_learnt a info) told.1 (heard_keeps s.known a info told.0 keeps)
-      (λ n. ap (λ (f : ℕ → ℕ). f n) (learnt_handed a info) ∙ handed n) in
-      ((λ i. no_clash st w blocks are me info told.0 s.known a keeps handed i || rest.0 i), rest.1)
+      (λ n. learnt_either (λ b. b.handed n ≡ a.handed n) a info refl (λ header. refl) ∙ handed n) in
+      ((λ i. no_clash st w blocks are me info told.0 s.known a keeps handed i || rest.0 i), rest.1, rest.2)
 
 -- ## ledgers that grow
 
@@ -219,6 +222,7 @@ pub keeps_grown : (blocks more : ℕ → Option Block) → Grows blocks more →
 keeps_grown blocks more grows known a keeps = record {
   known = λ x. record { lies = λ k e. lies_grown blocks more grows (a.place x) x k ((keeps.known x).lies k e); unplaced = (keeps.known x).unplaced; full = (keeps.known x).full };
   headers = λ address h e. (let of : Heads blocks address h = keeps.headers address h e in record { block = of.block; there = grows _ _ of.there; named = of.named; sized = of.sized });
+  home = keeps.home;
 }
 
 -- a world in which as much was handed out and made, or more
@@ -295,24 +299,17 @@ module _ (st : Setting) (w v : World) (blocks : ℕ → Option Block) (at : ℕ)
 
 -- ## a node's own segments
 
--- segments that are open were made, words were handed out of those alone, within each, and not too many were made
-pub record IsHome (a : Places) : Type 0 where
-  pub opened : (bunch s : ℕ) → a.opened bunch ≡ Some s → s ≤ a.made
-  pub above : (s : ℕ) → a.made < s → a.handed s ≡ 0
-  pub within : (s : ℕ) → a.handed s ≤ 1024
-  pub few : a.made ≤ 6000000
-
 -- places with a segment open for the bunch that has room for so many words
 pub record HasRoom (a b : Places) (bunch words : ℕ) : Type 0 where
   pub segment : ℕ
   pub open_for : b.opened bunch ≡ Some segment
-  pub home : IsHome b
+  pub home : IsHome b.opened b.handed b.made
   pub fits : b.handed segment + words ≤ 1024
   pub handed : (s : ℕ) → b.handed s ≡ a.handed s
   pub place : b.place ≡ a.place
   pub header : b.header ≡ a.header
 
-module _ (me : ℕ) (a : Places) (home : IsHome a) (bunch size : ℕ) where
+module _ (me : ℕ) (a : Places) (home : IsHome a.opened a.handed a.made) (bunch size : ℕ) where
   with_segment_room : size ≤ 32 → a.made < 6000000 → HasRoom a (with_segment me a bunch) bunch (4 + size)
   with_segment_room small few = record {
     segment = a.made + 1;
@@ -344,84 +341,92 @@ module _ (me : ℕ) (a : Places) (home : IsHome a) (bunch size : ℕ) where
 
 -- ## making
 
--- what making an object needs: the node is one of the store, its object a new one of the store
+-- an object is made: a later world has one block more, a new one, and the node's entries and places belong to its ledger
+pub record IsMade (st : Setting) (w v : World) (blocks : ℕ → Option Block) (known : ℕ → Option Known) (a : Places) (x : ℕ) (k : Known) : Type 0 where
+  pub more : ℕ → Option Block
+  pub later : IsLaterThan w v
+  pub grows : Grows blocks more
+  pub are : AreBlocks st v more
+  pub new_or_old : (c : ℕ) (b : Block) → more c ≡ Some b → ((b.name ≡ x) × (b.moves ≡ 0)) ⊎ (blocks c ≡ Some b)
+  pub keeps : Keeps more (put known x (Some k)) a
+
+-- the node is one of the store, its object a new one of the store, and the other nodes stay as they are
 module _ (st : Setting) (w v : World) (blocks : ℕ → Option Block) (are : AreBlocks st w blocks) (me : ℕ) (known : ℕ → Option Known) (x : ℕ) (k : Known)
-    (home : IsHome (w.places me)) (small : k.size ≤ 32)
-    (room : has_room (w.places me) ((w.places me).opened k.bunch) (4 + k.size) ≡ false → (w.places me).made < 6000000) where
-  abbrev a : Places
-  a = w.places me
+    (keeps : Keeps blocks known (w.places me)) (full : IsFull k.copy k.size) (small : k.size ≤ 32) (bunch : k.bunch < bunches_of st.births) (real : me < st.nodes)
+    (counted : IsCounted st v x) (unnamed : (c : ℕ) (b : Block) → blocks c ≡ Some b → b.name ≢ x) (made : (n : ℕ) → (w.state n).made ≤ (v.state n).made)
+    (elsewhere : (n : ℕ) → (me == n) ≡ false → (v.places n).handed ≡ (w.places n).handed) where
+  -- it is placed where there is room for it
+  placed : (b : Places) (r : HasRoom (w.places me) b k.bunch (4 + k.size)) → (v.places me).handed ≡ put b.handed r.segment (b.handed r.segment + (4 + k.size)) →
+      IsMade st w v blocks known (with_placed me b x k.size (Some r.segment)) x k
+  placed b r here = record {
+    more = put blocks word (Some new);
+    later = later;
+    grows = grows;
+    are = blocks_with st w v blocks word new later are is behind unnamed;
+    new_or_old = put_each (λ c o. (d : Block) → o ≡ Some d → ((d.name ≡ x) × (d.moves ≡ 0)) ⊎ (blocks c ≡ Some d)) blocks word (Some new)
+        (λ d e. inl (subst (λ (z : Block). (z.name ≡ x) × (z.moves ≡ 0)) (some_same e) (refl, refl))) (λ c _ d e. inr e);
+    keeps = object_keeps (put blocks word (Some new)) known (put known x (Some k)) (record b { handed = handed }) x k
+        (record { address = word; moves = 0 }) (put_same known x (Some k)) (λ y f. put_apart known x y (Some k) f) full (put_same blocks word (Some new)) (record {
+          known = subst (λ (f : ℕ → Option Place). (y : ℕ) → KeepsOne (put blocks word (Some new)) (f y) y (known y)) (sym r.place) grown.known;
+          headers = subst (AllHead (put blocks word (Some new))) (sym r.header) grown.headers;
+          home = record {
+            opened = r.home.opened;
+            above = put_each (λ s n. b.made < s → n ≡ 0) b.handed r.segment last (λ h. absurd (omega (arith, h, r.home.opened k.bunch r.segment r.open_for))) (λ s _. r.home.above s);
+            within = put_each (λ s n. n ≤ 1024) b.handed r.segment last r.fits (λ s _. r.home.within s);
+            few = r.home.few;
+          };
+        });
+  }
+    where
+      word : ℕ
+      word = address_word me r.segment (b.handed r.segment)
 
-  pub r : HasRoom a (with_room me a k.bunch k.size) k.bunch (4 + k.size)
-  r = finds_room me a home k.bunch k.size small room
+      new : Block
+      new = block_at x k (record { address = word; moves = 0 })
 
-  abbrev roomy : Places
-  roomy = with_room me a k.bunch k.size
+      last : ℕ
+      last = b.handed r.segment + (4 + k.size)
 
-  abbrev word : ℕ
-  word = address_word me r.segment (roomy.handed r.segment)
+      handed : ℕ → ℕ
+      handed = put b.handed r.segment last
 
-  abbrev its_block : Block
-  its_block = record { name = x; bunch = k.bunch; size = k.size; moves = 0 }
+      parts : (home_of word ≡ me) × (segment_of word ≡ r.segment) × (index_of word ≡ b.handed r.segment)
+      parts = parts_again me r.segment (b.handed r.segment) (omega (arith, r.home.opened k.bunch r.segment r.open_for, r.home.few)) (omega (arith, r.fits))
 
-  abbrev pub with_block : ℕ → Option Block
-  with_block = put blocks word (Some its_block)
+      later : IsLaterThan w v
+      later = record {
+        handed = λ n s. at_each_number (λ n. (w.places n).handed s ≤ (v.places n).handed s) me
+            (subst (λ (f : ℕ → ℕ). (w.places me).handed s ≤ f s) (sym here)
+            (put_each (λ s n. (w.places me).handed s ≤ n) b.handed r.segment last (omega (arith, r.handed r.segment)) (λ s _. omega (arith, r.handed s)) s))
+            (λ n apart. omega (arith, ap (λ (f : ℕ → ℕ). f s) (elsewhere n apart))) n;
+        made = made;
+      }
 
-  -- a block is the new one, or one that was there
-  pub made_or_old : (c : ℕ) (b : Block) → with_block c ≡ Some b → ((b.name ≡ x) × (b.moves ≡ 0)) ⊎ (blocks c ≡ Some b)
-  made_or_old = put_each (λ c o. (b : Block) → o ≡ Some b → ((b.name ≡ x) × (b.moves ≡ 0)) ⊎ (blocks c ≡ Some b)) blocks word (Some its_block)
-      (λ b e. inl (sym (ap (λ (z : Block). z.name) (some_same e)), sym (ap (λ (z : Block). z.moves) (some_same e)))) (λ c _ b e. inr e)
+      is : IsBlock st v word new
+      is = record {
+        home = omega (arith, parts.0, real);
+        handed = (let now : (v.places (home_of word)).handed (segment_of word) ≡ b.handed r.segment + (4 + k.size) =
+            (λ i. (v.places (parts.0 i)).handed (parts.1 i)) ∙ ap (λ (f : ℕ → ℕ). f r.segment) here ∙ put_same b.handed r.segment _ in
+            omega (arith, now, parts.2));
+        inside = omega (arith, parts.2, r.fits);
+        counted = counted;
+        bunch = bunch;
+        size = small;
+      }
 
-  made_is : with_made me a x k.bunch k.size ≡ with_placed me roomy x k.size (Some r.segment)
-  made_is = ap (with_placed me roomy x k.size) r.open_for
+      behind : (w.places (home_of word)).handed (segment_of word) ≤ index_of word
+      behind = (let before : (w.places (home_of word)).handed (segment_of word) ≡ b.handed r.segment = (λ i. (w.places (parts.0 i)).handed (parts.1 i)) ∙ sym (r.handed r.segment) in
+          omega (arith, before, parts.2))
 
-  word_is : (home_of word ≡ me) × (segment_of word ≡ r.segment) × (index_of word ≡ roomy.handed r.segment)
-  word_is = parts_again me r.segment (roomy.handed r.segment) (omega (arith, r.home.opened k.bunch r.segment r.open_for, r.home.few)) (omega (arith, r.fits))
+      grows : Grows blocks (put blocks word (Some new))
+      grows = block_added st w v blocks word new later are is behind unnamed
 
-  -- the words handed out after it
-  handed_is : (s : ℕ) → (with_made me a x k.bunch k.size).handed s ≡ put roomy.handed r.segment (roomy.handed r.segment + (4 + k.size)) s
-  handed_is s = ap (λ (p : Places). p.handed s) made_is
+      grown : Keeps (put blocks word (Some new)) known (w.places me)
+      grown = keeps_grown blocks _ grows known (w.places me) keeps
 
-  pub home_made : IsHome (with_made me a x k.bunch k.size)
-  home_made = subst IsHome (sym made_is) (record {
-    opened = r.home.opened;
-    above = put_each (λ s n. roomy.made < s → n ≡ 0) roomy.handed r.segment (roomy.handed r.segment + (4 + k.size))
-        (λ h. absurd (omega (arith, h, r.home.opened k.bunch r.segment r.open_for))) (λ s _. r.home.above s);
-    within = put_each (λ s n. n ≤ 1024) roomy.handed r.segment (roomy.handed r.segment + (4 + k.size)) r.fits (λ s _. r.home.within s);
-    few = r.home.few;
-  })
-
-  pub handed_more : (s : ℕ) → a.handed s ≤ (with_made me a x k.bunch k.size).handed s
-  handed_more s = subst (λ (n : ℕ). a.handed s ≤ n) (sym (handed_is s))
-      (put_each (λ t n. a.handed t ≤ n) roomy.handed r.segment (roomy.handed r.segment + (4 + k.size)) (omega (arith, r.handed r.segment)) (λ t _. omega (arith, r.handed t)) s)
-
-  module _ (later : IsLaterThan w v) (real : me < st.nodes) (places : (v.places me).handed ≡ (with_made me a x k.bunch k.size).handed) (bunch : k.bunch < bunches_of st.births) (counted : IsCounted st v x)
-      (unnamed : (c : ℕ) (b : Block) → blocks c ≡ Some b → b.name ≢ x) where
-    in_its_segment : IsBlock st v word its_block
-    in_its_segment = record {
-      home = omega (arith, word_is.0, real);
-      handed = (let now : (v.places (home_of word)).handed (segment_of word) ≡ roomy.handed r.segment + (4 + k.size) =
-          (λ i. (v.places (word_is.0 i)).handed (word_is.1 i)) ∙ ap (λ (f : ℕ → ℕ). f r.segment) places ∙ handed_is r.segment ∙ put_same roomy.handed r.segment _ in
-          omega (arith, now, word_is.2));
-      inside = omega (arith, word_is.2, r.fits);
-      counted = counted;
-      bunch = bunch;
-      size = small;
-    }
-
-    behind : (w.places (home_of word)).handed (segment_of word) ≤ index_of word
-    behind =
-        let now : (w.places (home_of word)).handed (segment_of word) ≡ roomy.handed r.segment = (λ i. (w.places (word_is.0 i)).handed (word_is.1 i)) ∙ sym (r.handed r.segment) in
-        omega (arith, now, word_is.2)
-
-    pub made_grows : Grows blocks with_block
-    made_grows = block_added st w v blocks word its_block later are in_its_segment behind unnamed
-
-    pub made_blocks : AreBlocks st v with_block
-    made_blocks = blocks_with st w v blocks word its_block later are in_its_segment behind unnamed
-
-    pub made_keeps : Keeps blocks known a → ((fields : List ViewField) → k.copy ≡ Some fields → length fields ≡ k.size) → Keeps with_block (put known x (Some k)) (with_made me a x k.bunch k.size)
-    made_keeps keeps full = subst (Keeps with_block (put known x (Some k))) (sym made_is)
-        (object_keeps with_block known (put known x (Some k)) (record roomy { handed = put roomy.handed r.segment (roomy.handed r.segment + (4 + k.size)) }) x k
-        (record { address = word; moves = 0 }) (put_same known x (Some k)) (λ y f. put_apart known x y (Some k) f) full
-        (put_same blocks word (Some its_block))
-        (subst (λ (p : (ℕ → Option Place) × (ℕ → Option Header)). KeepsAt with_block known p.0 p.1) (λ i. (sym r.place i, sym r.header i)) (keeps_grown blocks with_block made_grows known a keeps)))
+  pub object_made : (has_room (w.places me) ((w.places me).opened k.bunch) (4 + k.size) ≡ false → (w.places me).made < 6000000) →
+      (v.places me).handed ≡ (with_made me (w.places me) x k.bunch k.size).handed → IsMade st w v blocks known (with_made me (w.places me) x k.bunch k.size) x k
+  object_made room here =
+      let r : HasRoom (w.places me) (with_room me (w.places me) k.bunch k.size) k.bunch (4 + k.size) = finds_room me (w.places me) keeps.home k.bunch k.size small room in
+      subst (λ (o : Option ℕ). (v.places me).handed ≡ (with_placed me (with_room me (w.places me) k.bunch k.size) x k.size o).handed →
+      IsMade st w v blocks known (with_placed me (with_room me (w.places me) k.bunch k.size) x k.size o) x k) (sym r.open_for) (placed _ r) here

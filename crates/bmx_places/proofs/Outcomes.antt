@@ -12,7 +12,7 @@ use Rattle.bmx_store_laws.proofs.Words.answer
 use Rattle.bmx_store_laws.proofs.Words.field
 use Rattle.bmx_protocol.specs.Changes.{Makes}
 use Rattle.bmx_places.specs.Ledger.{Block, block_at, LiesIn, IsOf}
-use Rattle.bmx_places.proofs.Blocks.{Keeps, r, IsFull, one_keeps, IsTold, KeepsOne}
+use Rattle.bmx_places.proofs.Blocks.{Keeps, IsFull, one_keeps, IsTold, KeepsOne}
 
 -- ## shapes
 
@@ -58,6 +58,7 @@ module _ (blocks : ℕ → Option Block) (a : Places) (known : ℕ → Option Kn
           (record { place = l.place; lies = l.lies; block = l.block ∙ (λ i. Some (record { name = name; bunch = old.2 i; size = old.3 i; moves = l.place.moves })) }) full)
           (λ x _. b.keeps.known x);
       headers = b.keeps.headers;
+      home = b.keeps.home;
     };
     records = b.records;
     shapes = put_each (λ x o. shape o ≡ shape (known x)) s.known name (Some k) (sym of) (λ x _. b.shapes x);
@@ -250,12 +251,18 @@ either_way : {A : Type 0} (b : Bool) (x y : A) → x ≡ y → cond b x y ≡ y
 either_way true x y e = e
 either_way false x y e = refl
 
+-- what making an object comes to
+abbrev pub making : ℕ → NodeState → ℕ → ℕ → ℕ → Reaction
+making me s register bunch size = record {
+  changes = Knows (next_name me s) (new_object bunch size) ∷ Sets register (val.Ref (next_name me s)) ∷ Makes ∷ [];
+  drafts = [];
+  answer = answer.Nil;
+}
+
 -- what a command comes to: plain changes, or the making of a new object in a bunch
 pub data Comes (blocks : ℕ → Option Block) (me : ℕ) (s : NodeState) (full : Bool) (c : Command) (o : Reaction) : Type 0 where
   Plainly : IsPlain blocks s.known o → ((n : Node) → cond (is_nil o.answer) (made_places me n c) n.places ≡ n.places) → Comes blocks me s full c o
-  New : (register bunch size : ℕ) → c ≡ command.New register bunch size → full ≡ false →
-      o ≡ record { changes = Knows (next_name me s) (new_object bunch size) ∷ Sets register (val.Ref (next_name me s)) ∷ Makes ∷ []; drafts = []; answer = answer.Nil } →
-      Comes blocks me s full c o
+  New : (register bunch size : ℕ) → c ≡ command.New register bunch size → full ≡ false → o ≡ making me s register bunch size → Comes blocks me s full c o
 
 module _ (blocks : ℕ → Option Block) (me : ℕ) (s : NodeState) (a : Places) (full : Bool) (lies : ℕ → Place) (keeps : Keeps blocks s.known a)
     (told : (x : ℕ) (p : Place) → a.place x ≡ Some p → lies x ≡ p) (aware : (x : ℕ) → s.known x ≡ None → FreeOf x s.known)
