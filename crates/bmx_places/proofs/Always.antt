@@ -1,6 +1,6 @@
 -- The laws, over every legal history.
-use Rattle.bmx_store_laws.proofs.Words.{◌≡◌, ℕ, refl, ap, sym, subst, ◌∙◌, false, cond, List, [], ◌∷◌, ◌<◌, arith, drop, length, zero, suc, inl, inr, ◌≢◌, option_map, Option, Some, ◌||◌, Contains, IsSome, IsOpening, Info, Place, Letter, Transition}
-use Rattle.bmx_store_laws.proofs.Words.{note_transition, some_same, none_some, Every, in_flight, taken, issued, AreAfter, IsLegal, Setting, NodeState, share_of, only, name_in, note_in, took, infos, Node, IsStep, some_clash, world_of, World, Event, Done, Take}
+use Rattle.bmx_store_laws.proofs.Words.{◌≡◌, ℕ, refl, ap, sym, subst, ◌∙◌, false, cond, List, ◌∷◌, ◌<◌, arith, inl, inr, ◌≢◌, option_map, Option, Some, ◌||◌, Contains, IsSome, IsOpening, Info, Place, Letter, Transition}
+use Rattle.bmx_store_laws.proofs.Words.{note_transition, some_same, none_some, in_flight, AreAfter, IsLegal, Setting, NodeState, share_of, only, name_in, note_in, took, infos, Node, IsStep, some_clash, world_of, World, Event, Done, Take}
 use Rattle.bmx_store_laws.proofs.Words.{some_or_none, every_there, along_history}
 use Rattle.bmx_store_laws.proofs.Words.answer
 use Rattle.bmx_places.specs.Ledger.{Block, block_at, block_of, LiesIn, IsOf, HasLedger}
@@ -8,19 +8,13 @@ use Rattle.bmx_places.specs.Laws.{HasShape, KnownAt, ToldIn, HasPlace, At, Betwe
 use Rattle.bmx_places.specs.Laws as law
 use Rattle.bmx_places.proofs.Blocks.{hears_all, IsTold}
 use Rattle.bmx_places.proofs.Kept.{Kept, one_more}
-use Rattle.bmx_places.proofs.Next.{IsTakeable, next_is_takeable, all_issued, IsIssued}
+use Rattle.bmx_places.proofs.Next.{IsTakeable, next_is_takeable, flight_right}
 use Rattle.bmx_places.proofs.Opened.{first_kept}
 
 kept_after : (st : Setting) (history : List Event) (nodes : ℕ → Node) → IsOpening st.nodes st.limit st.births → IsLegal st history → AreAfter st history nodes → Kept st history nodes
 kept_after st history nodes opening = along_history st (Kept st) (λ past nodes e n ev kept. one_more st past nodes e n opening ev.legal ev.reached ev.step ev.fits kept) (first_kept st opening) history nodes
 
 -- ## letters in flight
-
-every_drop : {A : Type 0} (P : A → Type 0) (k : ℕ) (xs : List A) → Every P xs → Every P (drop k xs)
-every_drop P zero [] h = tt
-every_drop P zero (x ∷ xs) h = h
-every_drop P (suc k) [] h = tt
-every_drop P (suc k) (x ∷ xs) h = every_drop P k xs h.1
 
 module _ (st : Setting) (history : List Event) (nodes : ℕ → Node) (opening : IsOpening st.nodes st.limit st.births) (legal : IsLegal st history) (after : AreAfter st history nodes) where
   k : Kept st history nodes
@@ -29,12 +23,8 @@ module _ (st : Setting) (history : List Event) (nodes : ℕ → Node) (opening :
   abbrev w : World
   w = world_of nodes history
 
-  letter_right : (n m : ℕ) (l : Letter) → Contains (in_flight n m history) l → IsIssued k.blocks l
-  letter_right n m l there = every_there (IsIssued k.blocks) (in_flight n m history) l
-      (every_drop (IsIssued k.blocks) (length (taken n m history)) (issued n m history) (all_issued (IsIssued k.blocks) n m history k.letters)) there
-
   info_told : (n m : ℕ) (l : Letter) (info : Info) → Contains (in_flight n m history) l → Contains (infos l.msg) info → IsTold k.blocks info
-  info_told n m l info there within = every_there (IsTold k.blocks) (infos l.msg) info (letter_right n m l there).right.told within
+  info_told n m l info there within = every_there (IsTold k.blocks) (infos l.msg) info (flight_right k.blocks history k.letters n m l there).right.told within
 
   pub blocks_are_kept : HasLedger st w
   blocks_are_kept = record {
@@ -85,7 +75,7 @@ module _ (st : Setting) (history : List Event) (nodes : ℕ → Node) (opening :
   }
 
   pub no_info_clashes : (from me : ℕ) (l : Letter) → Contains (in_flight from me history) l → some_clash me from (nodes me).state.known (nodes me).places (infos l.msg) ≡ false
-  no_info_clashes from me l there = (hears_all st w k.blocks k.are me from (infos l.msg) (nodes me).state (nodes me).places (letter_right from me l there).right.told (k.each me).keeps (λ n. refl)).0
+  no_info_clashes from me l there = (hears_all st w k.blocks k.are me from (infos l.msg) (nodes me).state (nodes me).places (flight_right k.blocks history k.letters from me l there).right.told (k.each me).keeps (λ n. refl)).0
 
   pub next_is_taken : (from me stamp : ℕ) (l : Letter) (rest : List Letter) (done : Done) (then : Node) → from < st.nodes → me < st.nodes → in_flight from me history ≡ l ∷ rest →
       IsStep st me (nodes me) stamp (Take from l) done then → done.answer ≡ answer.Nil

@@ -1,9 +1,9 @@
 -- The first letter in flight between two nodes is taken: nothing that makes a letter stray can be said of it.
-use Rattle.bmx_store_laws.proofs.Words.{◌≡◌, ℕ, refl, ap, sym, subst, ◌∙◌, Bool, true, false, cond, List, [], ◌∷◌, map, ◌<◌, arith, drop, length, zero, suc, ◌+◌, ◌≤◌, ◌≢◌, ◌^◌, ltb-true, ltb-false, nat_tests, sum_by-cons, list_any, option_map, option_map_or}
+use Rattle.bmx_store_laws.proofs.Words.{◌≡◌, ℕ, refl, ap, sym, subst, ◌∙◌, true, false, cond, List, [], ◌∷◌, map, ◌<◌, arith, drop, length, zero, suc, ◌+◌, ◌≤◌, ◌≢◌, ◌^◌, ltb-true, ltb-false, nat_tests, sum_by-cons, list_any, option_map, option_map_or}
 use Rattle.bmx_store_laws.proofs.Words.{Option, Some, None, is_some, slice_get, ◌==◌, ◌&&◌, nat_lt, not, ◌||◌, IsSome, IsOpening, bunches_of, maker, count_of, home_of, Info, Mode, Read, Write, Field, Letter, Msg, ReadReq, WriteReq, ReadGrant, WriteGrant, Note}
 use Rattle.bmx_store_laws.proofs.Words.{Asks, Transition, note_transition, is_request_of, nobody_asks_itself, NoneIsStray, IsApart, hears, said_transition, eqb_same, some_same, none_some, eqb_of, Every, every_append, in_flight, taken, letters_to, issued}
 use Rattle.bmx_store_laws.proofs.Words.{AreAfter, IsLegal, Setting, NodeState, share_of, grant_in, name_in, note_in, infos, Node, is_no_node, is_bad_msg, is_bad_letter, some_clash, is_no_name, is_bad_info, asker_in, world_of, World, Event, Sending}
-use Rattle.bmx_store_laws.proofs.Words.{numbered_at, some_is, either, first_there, issued_to, each_name, Came, came_after, wants_stand_once, names_are_counted, seen_known, seen, seen_message, first_world, Asked, letters_about, times_at, IsCounted}
+use Rattle.bmx_store_laws.proofs.Words.{inl, inr, Contains, tested, every_there, contains_drop, numbered_at, some_is, either, first_there, issued_to, each_name, Came, came_after, wants_stand_once, names_are_counted, seen_known, seen, seen_message, first_world, Asked, letters_about, times_at, IsCounted}
 use Rattle.bmx_token_model.proofs.Stated.{no_letter_is_stray}
 use Rattle.bmx_protocol.specs.Worlds.{Between}
 use Rattle.bmx_places.specs.Ledger.{Block, IsBlock, AreBlocks, block_of}
@@ -36,6 +36,10 @@ pub all_issued : (P : Letter → Type 0) (n m : ℕ) (past : List Event) → Eve
 all_issued P n m [] h = tt
 all_issued P n m (e ∷ past) h = (let rest : Every P (issued n m past) = all_issued P n m past h.1 in
     either (Every P) (e.node == n) _ _ (λ _. every_append P (letters_to m e.done.letters) (issued n m past) (issued_to P m e.done.letters h.0) rest) (λ _. rest))
+
+-- so is each letter in flight
+pub flight_right : (blocks : ℕ → Option Block) (past : List Event) → EachIssued blocks past → (n m : ℕ) (l : Letter) → Contains (in_flight n m past) l → IsIssued blocks l
+flight_right blocks past each n m l there = every_there (IsIssued blocks) (issued n m past) l (all_issued (IsIssued blocks) n m past each) (contains_drop _ _ l there)
 
 drop_get : {A : Type 0} (xs : List A) (i : ℕ) (x : A) (rest : List A) → drop i xs ≡ x ∷ rest → slice_get xs i ≡ Some x
 drop_get (y ∷ xs) zero x rest e = (let same : y ≡ x = cc in ap (λ z. Some z) same)
@@ -72,6 +76,10 @@ full_fits _ full = refl
 mapped_some : {A B : Type 0} (f : A → B) (o : Option A) → IsSome (option_map f o) → is_some o ≡ true
 mapped_some f None h = h
 mapped_some f (Some a) h = refl
+
+request_of : (m : Mode) (a : ℕ) → is_request_of m a (Asks m a) ≡ true
+request_of Read a = eqb_same a
+request_of Write a = eqb_same a
 
 -- ## the letter
 
@@ -112,21 +120,12 @@ module _ (st : Setting) (past : List Event) (nodes : ℕ → Node) (opening : Is
       let here : (seen x w).channel me me ≡ seen_message x l ∷ map (seen_message x) rest = subst (λ (n : ℕ). (seen x w).channel n me ≡ seen_message x l ∷ map (seen_message x) rest) e seen_first in
       none_some (sym (of.letters me (seen_message x l) (first_there _ _ _ here)) ∙ its_note)
 
-  its_place : slice_get (issued from me past) (length (taken from me past)) ≡ Some l
-  its_place = drop_get (issued from me past) (length (taken from me past)) l rest first
-
-  its_number : l.seq ≡ s.taken from + 1
-  its_number = omega (arith, numbered_at (issued from me past) 0 (length (taken from me past)) l (came.channels.numbers from me) its_place, came.channels.counts from me)
-
   its : IsIssued blocks l
-  its = every_at (IsIssued blocks) (issued from me past) (length (taken from me past)) l (all_issued (IsIssued blocks) from me past letters) its_place
+  its = flight_right blocks past letters from me l (first_there _ _ _ first)
 
   -- a name that was counted can be
   name_not : (y : ℕ) → IsCounted st w y → is_no_name st me s y ≡ false
   name_not y c = no_name st me s y c.by_a_node (λ e. subst (λ (n : ℕ). count_of y ≤ (nodes n).state.made) e c.made)
-
-  its_name : is_no_name st me s x ≡ false
-  its_name = name_not x (names_are_counted st past nodes opening legal after x (Between from me l real real_me (first_there _ _ _ first) (0, omega arith, refl)))
 
   -- what it tells of can be
   info_not : (info : Info) → IsTold blocks info → is_bad_info st me s info ≡ false
@@ -140,39 +139,17 @@ module _ (st : Setting) (past : List Event) (nodes : ℕ → Node) (opening : Is
 
   -- who asks is a node of the store
   asks_not : (m : Mode) (a : ℕ) → note_in l.msg ≡ Asks m a → is_no_node st a ≡ false
-  asks_not m a e = by_test (nat_lt a st.nodes) refl
-    where
-      self : (m : Mode) → is_request_of m a (Asks m a) ≡ true
-      self Read = eqb_same a
-      self Write = eqb_same a
-
-      test : Letter → Bool
-      test k = (name_in k.msg == x) && is_request_of m a (note_in k.msg)
-
-      counted : letters_about x (is_request_of m a) (in_flight from me past) ≡ 1 + letters_about x (is_request_of m a) rest
-      counted =
-          ap (letters_about x (is_request_of m a)) first
-          ∙ sum_by-cons (λ (k : Letter). cond {A = ℕ} ((name_in k.msg == x) && is_request_of m a (note_in k.msg)) 1 0) l rest
-          ∙ (λ i. cond {A = ℕ} (eqb_same x i && (ap (is_request_of m a) e ∙ self m) i) 1 0 + letters_about x (is_request_of m a) rest)
-
-      by_test : (b : Bool) → nat_lt a st.nodes ≡ b → is_no_node st a ≡ false
-      by_test true h = no_node st a (ltb-true a st.nodes h)
-      by_test false h =
-          let none : times_at w x m a (Asked from me) ≡ 0 = (wants_stand_once st past nodes opening legal after x).others m a
-          (λ waits. none_some (sym (came.beyond a (λ less. omega (arith, less, ltb-false a st.nodes h))) ∙ ap seen_known waits.knows)) (Asked from me) in
-          absurd (omega (arith, none, counted))
-
-  asker_not : option_map_or (is_no_node st) (asker_in l.msg) false ≡ false
-  asker_not = asker_fits st l.msg asks_not
-
-  full_not : option_map_or (λ (g : Info × List Field). not (length g.1 == g.0.size)) (grant_in l.msg) false ≡ false
-  full_not = full_fits l.msg its.right.full
-
-  msg_not : is_bad_msg st me s l.msg ≡ false
-  msg_not = λ i. its_name i || asker_not i || full_not i || infos_not (infos l.msg) its.right.told i
-
-  letter_not : is_bad_letter st me s from l ≡ false
-  letter_not = good_letter st me from s l apart real its_number its.stamp msg_not
+  asks_not m a e = elim (tested (nat_lt a st.nodes)) [
+    | inl h ↦ no_node st a (ltb-true a st.nodes h)
+    | inr h ↦ (let self : is_request_of m a (Asks m a) ≡ true = request_of m a in
+        let counted : letters_about x (is_request_of m a) (in_flight from me past) ≡ 1 + letters_about x (is_request_of m a) rest =
+        ap (letters_about x (is_request_of m a)) first
+        ∙ sum_by-cons (λ (k : Letter). cond {A = ℕ} ((name_in k.msg == x) && is_request_of m a (note_in k.msg)) 1 0) l rest
+        ∙ (λ i. cond {A = ℕ} (eqb_same x i && (ap (is_request_of m a) e ∙ self) i) 1 0 + letters_about x (is_request_of m a) rest) in
+        let none : times_at w x m a (Asked from me) ≡ 0 = (wants_stand_once st past nodes opening legal after x).others m a
+        (λ waits. none_some (sym (came.beyond a (λ less. omega (arith, less, ltb-false a st.nodes h))) ∙ ap seen_known waits.knows)) (Asked from me) in
+        absurd (omega (arith, none, counted)))
+  ]
 
   -- it has its transition
   its_turn : (t : Transition) × (note_transition me from (note_in l.msg) (option_map share_of (s.known x)) ≡ Some t)
@@ -181,10 +158,19 @@ module _ (st : Setting) (past : List Event) (nodes : ℕ → Node) (opening : Is
       (each_name NoneIsStray no_letter_is_stray st past nodes opening legal after x from me (seen_message x l) (map (seen_message x) rest) apart seen_first)))
 
   pub next_is_takeable : IsTakeable st blocks me from (nodes me) l
-  next_is_takeable = record {
-    issued = its;
-    good = letter_not;
-    calm = (hears_all st w blocks are me from (infos l.msg) s (nodes me).places its.right.told keeps (λ n. refl)).0;
-    turn = its_turn.0;
-    turns = its_turn.1;
-  }
+  next_is_takeable =
+      let number : l.seq ≡ s.taken from + 1 = omega (
+        arith,
+        numbered_at (issued from me past) 0 (length (taken from me past)) l (came.channels.numbers from me) (drop_get (issued from me past) _ l rest first),
+        came.channels.counts from me,
+      ) in
+      let named : is_no_name st me s x ≡ false =
+      name_not x (names_are_counted st past nodes opening legal after x (Between from me l real real_me (first_there _ _ _ first) (0, omega arith, refl))) in
+      record {
+        issued = its;
+        good = good_letter st me from s l apart real number its.stamp
+            (λ i. named i || asker_fits st l.msg asks_not i || full_fits l.msg its.right.full i || infos_not (infos l.msg) its.right.told i);
+        calm = (hears_all st w blocks are me from (infos l.msg) s (nodes me).places its.right.told keeps (λ n. refl)).0;
+        turn = its_turn.0;
+        turns = its_turn.1;
+      }

@@ -1,7 +1,7 @@
 -- What a rule comes to for blocks: plain changes, which make nothing known and change no bunch or size, and messages of
 -- known objects, or a new object; and that no rule but that of a letter answers that it is stray.
 use Rattle.bmx_store_laws.proofs.Words.{◌≡◌, ℕ, refl, ap, sym, subst, ◌∙◌, Bool, true, false, cond, List, [], ◌∷◌, map, arith, length, ◌⊎◌, inl, inr, ◌+◌, ◌++◌, ◌≢◌, length-set, length-map, flat_map, list_any, option_map, option_map_or, Option, Some, None}
-use Rattle.bmx_store_laws.proofs.Words.{is_some, unwrap_or, ◌||◌, slice_set, filter_map, put, put_at, Info, Place, Command, Read, Write, Val, targets, given, Field, Msg, blank, sent_by, got_by, Record, State, target_of, effect, Effect, MakesOne, SetsOne}
+use Rattle.bmx_store_laws.proofs.Words.{is_some, unwrap_or, ◌||◌, slice_set, filter_map, put, put_at, Info, Place, Command, Read, Write, Val, targets, given, Field, Msg, blank, sent_by, got_by, Record, target_of, effect, Effect, MakesOne, SetsOne}
 use Rattle.bmx_store_laws.proofs.Words.{Stores, Share, Note, Asks, Grants, Send, Transition, Operation, Acquires, Releases, transition_of, Serves, Owner, is_grant, some_same, none_some, Every, Each, kept_by_each, each_append, Knows, after_changes, Change, Sets}
 use Rattle.bmx_store_laws.proofs.Words.{Hears, after_change, Gets, Gives, Issues, record_of, issued, NodeState, Known, seen_graph, share_of, field_of, Places, Draft, Reaction, message, drafts_of, info_of, told_fields, grant_in, operation_answer}
 use Rattle.bmx_store_laws.proofs.Words.{after_operation, operation_rule, next_name, new_object, graph_changes, token_rule, command_rule, about, stored, told_field, infos, known_change, info_in, Node, numbered, sent_changes, is_nil, made_places}
@@ -52,35 +52,31 @@ module _ (blocks : ℕ → Option Block) (a : Places) (known : ℕ → Option Kn
   -- what is known is of another token, or has other fields
   known_again : (s : NodeState) (name : ℕ) (k : Known) → shape (known name) ≡ Some (k.bunch, k.size) → IsFull k.copy k.size → Belongs blocks a known s →
       Belongs blocks a known (record s { known = put s.known name (Some k) })
-  known_again s name k of full b = record {
-    keeps = record {
-      known = put_each (λ x o. KeepsOne blocks (a.place x) x o) s.known name (Some k) (one_keeps blocks (a.place name) name k
-          (record { place = l.place; lies = l.lies; block = l.block ∙ (λ i. Some (record { name = name; bunch = old.2 i; size = old.3 i; moves = l.place.moves })) }) full)
-          (λ x _. b.keeps.known x);
-      headers = b.keeps.headers;
-      home = b.keeps.home;
-    };
-    records = b.records;
-    shapes = put_each (λ x o. shape o ≡ shape (known x)) s.known name (Some k) (sym of) (λ x _. b.shapes x);
-  }
-    where
-      old : (j : Known) × (s.known name ≡ Some j) × (j.bunch ≡ k.bunch) × (j.size ≡ k.size)
-      old = shaped (s.known name) k.bunch k.size (b.shapes name ∙ of)
-
-      l : LiesIn blocks (a.place name) name old.0
-      l = (b.keeps.known name).lies old.0 old.1
+  known_again s name k of full b =
+      let old = shaped (s.known name) k.bunch k.size (b.shapes name ∙ of) in
+      let l : LiesIn blocks (a.place name) name old.0 = (b.keeps.known name).lies old.0 old.1 in
+      record {
+        keeps = record {
+          known = put_each (λ x o. KeepsOne blocks (a.place x) x o) s.known name (Some k) (one_keeps blocks (a.place name) name k
+              (record { place = l.place; lies = l.lies; block = l.block ∙ (λ i. Some (record { name = name; bunch = old.2 i; size = old.3 i; moves = l.place.moves })) }) full)
+              (λ x _. b.keeps.known x);
+          headers = b.keeps.headers;
+          home = b.keeps.home;
+        };
+        records = b.records;
+        shapes = put_each (λ x o. shape o ≡ shape (known x)) s.known name (Some k) (sym of) (λ x _. b.shapes x);
+      }
 
   -- the record of a known name is of its bunch
   record_is_of : (s : NodeState) (name m : ℕ) → IsKnown known name → Belongs blocks a known s → IsOf blocks name (record_of s name m).bunch
   record_is_of s name m is b = by_record (s.entering name m) refl
     where
-      old : (j : Known) × (s.known name ≡ Some j) × (j.bunch ≡ is.0.bunch) × (j.size ≡ is.0.size)
-      old = shaped (s.known name) is.0.bunch is.0.size (b.shapes name ∙ ap shape is.1)
-
       by_record : (r : Option Record) → s.entering name m ≡ r → IsOf blocks name (unwrap_or r (blank name (option_map_or (λ (j : Known). j.bunch) (s.known name) 0) m)).bunch
       by_record (Some r) e = b.records name m r e
-      by_record None e = (let l : LiesIn blocks (a.place name) name old.0 = (b.keeps.known name).lies old.0 old.1 in
-          record { address = l.place.address; block = block_at name old.0 l.place; there = l.block; named = refl; of = ap (λ (k : Option Known). option_map_or (λ (j : Known). j.bunch) k 0) (sym old.1) })
+      by_record None e =
+          let old = shaped (s.known name) is.0.bunch is.0.size (b.shapes name ∙ ap shape is.1) in
+          let l : LiesIn blocks (a.place name) name old.0 = (b.keeps.known name).lies old.0 old.1 in
+          record { address = l.place.address; block = block_at name old.0 l.place; there = l.block; named = refl; of = ap (λ (k : Option Known). option_map_or (λ (j : Known). j.bunch) k 0) (sym old.1) }
 
   record_again : (s : NodeState) (name m : ℕ) (r : Record) → r.bunch ≡ (record_of s name m).bunch → IsKnown known name →
       Belongs blocks a known s → Belongs blocks a known (record s { entering = put_at s.entering name m (Some r) })
@@ -141,9 +137,6 @@ silent_drafts blocks known s lies name (n ∷ sends) none = (other_draft blocks 
 abbrev Granting : List Send → Bool
 Granting sends = list_any (λ (n : Send). is_grant n.note) sends
 
-or_right : (a b : Bool) → b ≡ true → (a || b) ≡ true
-or_right a b h = grind arith
-
 -- nothing is known of what nothing refers to: so what a copy refers to is known
 module _ (blocks : ℕ → Option Block) (s : NodeState) (a : Places) (lies : ℕ → Place) (keeps : Keeps blocks s.known a)
     (told : (x : ℕ) (p : Place) → a.place x ≡ Some p → lies x ≡ p) (aware : (x : ℕ) → s.known x ≡ None → FreeOf x s.known) where
@@ -189,7 +182,7 @@ module _ (blocks : ℕ → Option Block) (s : NodeState) (a : Places) (lies : �
 
     notes_drafts : (sends : List Send) → (Granting sends ≡ true → is_some k.copy ≡ true) → Every (IsDraft blocks s.known) (drafts_of s lies name sends)
     notes_drafts [] has = tt
-    notes_drafts (n ∷ sends) has = (note_draft n.to n.note (λ e. has (λ i. e i || Granting sends)), notes_drafts sends (λ e. has (or_right (is_grant n.note) (Granting sends) e)))
+    notes_drafts (n ∷ sends) has = (note_draft n.to n.note (λ e. has (λ i. e i || Granting sends)), notes_drafts sends (λ e. has (grind arith)))
 
 -- ## outcomes
 
@@ -225,19 +218,8 @@ abbrev IsStoring : Effect → Type 0
 IsStoring (MakesOne register bunch size) = ⊥
 IsStoring _ = Unit {0}
 
--- what it changes is an effect of the graph that the node sees, or nothing
-storing_changes : (me : ℕ) (s : NodeState) (full : Bool) (lies : ℕ → Place) (c : Command) → makes_nothing c ≡ true →
-    ((command_rule me s full lies c (about c)).changes ≡ graph_changes me s (effect (seen_graph me s) me c)) ⊎ ((command_rule me s full lies c (about c)).changes ≡ [])
-storing_changes me s full lies c plain = grind arith
-
-storing_none : (g : State) (me : ℕ) (c : Command) → makes_nothing c ≡ true → IsStoring (effect g me c)
-storing_none g me c plain = grind arith
-
-storing_silent : (me : ℕ) (s : NodeState) (full : Bool) (lies : ℕ → Place) (c : Command) → makes_nothing c ≡ true → (command_rule me s full lies c (about c)).drafts ≡ []
-storing_silent me s full lies c plain = grind arith
-
-storing_places : (me : ℕ) (n : Node) (c : Command) → makes_nothing c ≡ true → made_places me n c ≡ n.places
-storing_places me n c plain = grind arith
+unmade : (me : ℕ) (n : Node) (c : Command) → makes_nothing c ≡ true → made_places me n c ≡ n.places
+unmade me n c plain = grind arith
 
 -- no rule but that of a letter answers that it is stray
 pub never_stray : (me : ℕ) (s : NodeState) (full : Bool) (lies : ℕ → Place) (c : Command) → (command_rule me s full lies c (about c)).answer ≢ answer.Stray
@@ -297,11 +279,13 @@ module _ (blocks : ℕ → Option Block) (me : ℕ) (s : NodeState) (a : Places)
   token_plain act None = record { changes = tt; drafts = tt }
   token_plain act (Some name) = act_plain act _ name (s.known name) refl
 
+  -- what such a command changes is an effect of the graph that the node sees, or nothing
   storing_plain : (c : Command) → makes_nothing c ≡ true → IsPlain blocks s.known (command_rule me s full lies c (about c))
-  storing_plain c plain = record {
-    changes = elim (storing_changes me s full lies c plain) [ inl e ↦ rw e (effect_plain (effect (seen_graph me s) me c) (storing_none (seen_graph me s) me c plain)) | inr e ↦ rw e tt ];
-    drafts = rw (storing_silent me s full lies c plain) tt;
-  }
+  storing_plain c plain =
+      let storing : IsStoring (effect (seen_graph me s) me c) = grind arith in
+      let changes : ((command_rule me s full lies c (about c)).changes ≡ graph_changes me s (effect (seen_graph me s) me c)) ⊎ ((command_rule me s full lies c (about c)).changes ≡ []) = grind arith in
+      let silent : (command_rule me s full lies c (about c)).drafts ≡ [] = grind arith in
+      record { changes = elim changes [ inl e ↦ rw e (effect_plain (effect (seen_graph me s) me c) storing) | inr e ↦ rw e tt ]; drafts = rw silent tt }
 
   pub command_comes : (c : Command) → Comes blocks me s full c (command_rule me s full lies c (about c))
   command_comes (command.New register bunch size) = either (Comes blocks me s full (command.New register bunch size)) full _ _
@@ -309,4 +293,4 @@ module _ (blocks : ℕ → Option Block) (me : ℕ) (s : NodeState) (a : Places)
   command_comes (command.Read on) = Plainly (token_plain (Acquires Read) (target_of (seen_graph me s) me on)) (λ n. either_way (is_nil _) n.places n.places refl)
   command_comes (command.Write on) = Plainly (token_plain (Acquires Write) (target_of (seen_graph me s) me on)) (λ n. either_way (is_nil _) n.places n.places refl)
   command_comes (command.Done on) = Plainly (token_plain Releases (target_of (seen_graph me s) me on)) (λ n. either_way (is_nil _) n.places n.places refl)
-  command_comes c = Plainly (storing_plain c refl) (λ n. either_way (is_nil (command_rule me s full lies c (about c)).answer) (made_places me n c) n.places (storing_places me n c refl))
+  command_comes c = Plainly (storing_plain c refl) (λ n. either_way (is_nil (command_rule me s full lies c (about c)).answer) (made_places me n c) n.places (unmade me n c refl))
