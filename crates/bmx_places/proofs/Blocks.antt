@@ -2,7 +2,7 @@
 -- made lies in a new block: words that were never handed out before.
 use Rattle.bmx_store_laws.proofs.Words.{◌≡◌, ℕ, refl, ap, sym, subst, ◌∙◌, Bool, true, false, cond, List, [], ◌∷◌, map, ◌<◌, arith, length, zero, suc, ◌⊎◌, inl, inr, ◌+◌, ◌≤◌, ◌≢◌, ◌^◌, le-ltb, leb-true, nat_tests, option_map_or, Option, Some, None, is_some}
 use Rattle.bmx_store_laws.proofs.Words.{◌==◌, ◌&&◌, nat_lt, not, ◌||◌, nat_le, bunches_of, put, maker, address_word, home_of, segment_of, index_of, Info, Place, put_same, some_same, none_some, put_apart, eqb_of, Every, after_changes, Hears, heard_of}
-use Rattle.bmx_store_laws.proofs.Words.{after_change, heard, Setting, NodeState, Known, Places, Lives, Header, with_object, overlaps, any_below, is_in_the_way, is_barred, with_went, with_learnt, learn_at, with_all_learnt, differs, clashes_at, has_room}
+use Rattle.bmx_store_laws.proofs.Words.{after_change, heard, Setting, NodeState, Known, Places, Header, with_object, overlaps, any_below, is_in_the_way, is_barred, with_went, with_learnt, learn_at, with_all_learnt, differs, clashes_at, has_room}
 use Rattle.bmx_store_laws.proofs.Words.{with_made, with_segment, with_room, with_placed, some_clash, clashes, World, ViewField, either, at_each_number, put_each, IsCounted}
 use Rattle.bmx_places.specs.Ledger.{Block, IsBlock, AreBlocks, block_at, block_of, LiesIn, Heads}
 
@@ -94,28 +94,24 @@ module _ (st : Setting) (w : World) (blocks : ℕ → Option Block) (are : AreBl
 
         by_header : (h : Option Header) → header (address_word (home_of at) (segment_of at) j) ≡ h → option_map_or (is_in_the_way info.name info.size (index_of at) j) h false ≡ false
         by_header None e = refl
-        by_header (Some h) e = not_in_the_way info.name info.size (index_of at) j h
+        by_header (Some h) e =
+            let of : Heads blocks other h = heads other h e in
+            let parts : (home_of other ≡ home_of at) × (segment_of other ≡ segment_of at) × (index_of other ≡ j) = parts_again (home_of at) (segment_of at) j (omega arith) (omega (arith, below)) in
+            not_in_the_way info.name info.size (index_of at) j h
             (λ s. (let same : of.block ≡ block_of info = some_same (sym of.there ∙ ap blocks (ap (address_word (home_of at) (segment_of at)) s ∙ same_word at) ∙ told) in
             (sym of.named ∙ ap (λ (b : Block). b.name) same, sym of.sized ∙ ap (λ (b : Block). b.size) same)))
             (λ d. (λ i. overlaps (index_of at) (4 + info.size) (sym parts.2 i) (4 + sym of.sized i))
             ∙ are.apart at other (block_of info) of.block told of.there (sym parts.0) (sym parts.1) (λ e. d (sym parts.2 ∙ ap index_of (sym e))))
-          where
-            of : Heads blocks other h
-            of = heads other h e
-
-            parts : (home_of other ≡ home_of at) × (segment_of other ≡ segment_of at) × (index_of other ≡ j)
-            parts = parts_again (home_of at) (segment_of at) j (omega arith) (omega (arith, below))
 
     not_barred : (a : Places) → AllHead blocks a.header → ((s : ℕ) → a.handed s ≡ (w.places me).handed s) → is_barred me a info.name info.size at ≡ false
     not_barred a heads handed =
         let inside : nat_lt 1024 (index_of at + (4 + info.size)) ≡ false = le-ltb 1024 (index_of at + (4 + info.size)) its.inside in
         let free : any_below 1024 (λ j. option_map_or (is_in_the_way info.name info.size (index_of at) j) (a.header (address_word (home_of at) (segment_of at) j)) false) ≡ false =
         none_below 1024 (λ j. option_map_or (is_in_the_way info.name info.size (index_of at) j) (a.header (address_word (home_of at) (segment_of at) j)) false) (no_way a.header heads) in
+        let own : (home_of at == me && nat_lt (a.handed (segment_of at)) (index_of at + (4 + info.size))) ≡ false =
+        not_owned (home_of at) me (a.handed (segment_of at)) (index_of at + (4 + info.size))
+        (λ e. omega (arith, handed (segment_of at), subst (λ (h : ℕ). index_of at + (4 + info.size) ≤ (w.places h).handed (segment_of at)) e its.handed)) in
         (λ i. inside i || own i || free i)
-      where
-        own : (home_of at == me && nat_lt (a.handed (segment_of at)) (index_of at + (4 + info.size))) ≡ false
-        own = not_owned (home_of at) me (a.handed (segment_of at)) (index_of at + (4 + info.size))
-            (λ e. omega (arith, handed (segment_of at), subst (λ (h : ℕ). index_of at + (4 + info.size) ≤ (w.places h).handed (segment_of at)) e its.handed))
 
     -- what is known of it is told alike
     pub same_shape : (place : Place) (k : Known) → blocks place.address ≡ Some (block_at info.name k place) → (k.bunch ≡ info.bunch) × (k.size ≡ info.size)
@@ -138,20 +134,17 @@ module _ (st : Setting) (w : World) (blocks : ℕ → Option Block) (are : AreBl
 -- ## learning
 
 module _ (blocks : ℕ → Option Block) where
-  put_head : (header : ℕ → Option Header) (at : ℕ) (new : Header) → AllHead blocks header → Heads blocks at new → AllHead blocks (put header at (Some new))
-  put_head header at new all here = put_each (λ a o. (h : Header) → o ≡ Some h → Heads blocks a h) header at (Some new)
-      (λ h e. subst (Heads blocks at) (some_same e) here) (λ a _. all a)
-
   -- an old header leads on
-  went_head : (a : Places) (old new : ℕ) → AllHead blocks a.header → AllHead blocks (with_went a old new).header
-  went_head a old new all = put_each (λ address o. (h : Header) → o ≡ Some h → Heads blocks address h) a.header old _ (by_old (a.header old) refl) (λ address _. all address)
+  went_keeps : (known : ℕ → Option Known) (a : Places) (old new : ℕ) → Keeps blocks known a → Keeps blocks known (with_went a old new)
+  went_keeps known a old new keeps = record {
+    known = keeps.known;
+    headers = put_each (λ address o. (h : Header) → o ≡ Some h → Heads blocks address h) a.header old _ (by_old (a.header old) refl) (λ address _. keeps.headers address);
+    home = keeps.home;
+  }
     where
       by_old : (o : Option Header) → a.header old ≡ o → (h : Header) → (with_went (record a { header = λ z. o }) 0 new).header 0 ≡ Some h → Heads blocks old h
       by_old None is h f = none_some f
-      by_old (Some g) is h f = (let of : Heads blocks old g = all old g is in subst (Heads blocks old) (some_same f) (record { block = of.block; there = of.there; named = of.named; sized = of.sized }))
-
-  went_keeps : (known : ℕ → Option Known) (a : Places) (old new : ℕ) → Keeps blocks known a → Keeps blocks known (with_went a old new)
-  went_keeps known a old new keeps = record { known = keeps.known; headers = went_head a old new keeps.headers; home = keeps.home }
+      by_old (Some g) is h f = (let of = keeps.headers old g is in subst (Heads blocks old) (some_same f) (record { block = of.block; there = of.there; named = of.named; sized = of.sized }))
 
   -- an object comes to lie in its block, and is known
   pub object_keeps : (known after : ℕ → Option Known) (a : Places) (name : ℕ) (k : Known) (place : Place) → after name ≡ Some k →
@@ -161,19 +154,14 @@ module _ (blocks : ℕ → Option Block) where
     known = at_each_number (λ x. KeepsOne blocks (put a.place name (Some place) x) x (after x)) name
         (rw (put_same a.place name (Some place), is) (one_keeps blocks (Some place) name k (record { place = place; lies = refl; block = there }) full))
         (λ x f. rw (put_apart a.place name x (Some place) f, others x f) (keeps.known x));
-    headers = put_head a.header place.address (record { name = name; size = k.size; standing = Lives place.moves }) keeps.headers
-        (record { block = block_at name k place; there = there; named = refl; sized = refl });
+    headers = put_each (λ address o. (h : Header) → o ≡ Some h → Heads blocks address h) a.header place.address _
+        (λ h e. subst (Heads blocks place.address) (some_same e) (record { block = block_at name k place; there = there; named = refl; sized = refl })) (λ y _. keeps.headers y);
     home = keeps.home;
   }
 
--- learning leaves places as they were, or lays the object at its place, with other headers
-pub learnt_either : (P : Places → Type 0) (a : Places) (info : Info) → P a →
-    ((header : ℕ → Option Header) → P (with_object (record a { header = header }) info.name info.size info.place)) → P (with_learnt a info)
-learnt_either P a info stays lies = by_place (a.place info.name)
-  where
-    by_place : (p : Option Place) → P (learn_at a info p)
-    by_place None = lies a.header
-    by_place (Some old) = either P (nat_lt old.moves info.place.moves) _ _ (λ _. lies (with_went a old.address info.place.address).header) (λ _. stays)
+-- learning hands nothing out
+learnt_handed : (a : Places) (info : Info) (n : ℕ) → (with_learnt a info).handed n ≡ a.handed n
+learnt_handed a info n = grind arith
 
 module _ (st : Setting) (w : World) (blocks : ℕ → Option Block) (are : AreBlocks st w blocks) (me from : ℕ) where
   heard_keeps : (known : ℕ → Option Known) (a : Places) (info : Info) → IsTold blocks info → Keeps blocks known a → Keeps blocks (heard from known info) (with_learnt a info)
@@ -206,7 +194,7 @@ module _ (st : Setting) (w : World) (blocks : ℕ → Option Block) (are : AreBl
   hears_all [] s a told keeps handed = (refl, keeps, handed)
   hears_all (info ∷ more) s a told keeps handed =
       let rest = hears_all more (after_change s (Hears from info)) (with_learnt a info) told.1 (heard_keeps s.known a info told.0 keeps)
-      (λ n. learnt_either (λ b. b.handed n ≡ a.handed n) a info refl (λ header. refl) ∙ handed n) in
+      (λ n. learnt_handed a info n ∙ handed n) in
       ((λ i. no_clash st w blocks are me info told.0 s.known a keeps handed i || rest.0 i), rest.1, rest.2)
 
 -- ## ledgers that grow
@@ -215,12 +203,9 @@ module _ (st : Setting) (w : World) (blocks : ℕ → Option Block) (are : AreBl
 abbrev pub Grows : (ℕ → Option Block) → (ℕ → Option Block) → Type 0
 Grows blocks more = (a : ℕ) (b : Block) → blocks a ≡ Some b → more a ≡ Some b
 
-pub lies_grown : (blocks more : ℕ → Option Block) → Grows blocks more → (place : Option Place) (x : ℕ) (k : Known) → LiesIn blocks place x k → LiesIn more place x k
-lies_grown blocks more grows place x k l = record { place = l.place; lies = l.lies; block = grows _ _ l.block }
-
 pub keeps_grown : (blocks more : ℕ → Option Block) → Grows blocks more → (known : ℕ → Option Known) (a : Places) → Keeps blocks known a → Keeps more known a
 keeps_grown blocks more grows known a keeps = record {
-  known = λ x. record { lies = λ k e. lies_grown blocks more grows (a.place x) x k ((keeps.known x).lies k e); unplaced = (keeps.known x).unplaced; full = (keeps.known x).full };
+  known = λ x. record { lies = λ k e. (let l = (keeps.known x).lies k e in record { place = l.place; lies = l.lies; block = grows _ _ l.block }); unplaced = (keeps.known x).unplaced; full = (keeps.known x).full };
   headers = λ address h e. (let of : Heads blocks address h = keeps.headers address h e in record { block = of.block; there = grows _ _ of.there; named = of.named; sized = of.sized });
   home = keeps.home;
 }
@@ -358,71 +343,47 @@ module _ (st : Setting) (w v : World) (blocks : ℕ → Option Block) (are : Are
   -- it is placed where there is room for it
   placed : (b : Places) (r : HasRoom (w.places me) b k.bunch (4 + k.size)) → (v.places me).handed ≡ put b.handed r.segment (b.handed r.segment + (4 + k.size)) →
       IsMade st w v blocks known (with_placed me b x k.size (Some r.segment)) x k
-  placed b r here = record {
-    more = put blocks word (Some new);
-    later = later;
-    grows = grows;
-    are = blocks_with st w v blocks word new later are is behind unnamed;
-    new_or_old = put_each (λ c o. (d : Block) → o ≡ Some d → ((d.name ≡ x) × (d.moves ≡ 0)) ⊎ (blocks c ≡ Some d)) blocks word (Some new)
-        (λ d e. inl (subst (λ (z : Block). (z.name ≡ x) × (z.moves ≡ 0)) (some_same e) (refl, refl))) (λ c _ d e. inr e);
-    keeps = object_keeps (put blocks word (Some new)) known (put known x (Some k)) (record b { handed = handed }) x k
-        (record { address = word; moves = 0 }) (put_same known x (Some k)) (λ y f. put_apart known x y (Some k) f) full (put_same blocks word (Some new)) (record {
-          known = subst (λ (f : ℕ → Option Place). (y : ℕ) → KeepsOne (put blocks word (Some new)) (f y) y (known y)) (sym r.place) grown.known;
-          headers = subst (AllHead (put blocks word (Some new))) (sym r.header) grown.headers;
-          home = record {
-            opened = r.home.opened;
-            above = put_each (λ s n. b.made < s → n ≡ 0) b.handed r.segment last (λ h. absurd (omega (arith, h, r.home.opened k.bunch r.segment r.open_for))) (λ s _. r.home.above s);
-            within = put_each (λ s n. n ≤ 1024) b.handed r.segment last r.fits (λ s _. r.home.within s);
-            few = r.home.few;
-          };
-        });
-  }
-    where
-      word : ℕ
-      word = address_word me r.segment (b.handed r.segment)
-
-      new : Block
-      new = block_at x k (record { address = word; moves = 0 })
-
-      last : ℕ
-      last = b.handed r.segment + (4 + k.size)
-
-      handed : ℕ → ℕ
-      handed = put b.handed r.segment last
-
-      parts : (home_of word ≡ me) × (segment_of word ≡ r.segment) × (index_of word ≡ b.handed r.segment)
-      parts = parts_again me r.segment (b.handed r.segment) (omega (arith, r.home.opened k.bunch r.segment r.open_for, r.home.few)) (omega (arith, r.fits))
-
-      later : IsLaterThan w v
-      later = record {
+  placed b r here =
+      let word : ℕ = address_word me r.segment (b.handed r.segment) in
+      let new : Block = block_at x k (record { address = word; moves = 0 }) in
+      let last : ℕ = b.handed r.segment + (4 + k.size) in
+      let more : ℕ → Option Block = put blocks word (Some new) in
+      let parts : (home_of word ≡ me) × (segment_of word ≡ r.segment) × (index_of word ≡ b.handed r.segment) =
+      parts_again me r.segment (b.handed r.segment) (omega (arith, r.home.opened k.bunch r.segment r.open_for, r.home.few)) (omega (arith, r.fits)) in
+      let later : IsLaterThan w v = record {
         handed = λ n s. at_each_number (λ n. (w.places n).handed s ≤ (v.places n).handed s) me
             (subst (λ (f : ℕ → ℕ). (w.places me).handed s ≤ f s) (sym here)
             (put_each (λ s n. (w.places me).handed s ≤ n) b.handed r.segment last (omega (arith, r.handed r.segment)) (λ s _. omega (arith, r.handed s)) s))
             (λ n apart. omega (arith, ap (λ (f : ℕ → ℕ). f s) (elsewhere n apart))) n;
         made = made;
+      } in
+      let before : (w.places (home_of word)).handed (segment_of word) ≡ b.handed r.segment = (λ i. (w.places (parts.0 i)).handed (parts.1 i)) ∙ sym (r.handed r.segment) in
+      let now : (v.places (home_of word)).handed (segment_of word) ≡ last =
+      (λ i. (v.places (parts.0 i)).handed (parts.1 i)) ∙ ap (λ (f : ℕ → ℕ). f r.segment) here ∙ put_same b.handed r.segment _ in
+      let is : IsBlock st v word new =
+      record { home = omega (arith, parts.0, real); handed = omega (arith, now, parts.2); inside = omega (arith, parts.2, r.fits); counted = counted; bunch = bunch; size = small } in
+      let behind : (w.places (home_of word)).handed (segment_of word) ≤ index_of word = omega (arith, before, parts.2) in
+      let grows : Grows blocks more = block_added st w v blocks word new later are is behind unnamed in
+      let grown : Keeps more known (w.places me) = keeps_grown blocks more grows known (w.places me) keeps in
+      record {
+        more = more;
+        later = later;
+        grows = grows;
+        are = blocks_with st w v blocks word new later are is behind unnamed;
+        new_or_old = put_each (λ c o. (d : Block) → o ≡ Some d → ((d.name ≡ x) × (d.moves ≡ 0)) ⊎ (blocks c ≡ Some d)) blocks word (Some new)
+            (λ d e. inl (subst (λ (z : Block). (z.name ≡ x) × (z.moves ≡ 0)) (some_same e) (refl, refl))) (λ c _ d e. inr e);
+        keeps = object_keeps more known (put known x (Some k)) (record b { handed = put b.handed r.segment last }) x k
+            (record { address = word; moves = 0 }) (put_same known x (Some k)) (λ y f. put_apart known x y (Some k) f) full (put_same blocks word (Some new)) (record {
+              known = subst (λ (f : ℕ → Option Place). (y : ℕ) → KeepsOne more (f y) y (known y)) (sym r.place) grown.known;
+              headers = subst (AllHead more) (sym r.header) grown.headers;
+              home = record {
+                opened = r.home.opened;
+                above = put_each (λ s n. b.made < s → n ≡ 0) b.handed r.segment last (λ h. absurd (omega (arith, h, r.home.opened k.bunch r.segment r.open_for))) (λ s _. r.home.above s);
+                within = put_each (λ s n. n ≤ 1024) b.handed r.segment last r.fits (λ s _. r.home.within s);
+                few = r.home.few;
+              };
+            });
       }
-
-      is : IsBlock st v word new
-      is = record {
-        home = omega (arith, parts.0, real);
-        handed = (let now : (v.places (home_of word)).handed (segment_of word) ≡ b.handed r.segment + (4 + k.size) =
-            (λ i. (v.places (parts.0 i)).handed (parts.1 i)) ∙ ap (λ (f : ℕ → ℕ). f r.segment) here ∙ put_same b.handed r.segment _ in
-            omega (arith, now, parts.2));
-        inside = omega (arith, parts.2, r.fits);
-        counted = counted;
-        bunch = bunch;
-        size = small;
-      }
-
-      behind : (w.places (home_of word)).handed (segment_of word) ≤ index_of word
-      behind = (let before : (w.places (home_of word)).handed (segment_of word) ≡ b.handed r.segment = (λ i. (w.places (parts.0 i)).handed (parts.1 i)) ∙ sym (r.handed r.segment) in
-          omega (arith, before, parts.2))
-
-      grows : Grows blocks (put blocks word (Some new))
-      grows = block_added st w v blocks word new later are is behind unnamed
-
-      grown : Keeps (put blocks word (Some new)) known (w.places me)
-      grown = keeps_grown blocks _ grows known (w.places me) keeps
 
   pub object_made : (has_room (w.places me) ((w.places me).opened k.bunch) (4 + k.size) ≡ false → (w.places me).made < 6000000) →
       (v.places me).handed ≡ (with_made me (w.places me) x k.bunch k.size).handed → IsMade st w v blocks known (with_made me (w.places me) x k.bunch k.size) x k
