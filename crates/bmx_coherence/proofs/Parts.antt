@@ -1,11 +1,11 @@
 -- A node's part of the graph: its registers, what it holds, how many names it made, and its copies, which have the fields of
 -- the graph. What changes of a node, effects of its commands on the graph, and transitions of its tokens make of it.
-use Rattle.bmx_store_laws.proofs.Words.{◌≡◌, ℕ, refl, ap, sym, subst, ◌∙◌, Bool, true, false, cond, List, [], ◌∷◌, map, arith, zero, suc, ◌⊎◌, ◌+◌, nat_tests, map-set, option_map, option_map_or, Option, Some, None, is_some, unwrap_or, replicate, ◌==◌}
-use Rattle.bmx_store_laws.proofs.Words.{slice_set, put, put_at, name_word, Info, Place, Command, Operand, Register, Mode, Read, Write, Val, Field, Msg, ReadGrant, WriteGrant, State, value_of, reference, target_of, changed, Effect, Nothing, MakesOne, SetsOne}
-use Rattle.bmx_store_laws.proofs.Words.{Stores, Holds, acquire, release, Share, Note, Asks, Grants, Send, Transition, transition_of, Serves, note_transition, Acquire, Release, Part, Owner, eqb_same, put_same, none_some, put_apart, put_at_row, Every, Each}
-use Rattle.bmx_store_laws.proofs.Words.{kept_by_each, each_append, Knows, after_changes, Change, Sets, Hears, after_change, NodeState, Known, fields_known, value_in, seen_graph, share_of, field_of, with_field, Draft, Reaction, message, drafts_of, info_of}
-use Rattle.bmx_store_laws.proofs.Words.{told_fields, grant_in, operation_answer, after_operation, operation_rule, next_name, new_object, graph_changes, name_in, note_in, copy_after, took, stored, told_field, heard_field, infos, known_change, ViewField, some_is}
-use Rattle.bmx_store_laws.proofs.Words.{put_each, heard_each, taking_each}
+use Rattle.bmx_store_laws.proofs.Words.{◌≡◌, ℕ, refl, ap, sym, ◌∙◌, Bool, true, false, cond, List, [], ◌∷◌, map, arith, zero, suc, ◌⊎◌, ◌+◌, nat_tests, map-set, option_map, option_map_or, Option, Some, None, is_some, unwrap_or, replicate, ◌==◌}
+use Rattle.bmx_store_laws.proofs.Words.{name_word, Info, Place, Command, Operand, Register, Mode, Read, Write, Val, Field, Msg, ReadGrant, WriteGrant, State, value_of, reference, target_of, changed, Effect, MakesOne}
+use Rattle.bmx_store_laws.proofs.Words.{Stores, Holds, acquire, release, Share, Note, Asks, Grants, Send, Transition, transition_of, Serves, note_transition, Acquire, Release, Part, Owner, none_some, Every, Each}
+use Rattle.bmx_store_laws.proofs.Words.{kept_by_each, each_append, Knows, after_changes, Change, Sets, Hears, after_change, NodeState, Known, fields_known, value_in, seen_graph, share_of, field_of, Draft, Reaction, message, drafts_of, info_of}
+use Rattle.bmx_store_laws.proofs.Words.{told_fields, grant_in, operation_answer, after_operation, operation_rule, next_name, graph_changes, name_in, note_in, copy_after, took, told_field, heard_field, infos, known_change, ViewField, some_is}
+use Rattle.bmx_store_laws.proofs.Words.{taking_each}
 use Rattle.bmx_store_laws.proofs.Words.val
 use Rattle.bmx_store_laws.proofs.Words.graph_step
 use Rattle.bmx_store_laws.proofs.Words.acquire_is
@@ -58,19 +58,11 @@ Leaves me g v (Knows name k) = FitsAt me g (v name) name (Some k)
 Leaves me g v _ = Unit {0}
 
 change_leaves : (me : ℕ) (g : State) (v : ℕ → Option Mode) (s : NodeState) (c : Change) → Leaves me g v c → IsPart me s g v → IsPart me (after_change s c) g v
-change_leaves me g v s (Sets register value) none p = absurd none
-change_leaves me g v s Makes none p = absurd none
-change_leaves me g v s (Knows name k) it p =
-    record { register = p.register; known = put_each (λ x j. FitsAt me g (v x) x j) s.known name (Some k) it (λ x _. p.known x); made = p.made }
-change_leaves me g v s (Hears from info) none p = record {
-  register = p.register;
-  -- hearing of an object that isn't known brings no copy and no token
-  known = heard_each (λ x j. FitsAt me g (v x) x j) from s.known info
-      (λ is. (let f : FitsAt me g (v info.name) info.name None = subst (FitsAt me g (v info.name) info.name) is (p.known info.name) in
-      record { held = f.held; want = f.want; fields = λ l e. none_some e })) p.known;
-  made = p.made;
+change_leaves me g v s c leaves p = record {
+  register = λ r. grind (arith, nat_tests, p.register r);
+  known = λ x. record { held = grind (arith, nat_tests, (p.known x).held); want = grind (arith, nat_tests, (p.known x).want); fields = λ l h. grind (arith, nat_tests, (p.known x).fields) };
+  made = grind (arith, nat_tests, p.made);
 }
-change_leaves me g v s _ none p = record { register = p.register; known = p.known; made = p.made }
 
 pub parts_left : (me : ℕ) (g : State) (v : ℕ → Option Mode) (changes : List Change) → Each (Leaves me g v) changes → (s : NodeState) → IsPart me s g v → IsPart me (after_changes s changes) g v
 parts_left me g v = kept_by_each (λ s. IsPart me s g v) (Leaves me g v) (λ s c h p. change_leaves me g v s c h p)
@@ -82,9 +74,6 @@ fields_kept copy false fields h = absurd cc
 
 -- ## effects at the node
 
-register_put : (me : ℕ) (f : ℕ → Val) (g : State) (register : ℕ) (v : Val) → ((r : ℕ) → f r ≡ g.register me r) → (r : ℕ) → put f register v r ≡ put_at g.register me register v me r
-register_put me f g register v same r = ap (λ (u : Val). cond (register == r) v u) (same r) ∙ sym (put_at_row g.register me register r v)
-
 values_same : (v : Val) → value_in (field_of v) ≡ v
 values_same v = grind arith
 
@@ -95,13 +84,6 @@ values_again (v ∷ fields) = λ i. values_same v i ∷ values_again fields i
 nulls : (size : ℕ) → map value_in (replicate size field.Null) ≡ replicate size val.Null
 nulls zero = refl
 nulls (suc size) = ap (λ (l : List Val). val.Null ∷ l) (nulls size)
-
--- a field of a copy is as the graph's after the same store in both
-stored_fields : (o : Option (List Val)) (index : ℕ) (v : Val) (copy : Option (List ViewField)) → ((l : List Val) → option_map (map value_in) copy ≡ Some l → o ≡ Some l) → (l : List Val) →
-    option_map (map value_in) (option_map (λ (l : List ViewField). slice_set l index (field_of v)) copy) ≡ Some l → Some (slice_set (unwrap_or o []) index v) ≡ Some l
-stored_fields o index v None old l h = absurd cc
-stored_fields o index v (Some f) old l h = (λ i. Some (slice_set (unwrap_or (old (map value_in f) refl i) []) index (sym (values_same v) i)))
-    ∙ sym (ap Some (map-set value_in f index (field_of v))) ∙ h
 
 -- a new name isn't known yet, and what a store is about is known
 abbrev pub IsReadyFor : ℕ → NodeState → Effect → Type 0
@@ -117,40 +99,17 @@ IsOwnStore me g _ = Unit {0}
 
 -- what an effect of a command that is about no token changes at the node is what it changes in the graph
 pub effect_part : (me : ℕ) (s : NodeState) (g : State) (e : Effect) → IsReadyFor me s e → IsPart me s g nothing → IsPart me (after_changes s (graph_changes me s e)) (changed g me e) nothing
-effect_part me s g Nothing ready p = p
-effect_part me s g (SetsOne register v) ready p =
-    record { register = register_put me s.register g register v p.register; known = λ x. fits_else (p.known x) refl refl (λ l has. refl); made = p.made }
-effect_part me s g (Stores name index v) ready p = subst (λ (o : Option Known). IsPart me (after_changes s (stored name o index v)) (changed g me (Stores name index v)) nothing) (sym k.1) (record {
-  register = p.register;
-  known = put_each (λ x j. FitsAt me (changed g me (Stores name index v)) None x j) s.known name (Some (with_field index v k.0)) (record {
-    held = f.held;
-    want = f.want;
-    fields = λ l h. put_same g.object name _ ∙ stored_fields (g.object name) index v k.0.copy f.fields l h;
-  }) (λ x h. fits_else (p.known x) refl refl (λ l has. put_apart g.object name x _ h));
-  made = p.made;
-})
-  where
-    k : (j : Known) × (s.known name ≡ Some j)
-    k = some_is (s.known name) ready
-
-    f : FitsAt me g None name (Some k.0)
-    f = subst (FitsAt me g None name) k.1 (p.known name)
-effect_part me s g (MakesOne register bunch size) ready p = record {
-  register = λ r. register_put me s.register g register (val.Ref name) p.register r ∙ (λ i. put_at g.register me register (val.Ref (named i)) me r);
-  known = put_each (λ x j. FitsAt me (changed g me (MakesOne register bunch size)) None x j) s.known name (Some (new_object bunch size)) (record {
-    held = sym (ap held_of ready) ∙ (p.known name).held;
-    want = refl;
-    fields = λ l d. (λ i. put g.object (sym named i) (Some (replicate size val.Null)) name) ∙ put_same g.object name _ ∙ ap Some (sym (nulls size)) ∙ d;
-  }) (λ x h. fits_else (p.known x) refl refl (λ l has. (λ i. put g.object (sym named i) (Some (replicate size val.Null)) x) ∙ put_apart g.object name x _ h));
-  made = ap (λ (n : ℕ). n + 1) p.made ∙ sym (put_same g.made me (g.made me + 1));
-}
-  where
-    name : ℕ
-    name = next_name me s
-
-    named : name ≡ graph_step.next_name g me
-    named = ap (λ (n : ℕ). name_word me (n + 1)) p.made
-effect_part me s g (Holds name hold) ready p = absurd ready
+effect_part me s g e ready p =
+    let named : next_name me s ≡ graph_step.next_name g me = ap (λ (n : ℕ). name_word me (n + 1)) p.made in
+    record {
+      register = λ r. grind (arith, nat_tests, p.register r, named);
+      known = λ x. record {
+        held = grind (arith, nat_tests, (p.known x).held);
+        want = grind (arith, nat_tests, (p.known x).want);
+        fields = λ l h. grind (arith, nat_tests, (p.known x).fields, nulls, map-set, values_same);
+      };
+      made = grind (arith, nat_tests, p.made);
+    }
 
 -- ## what is waited for
 
@@ -161,7 +120,7 @@ value_same g h n same _ = refl
 
 -- and so it means what the node sees of it
 pub seen_value : (me : ℕ) (s : NodeState) (g : State) (v : ℕ → Option Mode) → IsPart me s g v → (on : Operand) → value_of (seen_graph me s) me on ≡ value_of g me on
-seen_value me s g v p = value_same g (seen_graph me s) me (λ r. (λ i. cond (eqb_same me i) (s.register r) val.Null) ∙ p.register r)
+seen_value me s g v p on = grind (arith, p.register)
 
 pub seen_target : (me : ℕ) (s : NodeState) (g : State) (v : ℕ → Option Mode) → IsPart me s g v → (on : Operand) → target_of (seen_graph me s) me on ≡ target_of g me on
 seen_target me s g v p on = ap reference (seen_value me s g v p on)
@@ -212,38 +171,20 @@ module _ (me n : ℕ) (g : State) (e : Effect) (apart : (me == n) ≡ false) whe
   registers : (r : ℕ) → (changed g me e).register n r ≡ g.register n r
   registers r = grind arith
 
-  holds : (x : ℕ) → (changed g me e).held n x ≡ g.held n x
-  holds x = grind arith
-
-  count : (changed g me e).made n ≡ g.made n
-  count = grind arith
-
   waited_same : (w : Option Command) → waited (changed g me e) n w ≡ waited g n w
-  waited_same None = refl
-  waited_same (Some c) = token_same (taking c)
-    where
-      token_same : (t : Option (Mode × Operand)) → taken_at (changed g me e) n t ≡ taken_at g n t
-      token_same None = refl
-      token_same (Some t) = ap (λ (v : Val). option_map (λ (x : ℕ). (t.0, x)) (reference v)) (value_same g (changed g me e) n registers t.1)
+  waited_same w = grind (arith, value_same g (changed g me e) n registers)
 
   pub part_else : (s : NodeState) (w : Option Command) → ((x : ℕ) (fields : List Val) → fields_known (s.known x) ≡ Some fields → IsBeside g me x e) →
       IsPart n s g (wants g n w) → IsPart n s (changed g me e) (wants (changed g me e) n w)
   part_else s w beside p = record {
-    register = λ r. p.register r ∙ sym (registers r);
-    known = λ x. fits_else (p.known x) (sym (holds x)) (ap (λ (t : Option (Mode × ℕ)). wanted_at t x) (sym (waited_same w))) (λ l has. object_kept g me x e (beside x l has));
-    made = p.made ∙ sym count;
+    register = λ r. grind (arith, p.register r);
+    known = λ x. fits_else (p.known x) (grind arith) (ap (λ (t : Option (Mode × ℕ)). wanted_at t x) (sym (waited_same w))) (λ l has. object_kept g me x e (beside x l has));
+    made = grind (arith, p.made);
   }
 
   pub waiting_else : (w : Option Command) → IfSome w (IsWaiting g n) → IfSome w (IsWaiting (changed g me e) n)
   waiting_else None i = tt
-  waiting_else (Some c) i = record {
-    mode = i.mode;
-    name = i.name;
-    operand = i.operand;
-    takes = i.takes;
-    means = ap reference (value_same g (changed g me e) n registers i.operand) ∙ i.means;
-    unheld = holds i.name ∙ i.unheld;
-  }
+  waiting_else (Some c) i = record { mode = i.mode; name = i.name; operand = i.operand; takes = i.takes; means = ap reference (value_same g (changed g me e) n registers i.operand) ∙ i.means; unheld = grind (arith, i.unheld) }
 
 -- ## taking a token, and giving it back
 
@@ -270,12 +211,9 @@ releasing p = grind arith
 abbrev pub Keeps : Share → Transition → Type 0
 Keeps b t = (h : Share) × (t.after ≡ Some h) × (h.part.held ≡ b.part.held) × (h.part.want ≡ b.part.want)
 
-serving_keeps : (me : ℕ) (b : Share) (t : Transition) → transition_of me Serves b ≡ Some t → Keeps b t
-serving_keeps me b t does = (unwrap_or t.after b, grind arith, grind arith, grind arith)
-
--- only an owner serves
-serving_owns : (me : ℕ) (b : Share) (t : Transition) → transition_of me Serves b ≡ Some t → b.part.role ≡ Owner
-serving_owns me b t does = grind arith
+-- and only an owner serves
+serving_keeps : (me : ℕ) (b : Share) (t : Transition) → transition_of me Serves b ≡ Some t → Keeps b t × (b.part.role ≡ Owner)
+serving_keeps me b t does = ((unwrap_or t.after b, grind arith, grind arith, grind arith), grind arith)
 
 note_keeps : (me from : ℕ) (n : Note) (b : Share) (t : Transition) → note_transition me from n (Some b) ≡ Some t → Keeps b t
 note_keeps me from n b t does = (unwrap_or t.after b, grind arith, grind arith, grind arith)
@@ -296,8 +234,7 @@ EachBrings g drafts = Every (λ (d : Draft). BringsFields g d.msg) drafts
 -- fields that are told have the values of those of the copy, and fields that are heard those of the letter
 told_values : (s : NodeState) (lies : ℕ → Place) (fields : List ViewField) → values_told (map (told_field s lies) fields) ≡ map value_in fields
 told_values s lies [] = refl
-told_values s lies (field.Ref name ∷ fields) = ap (λ (l : List Val). val.Ref name ∷ l) (told_values s lies fields)
-told_values s lies (f ∷ fields) = ap (λ (l : List Val). value_in f ∷ l) (told_values s lies fields)
+told_values s lies (f ∷ fields) = grind (arith, told_values s lies fields)
 
 pub heard_values : (fields : List Field) → map value_in (map heard_field fields) ≡ values_told fields
 heard_values [] = refl
@@ -308,10 +245,7 @@ module _ (g : State) (s : NodeState) (lies : ℕ → Place) (name : ℕ) (k : Kn
     (there : g.object name ≡ Some (map value_in fields)) where
   granted : BringsFields g (ReadGrant (info_of s lies name) (told_fields s lies name))
   granted info l e =
-      let told : values_told (told_fields s lies name) ≡ map value_in fields = (λ i. values_told (map (told_field s lies) (option_map_or (λ (j : Known). unwrap_or j.copy []) (is i) [])))
-      ∙ (λ i. values_told (map (told_field s lies) (unwrap_or (has i) []))) ∙ told_values s lies fields in
-      let both : (info_of s lies name, told_fields s lies name) ≡ (info, l) = cc in
-      ap (λ (p : Info × List Field). g.object p.0.name) (sym both) ∙ there ∙ ap Some (sym told) ∙ ap (λ (p : Info × List Field). Some (values_told p.1)) both
+      (let told : values_told (told_fields s lies name) ≡ map value_in fields = grind (arith, is, has, told_values s lies fields) in grind (arith, there, told))
 
   note_brings : (n : Note) → BringsFields g (message (info_of s lies name) (told_fields s lies name) n)
   note_brings (Grants Read) = granted
@@ -330,9 +264,7 @@ module _ (me : ℕ) (s : NodeState) (g : State) (v : ℕ → Option Mode) (lies 
   left_fits : (name : ℕ) (k : Known) (fields : Option (List ViewField)) (t : Transition) → s.known name ≡ Some k → Keeps (share_of k) t →
       ((l : List Val) → option_map (map value_in) fields ≡ Some l → g.object name ≡ Some l) → Each (Leaves me g v) (known_change name (Some k) fields t.after)
   left_fits name k fields t is keeps there =
-      let f : FitsAt me g (v name) name (Some k) = subst (FitsAt me g (v name) name) is (p.known name) in
-      subst (λ (h : Option Share). Each (Leaves me g v) (known_change name (Some k) fields h)) (sym keeps.1)
-      (record { held = keeps.2 ∙ f.held; want = keeps.3 ∙ f.want; fields = λ l has. there l (fields_kept fields keeps.0.copy l has) }, tt)
+      grind (arith, nat_tests, is, keeps, p.known name, fields_kept)
 
   copy_there : (name : ℕ) (k : Known) → s.known name ≡ Some k → (l : List Val) → option_map (map value_in) k.copy ≡ Some l → g.object name ≡ Some l
   copy_there name k is l has = (p.known name).fields l (ap fields_known is ∙ has)
@@ -347,8 +279,9 @@ module _ (me : ℕ) (s : NodeState) (g : State) (v : ℕ → Option Mode) (lies 
           let o : Reaction = after_operation s lies name k (operation_answer me Serves (share_of k)) t in IsPart me (after_changes s o.changes) g v × EachBrings g o.drafts
       by_transition None does = (p, tt)
       by_transition (Some t) does =
-          let c = some_is k.copy (owners k refl (serving_owns me (share_of k) t does)) in (
-            parts_left me g v _ (left_fits name k k.copy t is (serving_keeps me (share_of k) t does) (copy_there name k is)) s p,
+          let keeps = serving_keeps me (share_of k) t does in
+          let c = some_is k.copy (owners k refl keeps.1) in (
+            parts_left me g v _ (left_fits name k k.copy t is keeps.0 (copy_there name k is)) s p,
             notes_bring g s lies name k c.0 is c.1 (copy_there name k is (map value_in c.0) (ap (option_map (map value_in)) c.1)) t.sends,
           )
 
