@@ -1,10 +1,10 @@
 -- What a node answers a command the graph may answer, and what the command changes at the node it changes in the graph.
-use Rattle.bmx_store_laws.proofs.Words.{◌≡◌, ℕ, refl, ap, sym, subst, ◌∙◌, Bool, true, false, cond, List, [], ◌∷◌, map, arith, ◌⊎◌, inl, inr, ◌≢◌, option_map, Option, Some, None, is_some, unwrap_or, ◌==◌, Info, Place, Command, Operand, Refusal, Mode, Read}
-use Rattle.bmx_store_laws.proofs.Words.{Write, Val, Field, is_excluded, State, fields_of, value_of, target_of, done_answer, answer_of, holding, changed, state_after, MayAnswer, IsAnswer, effect_after, Answer, Effect, Nothing, MakesOne, Holds, acquire, release}
-use Rattle.bmx_store_laws.proofs.Words.{Share, Note, Asks, Send, Operation, Acquires, Releases, saying, transition_of, Returns, acquired, released, with_token, without_copy, send, Acquire, Release, Part, is_grant, eqb_same, put_same, some_same, none_some}
-use Rattle.bmx_store_laws.proofs.Words.{put_apart, put_at_row, Every, Knows, after_changes, is_wait, IsOperandOf, IsCommandOf, IsAgain, Setting, NodeState, Known, fields_known, value_in, seen_graph, share_of, Draft, Reaction, refused, message, drafts_of}
-use Rattle.bmx_store_laws.proofs.Words.{info_of, told_fields, grant_in, with_share, operation_answer, after_operation, operation_rule, next_name, new_object, graph_changes, token_rule, knows, command_rule, about, acquire_answer, release_answer, Do}
-use Rattle.bmx_store_laws.proofs.Words.{NodeAnswer, some_is, either, put_each, NoGrants}
+use Rattle.bmx_store_laws.proofs.Words.{◌≡◌, ℕ, refl, ap, sym, subst, ◌∙◌, Bool, true, false, cond, List, [], ◌∷◌, arith, ◌⊎◌, ◌≢◌, option_map, Option, Some, None, is_some, unwrap_or, ◌==◌, Place, Command, Operand, Refusal, Mode, Read}
+use Rattle.bmx_store_laws.proofs.Words.{Write, is_excluded, State, fields_of, value_of, target_of, done_answer, answer_of, holding, changed, state_after, MayAnswer, IsAnswer, effect_after, Answer, Effect, Nothing, MakesOne, Holds, acquire, release}
+use Rattle.bmx_store_laws.proofs.Words.{Share, Asks, Send, Operation, Acquires, Releases, saying, transition_of, Returns, acquired, released, with_token, without_copy, send, Acquire, Release, Part, eqb_same, put_same}
+use Rattle.bmx_store_laws.proofs.Words.{put_apart, put_at_row, Every, Knows, after_changes, is_wait, IsOperandOf, IsCommandOf, IsAgain, Setting, NodeState, Known, fields_known, seen_graph, share_of, Draft, Reaction, refused, drafts_of}
+use Rattle.bmx_store_laws.proofs.Words.{grant_in, with_share, operation_answer, after_operation, operation_rule, next_name, graph_changes, token_rule, knows, command_rule, about, acquire_answer, release_answer, Do}
+use Rattle.bmx_store_laws.proofs.Words.{nat_tests, NodeAnswer, some_is, either, put_each, NoGrants}
 use Rattle.bmx_store_laws.proofs.Words.command
 use Rattle.bmx_store_laws.proofs.Words.refusal
 use Rattle.bmx_store_laws.proofs.Words.graph
@@ -26,8 +26,7 @@ NamesIt me s t (MakesOne register bunch size) = is_some (t.known (next_name me s
 NamesIt me s t _ = Unit {0}
 
 effect_names : (me : ℕ) (s : NodeState) (e : Effect) → NamesIt me s (after_changes s (graph_changes me s e)) e
-effect_names me s (MakesOne register bunch size) = ap (λ (k : Option Known). is_some k) (put_same s.known (next_name me s) (Some (new_object bunch size)))
-effect_names me s _ = tt
+effect_names me s e = grind (arith, nat_tests)
 
 -- the command that a node waits with after one that was answered so
 abbrev pub waiting_after : Command → NodeAnswer → Option Command
@@ -58,12 +57,9 @@ pub record IsSteady (st : Setting) (me : ℕ) (s : NodeState) (g : State) (w : O
   -- what an operand means is known
   pub aware : (on : Operand) (x : ℕ) → IsOperandOf st on → target_of g me on ≡ Some x → is_some (s.known x) ≡ true
 
-other_grants : (info : Info) (fields : List Field) (n : Note) → is_grant n ≡ false → grant_in (message info fields n) ≡ None
-other_grants info fields n e = grind arith
-
 pub notes_ungranting : (s : NodeState) (lies : ℕ → Place) (name : ℕ) (sends : List Send) → NoGrants sends → Ungranting (drafts_of s lies name sends)
 notes_ungranting s lies name [] none = tt
-notes_ungranting s lies name (n ∷ sends) none = (other_grants (info_of s lies name) (told_fields s lies name) n.note none.0, notes_ungranting s lies name sends none.1)
+notes_ungranting s lies name (n ∷ sends) none = grind (arith, notes_ungranting s lies name sends none.1)
 
 -- ## commands without a token
 
@@ -112,52 +108,27 @@ abbrev takes : Mode → Operand → Command
 takes Read on = command.Read on
 takes Write on = command.Write on
 
--- what a node may answer who takes a token, or gives it back
-taken_answer : (g : State) (me : ℕ) (m : Mode) (on : Operand) (x : ℕ) (b : Bool) → target_of g me on ≡ Some x → g.held me x ≡ None → is_excluded m g me x ≡ b → answer_of g me (takes m on) ≡ cond b graph.Wait graph.Nil
-taken_answer g me m on x b is free kept = grind arith
+-- what the graph answers who takes a token, and that a node may wait for it
+taken_answer : (g : State) (me : ℕ) (m : Mode) (on : Operand) (x : ℕ) → target_of g me on ≡ Some x → g.held me x ≡ None → answer_of g me (takes m on) ≡ cond (is_excluded m g me x) graph.Wait graph.Nil
+taken_answer g me m on x is free = grind arith
 
 wait_may : (m : Mode) (on : Operand) (b : Bool) → MayAnswer (takes m on) (cond b graph.Wait graph.Nil) graph.Wait
 wait_may m on b = grind arith
 
-wait_fits : (g : State) (me : ℕ) (m : Mode) (on : Operand) (x : ℕ) → target_of g me on ≡ Some x → g.held me x ≡ None → IsAnswer g me (takes m on) graph.Wait
-wait_fits g me m on x is free = rw (taken_answer g me m on x (is_excluded m g me x) is free refl) (wait_may m on (is_excluded m g me x))
-
-hold_fits : (g : State) (me : ℕ) (m : Mode) (on : Operand) (x : ℕ) → target_of g me on ≡ Some x → g.held me x ≡ None → is_excluded m g me x ≡ false → IsAnswer g me (takes m on) graph.Nil
-hold_fits g me m on x is free alone = grind arith
-
-held_fits : (g : State) (me : ℕ) (m : Mode) (on : Operand) (x : ℕ) → target_of g me on ≡ Some x → is_some (g.held me x) ≡ true → IsAnswer g me (takes m on) (graph.Refused refusal.Held)
-held_fits g me m on x is held = grind arith
-
-empty_fits : (g : State) (me : ℕ) (m : Mode) (on : Operand) → target_of g me on ≡ None → IsAnswer g me (takes m on) (graph.Refused refusal.Empty)
-empty_fits g me m on is = grind arith
-
-free_fits : (g : State) (me : ℕ) (on : Operand) (x : ℕ) → target_of g me on ≡ Some x → is_some (g.held me x) ≡ true → IsAnswer g me (command.Done on) graph.Nil
-free_fits g me on x is held = grind arith
-
-lack_fits : (g : State) (me : ℕ) (on : Operand) (x : ℕ) → target_of g me on ≡ Some x → g.held me x ≡ None → IsAnswer g me (command.Done on) (graph.Refused refusal.NoToken)
-lack_fits g me on x is none = grind arith
-
-means_known : (s : NodeState) (t : Option ℕ) → ((x : ℕ) → t ≡ Some x → is_some (s.known x) ≡ true) → knows s t ≡ is_some t
-means_known s t known = grind arith
-
 -- ## what a node wants before a command
 
 -- a command that takes no token comes where nothing is wanted
-unwanted : (g : State) (me : ℕ) (s : NodeState) (w : Option Command) (c : Command) → IsAgain w (Do c) → waited g me (Some c) ≡ None → IfSome w (IsWaiting g me) →
-    IsPart me s g (wants g me w) → IsPart me s g nothing
-unwanted g me s None c again none waits p = p
-unwanted g me s (Some d) c again none waits p = none_some (sym none ∙ ap (λ (b : Command). waited g me (Some b)) again ∙ waiting_token g me d waits)
+unwanted : (g : State) (me : ℕ) (w : Option Command) (c : Command) → IsAgain w (Do c) → waited g me (Some c) ≡ None → IfSome w (IsWaiting g me) → wants g me w ≡ nothing
+unwanted g me w c again none waits = grind (arith, waiting_token)
 
--- one that takes the token of x: no other is wanted, and that is wanted in no mode, or in this one and isn't held
-data Before (g : State) (me : ℕ) (m : Mode) (x : ℕ) (v : ℕ → Option Mode) : Type 0 where
-  Fresh : v ≡ nothing → Before g me m x v
-  Again : v ≡ wanted_at (Some (m, x)) → g.held me x ≡ None → Before g me m x v
+-- one that takes the token of x: no other is wanted
+others_unwanted : (g : State) (me : ℕ) (w : Option Command) (c : Command) (m : Mode) (x : ℕ) → IsAgain w (Do c) → waited g me (Some c) ≡ Some (m, x) → (y : ℕ) → (x == y) ≡ false → wants g me w y ≡ None
+others_unwanted g me w c m x again token y apart = grind (arith, waiting_token)
 
-before : (g : State) (me : ℕ) (w : Option Command) (c : Command) (m : Mode) (x : ℕ) → IsAgain w (Do c) → waited g me (Some c) ≡ Some (m, x) → IfSome w (IsWaiting g me) → Before g me m x (wants g me w)
-before g me None c m x again takes waits = Fresh refl
-before g me (Some d) c m x again takes waits =
-    let both : (waits.mode, waits.name) ≡ (m, x) = some_same (sym (waiting_token g me d waits) ∙ ap (λ (b : Command). waited g me (Some b)) (sym again) ∙ takes) in
-    Again (ap wanted_at (ap (λ (b : Command). waited g me (Some b)) (sym again) ∙ takes)) (ap (λ (p : Mode × ℕ). g.held me p.1) (sym both) ∙ waits.unheld)
+-- what bars it is that it is held, and then nothing is wanted
+barred : (g : State) (me : ℕ) (w : Option Command) (c : Command) (m : Mode) (x : ℕ) → IsAgain w (Do c) → waited g me (Some c) ≡ Some (m, x) → IfSome w (IsWaiting g me) →
+    (is_some (g.held me x) ≡ true) ⊎ ((n : Mode) × (wants g me w x ≡ Some n) × (n ≢ m)) → (is_some (g.held me x) ≡ true) × (wants g me w ≡ nothing)
+barred g me w c m x again token waits bars = (grind (arith, nat_tests, waiting_token), grind (arith, nat_tests, waiting_token))
 
 module _ (st : Setting) (me : ℕ) (s : NodeState) (g : State) (w : Option Command) (steady : IsSteady st me s g w) where
   abbrev h : State
@@ -167,22 +138,20 @@ module _ (st : Setting) (me : ℕ) (s : NodeState) (g : State) (w : Option Comma
   target_same = seen_target me s g (wants g me w) steady.part
 
   known_same : (on : Operand) → IsOperandOf st on → knows s (target_of h me on) ≡ is_some (target_of h me on)
-  known_same on of = means_known s (target_of h me on) (λ x is. steady.aware on x of (sym (target_same on) ∙ is))
+  known_same on of = grind (arith, steady.aware on, target_same on)
 
   held_same : (x : ℕ) → h.held me x ≡ g.held me x
   held_same x = (λ i. cond (eqb_same me i) (held_of (s.known x)) None) ∙ (steady.part.known x).held
 
   held_known : (x : ℕ) → is_some (g.held me x) ≡ true → is_some (s.known x) ≡ true
-  held_known x holds = (let m = some_is (g.held me x) holds in let k = known_of (λ j. j.part.held) (s.known x) m.0 ((steady.part.known x).held ∙ m.1) in ap (λ (j : Option Known). is_some j) k.1)
+  held_known x holds = grind (arith, steady.part.known x)
 
   -- of what it holds it sees the fields
   fields_same : (x : ℕ) → is_some (g.held me x) ≡ true → fields_of h x ≡ fields_of g x
   fields_same x holds =
       let m = some_is (g.held me x) holds in
       let k = known_of (λ j. j.part.held) (s.known x) m.0 ((steady.part.known x).held ∙ m.1) in
-      let c = some_is k.0.copy (steady.copied x k.0 m.0 k.1 k.2) in
-      let shown : fields_known (s.known x) ≡ Some (map value_in c.0) = ap fields_known k.1 ∙ ap (option_map (map value_in)) c.1 in
-      ap (λ (o : Option (List Val)). unwrap_or o []) (shown ∙ sym ((steady.part.known x).fields (map value_in c.0) shown))
+      grind (arith, k.1, (steady.part.known x).fields, steady.copied x k.0 m.0 k.1 k.2)
 
   refused_shown : IsPart me s g nothing → (c : Command) (why : Refusal) → MayAnswer c (answer_of g me c) (graph.Refused why) → IsShown me s g c (refused why)
   refused_shown p c why may = record { effect_is = Nothing; answer_is = graph.Refused why; same = refl; fits = may; leads = refl; part = p; waits = tt; ungranting = tt; own = tt; names = tt }
@@ -210,12 +179,21 @@ module _ (st : Setting) (me : ℕ) (s : NodeState) (g : State) (w : Option Comma
 
   -- ## commands on tokens
 
-  -- a token is then another's, and the graph holds it so: what is known fits it, if no other name is wanted otherwise
-  turned : (next : State) (u : ℕ → Option Mode) (x : ℕ) (k : Known) (q : Share) → s.known x ≡ Some k → q.part.held ≡ next.held me x → q.part.want ≡ u x → ((y : ℕ) → (x == y) ≡ false → wants g me w y ≡ u y) →
-      ((y : ℕ) → (x == y) ≡ false → g.held me y ≡ next.held me y) → ((y : ℕ) → next.object y ≡ g.object y) → (y : ℕ) → FitsAt me next (u y) y ((after_changes s (Knows x (with_share k k.copy q) ∷ [])).known y)
-  turned next u x k q is held want others holds objects = put_each (λ y j. FitsAt me next (u y) y j) s.known x (Some (with_share k k.copy q))
-      (record { held = held; want = want; fields = λ l has. objects x ∙ (steady.part.known x).fields l (ap fields_known is ∙ fields_kept k.copy q.copy l has) })
-      (λ y h. fits_else (steady.part.known y) (holds y h) (others y h) (λ l has. objects y))
+  -- what is known of a name fits the graph
+  fits : (x : ℕ) (k : Known) → s.known x ≡ Some k → FitsAt me g (wants g me w x) x (Some k)
+  fits x k known = subst (FitsAt me g (wants g me w x) x) known (steady.part.known x)
+
+  -- a token is then another's, and the graph holds it so: the node is as the graph is then, if no other name is wanted otherwise
+  turned : (next : State) (u : ℕ → Option Mode) (x : ℕ) (k : Known) (q : Share) → s.known x ≡ Some k → q.part.held ≡ next.held me x → q.part.want ≡ u x →
+      ((y : ℕ) → (x == y) ≡ false → (wants g me w y ≡ u y) × (g.held me y ≡ next.held me y)) → next.object ≡ g.object → next.register ≡ g.register → next.made ≡ g.made →
+      IsPart me (after_changes s (Knows x (with_share k k.copy q) ∷ [])) next u
+  turned next u x k q is held want others objects registers made = record {
+    register = λ r. rw registers (steady.part.register r);
+    known = put_each (λ y j. FitsAt me next (u y) y j) s.known x (Some (with_share k k.copy q))
+        (record { held = held; want = want; fields = λ l has. rw objects ((steady.part.known x).fields l (ap fields_known is ∙ fields_kept k.copy q.copy l has)) })
+        (λ y h. fits_else (steady.part.known y) (others y h).1 (others y h).0 (λ l has. rw objects refl));
+    made = rw made steady.part.made;
+  }
 
   -- a token that is then held so, or given back
   holds_shown : (c : Command) (lies : ℕ → Place) (x : ℕ) (k : Known) (q : Share) (sends : List Send) (hold : Option Mode) → s.known x ≡ Some k → NoGrants sends → IsAnswer g me c graph.Nil →
@@ -227,12 +205,8 @@ module _ (st : Setting) (me : ℕ) (s : NodeState) (g : State) (w : Option Comma
     same = refl;
     fits = fits;
     leads = leads;
-    part = record {
-      register = steady.part.register;
-      known = turned (changed g me (Holds x hold)) nothing x k q known (held ∙ sym (put_at_row g.held me x x hold ∙ put_same (g.held me) x hold)) want others
-          (λ y h. sym (put_at_row g.held me x y hold ∙ put_apart (g.held me) x y hold h)) (λ y. refl);
-      made = steady.part.made;
-    };
+    part = turned (changed g me (Holds x hold)) nothing x k q known (held ∙ sym (put_at_row g.held me x x hold ∙ put_same (g.held me) x hold)) want
+        (λ y h. (others y h, sym (put_at_row g.held me x y hold ∙ put_apart (g.held me) x y hold h))) refl refl refl;
     waits = tt;
     ungranting = notes_ungranting s lies x sends none;
     own = tt;
@@ -253,12 +227,10 @@ module _ (st : Setting) (me : ℕ) (s : NodeState) (g : State) (w : Option Comma
           subst (λ (o : Option Known). Shows (operation_rule me s lies act (answer.Refused refusal.Empty) x o)) (sym k.1) (some x k.0 is k.1)
 
   taken_leads : (m : Mode) (on : Operand) (x : ℕ) → target_of g me on ≡ Some x → state_after g me (takes m on) graph.Nil ≡ changed g me (Holds x (Some m))
-  taken_leads Read on x is = ap (λ (t : Option ℕ). changed g me (holding t (Some Read))) is
-  taken_leads Write on x is = ap (λ (t : Option ℕ). changed g me (holding t (Some Write))) is
+  taken_leads m on x is = grind (arith, is)
 
   taking_is : (m : Mode) (on : Operand) → taking (takes m on) ≡ Some (m, on)
-  taking_is Read on = refl
-  taking_is Write on = refl
+  taking_is m on = grind arith
 
   -- where the node then holds an object, no other keeps it from it
   abbrev pub IsAllowed : Reaction → Type 0
@@ -269,25 +241,8 @@ module _ (st : Setting) (me : ℕ) (s : NodeState) (g : State) (w : Option Comma
     token_is t is = ap (taken_at g me) (taking_is m on) ∙ ap (option_map (λ (x : ℕ). (m, x))) is
 
     module _ (x : ℕ) (k : Known) (q : Part) (is : target_of g me on ≡ Some x) (known : s.known x ≡ Some k) where
-      held_is : k.part.held ≡ g.held me x
-      held_is = ap held_of (sym known) ∙ (steady.part.known x).held
-
-      want_is : k.part.want ≡ wants g me w x
-      want_is = ap want_of (sym known) ∙ (steady.part.known x).want
-
-      its : Before g me m x (wants g me w)
-      its = before g me w (takes m on) m x again (token_is (Some x) is) steady.waits
-
-      others : Before g me m x (wants g me w) → (y : ℕ) → (x == y) ≡ false → wants g me w y ≡ None
-      others (Fresh none) y h = ap (λ (f : ℕ → Option Mode). f y) none
-      others (Again one held) y h = ap (λ (f : ℕ → Option Mode). f y) one ∙ (λ i. cond (h i) (Some m) None)
-
-      -- what bars it is that it is held, and then nothing is wanted
-      barred : Before g me m x (wants g me w) → (is_some k.part.held ≡ true) ⊎ ((n : Mode) × (k.part.want ≡ Some n) × (n ≢ m)) → (is_some k.part.held ≡ true) × (wants g me w ≡ nothing)
-      barred (Fresh none) (inl some) = (some, none)
-      barred (Again one held) (inl some) = (let both : true ≡ false = sym some ∙ ap (λ (n : Option Mode). is_some n) (held_is ∙ held) in absurd cc)
-      barred (Fresh none) (inr c) = none_some (sym (want_is ∙ ap (λ (f : ℕ → Option Mode). f x) none) ∙ c.1)
-      barred (Again one held) (inr c) = absurd (c.2 (some_same (sym c.1 ∙ want_is ∙ ap (λ (f : ℕ → Option Mode). f x) one ∙ (λ i. cond (eqb_same x i) (Some m) None))))
+      others : (y : ℕ) → (x == y) ≡ false → wants g me w y ≡ None
+      others = others_unwanted g me w (takes m on) m x again (token_is (Some x) is)
 
       waits_shown : (sends : List Send) → NoGrants sends → (k.part.held ≡ None) × (q.held ≡ None) × (q.want ≡ Some m) →
           IsShown me s g (takes m on) (after_operation s lies x k answer.Wait (Some (saying (with_token (share_of k) q) sends)))
@@ -295,15 +250,12 @@ module _ (st : Setting) (me : ℕ) (s : NodeState) (g : State) (w : Option Comma
         effect_is = Nothing;
         answer_is = graph.Wait;
         same = refl;
-        fits = wait_fits g me m on x is (sym held_is ∙ t.0);
+        fits = rw (taken_answer g me m on x is (sym (fits x k known).held ∙ t.0)) (wait_may m on _);
         leads = refl;
-        part = subst (IsPart me (after_changes s (Knows x (with_share k k.copy (with_token (share_of k) q)) ∷ [])) g) (sym (ap wanted_at (token_is (Some x) is))) (record {
-          register = steady.part.register;
-          known = turned g (wanted_at (Some (m, x))) x k (with_token (share_of k) q) known (t.1 ∙ sym t.0 ∙ held_is) (t.2 ∙ (λ i. cond (sym (eqb_same x) i) (Some m) None))
-              (λ y h. others its y h ∙ (λ i. cond (sym h i) (Some m) None)) (λ y h. refl) (λ y. refl);
-          made = steady.part.made;
-        });
-        waits = record { mode = m; name = x; operand = on; takes = taking_is m on; means = is; unheld = sym held_is ∙ t.0 };
+        part = subst (IsPart me (after_changes s (Knows x (with_share k k.copy (with_token (share_of k) q)) ∷ [])) g) (sym (ap wanted_at (token_is (Some x) is)))
+            (turned g (wanted_at (Some (m, x))) x k (with_token (share_of k) q) known (t.1 ∙ sym t.0 ∙ (fits x k known).held) (t.2 ∙ (λ i. cond (sym (eqb_same x) i) (Some m) None))
+            (λ y h. (others y h ∙ (λ i. cond (sym h i) (Some m) None), refl)) refl refl refl);
+        waits = record { mode = m; name = x; operand = on; takes = taking_is m on; means = is; unheld = sym (fits x k known).held ∙ t.0 };
         ungranting = notes_ungranting s lies x sends none;
         own = tt;
         names = tt;
@@ -312,31 +264,29 @@ module _ (st : Setting) (me : ℕ) (s : NodeState) (g : State) (w : Option Comma
       taking_shown : (r : Acquire) → Taken m k.part q r →
           let o : Reaction = after_operation s lies x k (acquire_answer r) (acquired me m (share_of k) q r) in IsAllowed o → IsShown me s g (takes m on) o
       taking_shown acquire_is.Held t free = holds_shown (takes m on) lies x k (with_token (share_of k) q) [] (Some m) known tt
-          (hold_fits g me m on x is (sym held_is ∙ t.0) (free m x (ap held_of (put_same s.known x _) ∙ t.1))) (taken_leads m on x is) t.1 t.2 (others its)
+          (let alone : is_excluded m g me x ≡ false = free m x (ap held_of (put_same s.known x _) ∙ t.1) in grind (arith, is, (fits x k known).held, t.0)) (taken_leads m on x is) t.1 t.2 others
       taking_shown (acquire_is.Asks parent) t free = waits_shown (send parent (Asks m me) ∷ []) (refl, tt) t
       taking_shown acquire_is.Waits t free = waits_shown [] tt t
       taking_shown acquire_is.Refused t free =
-          (let b = barred its t in refused_shown (subst (IsPart me s g) b.1 steady.part) (takes m on) refusal.Held (held_fits g me m on x is (ap (λ (n : Option Mode). is_some n) (sym held_is) ∙ b.0)))
+          (let b : (is_some (g.held me x) ≡ true) × (wants g me w ≡ nothing) = barred g me w (takes m on) m x again (token_is (Some x) is) steady.waits (grind (arith, fits x k known)) in
+          refused_shown (subst (IsPart me s g) b.1 steady.part) (takes m on) refusal.Held (grind (arith, is, b.0)))
 
     take_shown : IsAllowed (token_rule me s lies (Acquires m) (target_of h me on)) → IsShown me s g (takes m on) (token_rule me s lies (Acquires m) (target_of h me on))
     take_shown = token_shown (λ o. IsAllowed o → IsShown me s g (takes m on) o) (Acquires m) on lies of
-        (λ is free. refused_shown (unwanted g me s w (takes m on) again (token_is None is) steady.waits steady.part) (takes m on) refusal.Empty (empty_fits g me m on is))
+        (λ is free. refused_shown (subst (IsPart me s g) (unwanted g me w (takes m on) again (token_is None is) steady.waits) steady.part) (takes m on) refusal.Empty (grind (arith, is)))
         (λ x k is known. taking_shown x k (acquire me k.part m (is_some k.copy)).0 is known (acquire me k.part m (is_some k.copy)).1 (acquiring me m k.part (is_some k.copy)))
 
   -- done
   module _ (p : IsPart me s g nothing) (on : Operand) (lies : ℕ → Place) (x : ℕ) (k : Known) (is : target_of g me on ≡ Some x) (known : s.known x ≡ Some k) where
-    held_now : k.part.held ≡ g.held me x
-    held_now = ap held_of (sym known) ∙ (p.known x).held
-
     frees_shown : (b : Share) (sends : List Send) → NoGrants sends → (is_some k.part.held ≡ true) × (b.part.held ≡ None) × (b.part.want ≡ k.part.want) →
         IsShown me s g (command.Done on) (after_operation s lies x k answer.Nil (Some (saying b sends)))
-    frees_shown b sends none t = holds_shown (command.Done on) lies x k b sends None known none (free_fits g me on x is (ap (λ (n : Option Mode). is_some n) (sym held_now) ∙ t.0))
+    frees_shown b sends none t = holds_shown (command.Done on) lies x k b sends None known none (grind (arith, is, (fits x k known).held, t.0))
         (ap (λ (t : Option ℕ). changed g me (holding t None)) is) t.1 (t.2 ∙ ap want_of (sym known) ∙ (p.known x).want) (λ y h. sym (steady.part.known y).want ∙ (p.known y).want)
 
     giving_shown : (q : Part) (r : Release) → Given k.part q r → IsShown me s g (command.Done on) (after_operation s lies x k (release_answer r) (released (share_of k) q r))
     giving_shown q release_is.Free t = frees_shown (with_token (share_of k) q) [] tt t
     giving_shown q (release_is.Answers owner) t = frees_shown (without_copy q) (send owner Returns ∷ []) (refl, tt) t
-    giving_shown q release_is.Refused t = refused_shown p (command.Done on) refusal.NoToken (lack_fits g me on x is (sym held_now ∙ t))
+    giving_shown q release_is.Refused t = refused_shown p (command.Done on) refusal.NoToken (grind (arith, is, (fits x k known).held, t))
 
   done_shown : IsPart me s g nothing → (on : Operand) (lies : ℕ → Place) → IsOperandOf st on → IsShown me s g (command.Done on) (token_rule me s lies Releases (target_of h me on))
   done_shown p on lies of = token_shown (IsShown me s g (command.Done on)) Releases on lies of
@@ -349,5 +299,5 @@ module _ (st : Setting) (me : ℕ) (s : NodeState) (g : State) (w : Option Comma
       IsShown me s g c (command_rule me s full lies c (about c))
   command_shown full lies (command.Read on) of again free = take_shown Read on lies of again free
   command_shown full lies (command.Write on) of again free = take_shown Write on lies of again free
-  command_shown full lies (command.Done on) of again free = done_shown (unwanted g me s w _ again refl steady.waits steady.part) on lies of
-  command_shown full lies c of again free = graph_shown full lies c of refl (unwanted g me s w c again refl steady.waits steady.part)
+  command_shown full lies (command.Done on) of again free = done_shown (subst (IsPart me s g) (unwanted g me w _ again refl steady.waits) steady.part) on lies of
+  command_shown full lies c of again free = graph_shown full lies c of refl (subst (IsPart me s g) (unwanted g me w c again refl steady.waits) steady.part)
