@@ -1,15 +1,19 @@
 #!/usr/bin/env python3
-"""Counts instructions for each key of bmx_ilist and each name that bmx_mark marks, at 100 and at 100,000 of them.
+"""Counts instructions for each key of bmx_ilist and each name that bmx_mark marks, at 100 and at 100,000 of them,
+and times `keep` and `clean` of bmx_inter over ten pairs beside many of another bunch.
 
   bench/parts.py
 
 Puts a small program over both crates into a folder of its own, proves and builds it with `rt run`, and runs it under
 callgrind. A count is that of a run with so many, less that of a run which leaves the step out, for each key or name.
+The times are those of a second program, run with `rt try` before any proof and with every test of the language in
+place: they tell how they grow, and not how long a built program takes. `bench/parts.py pairs` takes them alone.
 """
 import os
 import re
 import shutil
 import subprocess
+import sys
 import tempfile
 
 CRATES = ["bmx_types", "bmx_ilist", "bmx_mark"]
@@ -321,6 +325,97 @@ step-requires-clause-room c =
 """,
 }
 
+PAIR_CRATES = ["bmx_types", "bmx_ilist", "bmx_shelves", "bmx_mark", "bmx_inter"]
+
+PAIRS = """#![tactic(auto)]
+
+ghost use Rattle.std.specs.Prelude.{true};
+
+use bmx_inter::Inter;
+use bmx_mark::Keeps;
+use bmx_types::{BunchNo, Name, NodeNo, Pairs};
+use std::alloc::Global;
+use std::test::Fail;
+use std::time::Instant;
+
+/// Keeps everything.
+#[derive(Drop)]
+struct Whole;
+
+impl Keeps for Whole {
+    ghost is_kept = { λ _ _. true };
+
+    ghost is_held = { λ _ _ _. true };
+
+    fn kept(&self, _name: Name) -> bool {
+        true
+    }
+
+    fn holds(&self, _source: Name, _target: Name) -> bool {
+        true
+    }
+}
+
+/// So many references of bunch 1, and ten of bunch 0 among them.
+fn filled(alloc: Global, others: u64) -> Result<Inter, Fail> {
+    let node = NodeNo::new(0).ok_or("node")?;
+    let few = BunchNo::new(0).ok_or("bunch")?;
+    let many = BunchNo::new(1).ok_or("bunch")?;
+    let target = Name::new(node, 1).ok_or("name")?;
+    let mut inter = Inter::new(alloc);
+    for count in 1..others + 1 {
+        inter.reserve(1)?;
+        let source = Name::new(node, 2 * count).ok_or("name")?;
+        inter.pair(source, many, target, 1);
+    }
+    for k in 0..10 {
+        inter.reserve(1)?;
+        let source = Name::new(node, k * (others / 5) + 1).ok_or("name")?;
+        inter.pair(source, few, target, 1);
+    }
+    Ok(inter)
+}
+
+fn main(rt: HostRuntime) -> Result<(), Fail> {
+    let none = Pairs::new(rt.alloc());
+    let few = BunchNo::new(0).ok_or("bunch")?;
+    for others in [100u64, 1_000, 10_000, 100_000] {
+        let mut inter = filled(rt.alloc(), others)?;
+        let start = Instant::now(&rt)?;
+        for _ in 0..100 {
+            inter.keep(few, &Whole);
+        }
+        let kept = start.elapsed(&rt)?.as_nanos() / 100_000;
+        let start = Instant::now(&rt)?;
+        let gone = inter.clean(few, 1, &none);
+        let cleaned = start.elapsed(&rt)?.as_nanos() / 1_000;
+        let start = Instant::now(&rt)?;
+        for i in 0..100 {
+            let _ = inter.stub(i * (others / 100));
+        }
+        let read = start.elapsed(&rt)?.as_nanos() / 100_000;
+        println!(rt; "10 pairs beside {others}: keep, all stay {kept} us; clean, {gone} go {cleaned} us; the i-th {read} us")?;
+    }
+    Ok(())
+}
+"""
+
+
+def pairs():
+    """Runs the program over bmx_inter."""
+    root = os.path.dirname(os.path.dirname(os.path.abspath(__file__)))
+    lines = [line for line in open(f"{root}/crates.txt") if line.split(":")[0] in PAIR_CRATES]
+    with tempfile.TemporaryDirectory() as folder:
+        for crate in PAIR_CRATES:
+            shutil.copytree(f"{root}/crates/{crate}", f"{folder}/crates/{crate}", ignore=shutil.ignore_patterns("out"))
+        os.makedirs(f"{folder}/crates/pairs/src")
+        with open(f"{folder}/crates.txt", "w") as file:
+            file.write("".join(lines) + "pairs: " + " ".join(PAIR_CRATES) + "\n")
+        with open(f"{folder}/crates/pairs/src/main.rt", "w") as file:
+            file.write(PAIRS)
+        ran = subprocess.run(["rt", "try"], cwd=f"{folder}/crates/pairs", stdout=subprocess.PIPE, stderr=subprocess.STDOUT)
+        print(ran.stdout.decode(), end="")
+
 
 def build(folder):
     """Writes the program over the crates into a folder, and builds it there."""
@@ -360,4 +455,6 @@ def main():
             print(f"{told}: {few:.0f} instructions each at {FEW:,}, {many:.0f} at {MANY:,}, ratio {many / few:.2f}")
 
 
-main()
+if "pairs" not in sys.argv[1:]:
+    main()
+pairs()

@@ -111,7 +111,7 @@ impl Ends<Scion> for Told<'_> {
 
 /// Stubs and scions, both by rising source and those of one source by rising target, at most one of
 /// each for a source and a target. Contracts see the two lists, and `spare`: for how many more
-/// references there is room without memory.
+/// references of any bunch there is room without memory.
 #[derive(Drop)]
 pub struct Inter {
     stubs: Side<Stub>,
@@ -144,8 +144,8 @@ impl Inter {
         }
     }
 
-    /// Makes room for so many more references. Linear in how many more than there was room for, and in
-    /// what stands where it must move it.
+    /// Makes room for so many more references of any bunch: in the list of each bunch. Linear in how many more
+    /// than there was room for, and in what stands where it must move it.
     pub fn reserve(&mut self, n: u32) -> Result<(), NoMemory>
         ensures stubs { self.new.stubs ≡ self.old.stubs }
         ensures scions { self.new.scions ≡ self.old.scions }
@@ -159,8 +159,9 @@ impl Inter {
 
     /// Notes that the step of number `clock` stores a reference to the target in the source, an object
     /// of that bunch: its stub and its scion stand, of that bunch, the scion with that number. Where
-    /// they stand already they are replaced. Searches in logarithmic time; what is new moves those
-    /// behind it, and what was of another bunch is looked for among what is of that bunch.
+    /// they stand already they are replaced, by a logarithmic search among what is of the bunch. What is new
+    /// in the bunch moves those of it that stand behind, and is looked for in each other bunch, in logarithmic
+    /// time; where it was in one those behind it move there.
     pub fn pair(&mut self, source: Name, bunch: BunchNo, target: Name, clock: u64)
         requires { 0 < self.old.spare }
         ensures stubs { self.new.stubs ≡ stubs_with source bunch target self.old.stubs }
@@ -185,9 +186,8 @@ impl Inter {
     }
 
     /// What a collection of the bunch leaves of its stubs: those whose source is kept and has the
-    /// target in its copy. Stubs of other bunches stay, and so do all scions. Walks the stubs of that bunch
-    /// alone, with a logarithmic search for each; where none goes that is all. Where some go, one pass looks at
-    /// each stub and moves those behind the first that goes, each once.
+    /// target in its copy. Stubs of other bunches stay, and so do all scions. One pass over the stubs of that
+    /// bunch, which looks at each and moves those behind the first that goes, each once.
     pub fn keep<E: Keeps>(&mut self, bunch: BunchNo, keeps: &E)
         ensures stubs { self.new.stubs ≡ stubs_kept bunch (E.is_kept keeps.now) (E.is_held keeps.now) self.old.stubs }
         ensures scions { self.new.scions ≡ self.old.scions }
@@ -199,10 +199,9 @@ impl Inter {
     /// Ends scions by this node's own table of the bunch, which lists the references that have a stub,
     /// and was made in the step of number `clock`. Removes each scion of that bunch that isn't listed
     /// and whose own number is at most that one; stubs stay. Answers how many went. Looks once whether the
-    /// list rises by source and then by target, then walks the scions of that bunch alone, with a logarithmic
-    /// search for each and one of the list for each that may go: logarithmic where the list rises, else
-    /// linear; where none goes that is all. Where some go, one pass looks at each scion and moves those behind
-    /// the first that goes, each once.
+    /// list rises by source and then by target, then makes one pass over the scions of that bunch, with a search
+    /// of the list for each that may go: logarithmic where the list rises, else linear. Those behind the first
+    /// that goes are moved, each once.
     pub fn clean(&mut self, bunch: BunchNo, clock: u64, listed: &Pairs) -> u64
         ensures stubs { self.new.stubs ≡ self.old.stubs }
         ensures scions { self.new.scions ≡ scions_cleaned bunch clock listed.now self.old.scions }
@@ -220,7 +219,8 @@ impl Inter {
         self.scions.end(bunch, &told)
     }
 
-    /// The i-th stub from 0, by rising source and then by rising target; None from their number on.
+    /// The i-th stub from 0, by rising source and then by rising target; None from their number on. A
+    /// logarithmic search in each bunch, each step of which is one search in all of them.
     pub fn stub(&self, i: u64) -> Option<Stub>
         ensures value { result ≡ slice_get self.now.stubs i }
         ensures order { IsInOrder stub_pair self.now.stubs }
@@ -228,7 +228,8 @@ impl Inter {
         self.stubs.get(i)
     }
 
-    /// The i-th scion from 0, by rising source and then by rising target; None from their number on.
+    /// The i-th scion from 0, by rising source and then by rising target; None from their number on. A
+    /// logarithmic search in each bunch, each step of which is one search in all of them.
     pub fn scion(&self, i: u64) -> Option<Scion>
         ensures value { result ≡ slice_get self.now.scions i }
         ensures order { IsInOrder scion_pair self.now.scions }
