@@ -1,15 +1,15 @@
 -- What one that is put, and what goes, makes of the lists of the bunches.
-use Rattle.std.proofs.Common.{◌≡◌, ◌≢◌, ℕ, zero, suc, ◌+◌, ◌<◌, ◌≤◌, Bool, true, false, cond, not, ◌&&◌, ◌||◌, ◌==◌, List, [], ◌∷◌, ◌++◌, length, get_or, set, Some, None, is_none, refl, sym, ap, ◌∙◌, subst, arith, filter, find, All, count_by, inl, inr, ⊎_elim}
-use Rattle.std.proofs.lemmas.Bool.{cond-true, cond-false, cond_both, cases_Bool, cases_eq, eq-eqb, ne_eqb, eqb-true}
+use Rattle.std.proofs.Common.{◌≡◌, ◌≢◌, ℕ, ◌<◌, Bool, true, false, not, ◌&&◌, ◌==◌, List, [], ◌∷◌, ◌++◌, length, get_or, set, Some, None, is_none, refl, sym, ap, ◌∙◌, subst, arith, filter, find, All, count_by, ⊎_elim}
+use Rattle.std.proofs.lemmas.Bool.{cond-false, cond_both, cases_Bool, cases_eq, eq-eqb, ne_eqb, eqb-true}
 use Rattle.std.proofs.lemmas.Bool.Decides.{nat_tests}
-use Rattle.std.proofs.lemmas.List.{get_or-set_same, get_or-set_other, length-set, get_or_default}
-use Rattle.std.proofs.lemmas.List.Elements.{filter-append, filter_agree, All-head, All-tail, All-cons, All-append, All-filter, All-set}
+use Rattle.std.proofs.lemmas.List.{get_or-set_same, get_or-set_other, length-set}
+use Rattle.std.proofs.lemmas.List.Elements.{filter-append, filter_agree, All-cons, All-append, All-filter}
 use Rattle.bmx_types.specs.declared.names.Pair.{Pair}
 use Rattle.bmx_shelves.proofs.Parts.{find_none, AllPairs-tail, AllPairs-head}
 use Rattle.bmx_shelves.proofs.Counts.{count_by-filter}
 use Rattle.bmx_inter.specs.Order.{is_same, is_ahead, IsInOrder, find_one, with_one, without_one}
 use Rattle.bmx_inter.specs.Inside.Sides.{Sided, AreParts, is_ended_in}
-use Rattle.bmx_inter.proofs.Keys.{key_cases, is_behind-ahead, is_ahead-of, is_ahead-trans}
+use Rattle.bmx_inter.proofs.Keys.{key_cases, is_behind-ahead, is_ahead-trans}
 use Rattle.bmx_inter.proofs.Found.{IsInOrder-filter}
 use Rattle.bmx_inter.proofs.Merged.{clash, into, out, none, every, filter-twice, filters-agree, filter-swap}
 

@@ -1,14 +1,14 @@
 -- The lists of the bunches in one: what it is, and what a change of one list makes of it.
-use Rattle.std.proofs.Common.{◌≡◌, ◌≢◌, ℕ, zero, suc, ◌+◌, ◌<◌, ◌≤◌, Bool, true, false, cond, not, ◌&&◌, ◌||◌, ◌==◌, nat_le, nat_lt, List, [], ◌∷◌, ◌++◌, length, get_or, Some, None, refl, sym, ap, ◌∙◌, subst, arith, filter, find, All, count_by, ◌⊎◌, inl, inr, ⊎_elim}
-use Rattle.std.proofs.lemmas.Bool.{cond-true, cond-false, cond_both, cases_Bool, cases_eq}
+use Rattle.std.proofs.Common.{◌≡◌, ℕ, suc, ◌+◌, ◌<◌, ◌≤◌, Bool, true, false, cond, ◌&&◌, ◌||◌, ◌==◌, nat_le, nat_lt, List, [], ◌∷◌, ◌++◌, length, get_or, refl, sym, ap, ◌∙◌, subst, arith, filter, All, ◌⊎◌, ⊎_elim}
+use Rattle.std.proofs.lemmas.Bool.{cond-true, cond-false, cases_Bool}
 use Rattle.std.proofs.lemmas.Bool.Decides.{nat_tests}
-use Rattle.std.proofs.lemmas.List.Elements.{filter-append, filter_agree, filter_passes, All-head, All-tail, All-cons, All-append, All-filter}
+use Rattle.std.proofs.lemmas.List.Elements.{filter_agree, All-head, All-tail, All-filter}
 use Rattle.bmx_types.specs.declared.names.Pair.{Pair}
 use Rattle.bmx_shelves.proofs.Parts.{filter_none, filter_all, AllPairs-tail, AllPairs-head}
-use Rattle.bmx_inter.specs.Order.{is_same, is_ahead, IsInOrder, find_one, with_one, without_one}
-use Rattle.bmx_inter.specs.Inside.Sides.{Sided, overlay, merged, AreParts, Kept, is_ended_in}
-use Rattle.bmx_inter.proofs.Keys.{key_cases, is_behind-ahead, is_same-ahead, is_same-behind}
-use Rattle.bmx_inter.proofs.Found.{IsInOrder-with_one, IsInOrder-filter}
+use Rattle.bmx_inter.specs.Order.{is_ahead, IsInOrder, with_one}
+use Rattle.bmx_inter.specs.Inside.Sides.{Sided, overlay, merged, AreParts, Kept}
+use Rattle.bmx_inter.proofs.Keys.{is_behind-ahead}
+use Rattle.bmx_inter.proofs.Found.{IsInOrder-with_one}
 
 pub clash : {b : Bool} → b ≡ true → b ≡ false → ⊥
 clash t f = let e : true ≡ false = sym t ∙ f in cc

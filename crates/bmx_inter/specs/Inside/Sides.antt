@@ -1,5 +1,5 @@
 -- How stubs or scions of a node stand in a list for each bunch.
-use Rattle.std.specs.Prelude.{◌≡◌, ℕ, ◌+◌, ◌-◌, ◌<◌, ◌≤◌, Bool, ◌&&◌, ◌==◌, nat_lt, if◌then◌else◌, List, [], ◌∷◌, length, slice_index_or, filter, count_by, sum_by, Option, Some, None, All, ◌⊎◌}
+use Rattle.std.specs.Prelude.{◌≡◌, ℕ, ◌-◌, ◌<◌, ◌≤◌, Bool, ◌&&◌, ◌==◌, nat_lt, if◌then◌else◌, List, [], ◌∷◌, length, slice_index_or, filter, count_by, sum_by, Option, Some, None, All, ◌⊎◌}
 use Rattle.bmx_types.specs.declared.names.Pair.{Pair}
 use Rattle.bmx_inter.specs.Order.{is_ahead, with_one}
 

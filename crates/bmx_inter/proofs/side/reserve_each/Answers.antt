@@ -1,7 +1,5 @@
-use Rattle.std.proofs.Common.{◌≡◌, ◌≤◌, ◌+◌, ◌<◌, ℕ, length, get_or, set, take, All, subst, sym, ap, ◌∙◌, arith, rules, ⊎_elim}
-use Rattle.std.proofs.lemmas.Bool.{cases_eq}
+use Rattle.std.proofs.Common.{◌≤◌, ◌<◌, length, All, subst, ◌∙◌, rules}
 use Rattle.std.proofs.lemmas.List.{length-set, take_all}
-use Rattle.std.proofs.lemmas.List.Elements.{All-set}
 use Rattle.bmx_inter.specs.Inside.Sides.{Sided}
 use Rattle.bmx_inter.proofs.Sides.{list-kept, spare-kept, All-grown}
 use Rattle.bmx_inter.proofs.side.reserve_each.Goals as goal

@@ -1,4 +1,4 @@
-use Rattle.std.proofs.Common.{◌≡◌, ◌<◌, length, not, filter, count_by, subst, ap, sym, ◌∙◌, arith, rules}
+use Rattle.std.proofs.Common.{◌<◌, length, not, filter, count_by, ap, ◌∙◌, rules}
 use Rattle.bmx_inter.specs.Inside.Sides.{Sided, is_ended_in, merged}
 use Rattle.bmx_inter.proofs.Changes.{ended-count}
 use Rattle.bmx_inter.proofs.Sides.{Kept-ended, merged-ended}

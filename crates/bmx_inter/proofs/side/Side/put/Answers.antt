@@ -1,7 +1,6 @@
-use Rattle.std.proofs.Common.{◌≡◌, ◌≢◌, ◌<◌, ◌≤◌, ◌-◌, ℕ, length, get_or, set, All, subst, ap, sym, ◌∙◌, arith, rules, ⊎_elim}
+use Rattle.std.proofs.Common.{◌<◌, ◌-◌, length, set, ap, sym, ◌∙◌}
 use Rattle.std.proofs.lemmas.List.{length-set}
-use Rattle.bmx_types.specs.declared.names.Pair.{Pair}
-use Rattle.bmx_inter.specs.Order.{with_one, without_one}
+use Rattle.bmx_inter.specs.Order.{with_one}
 use Rattle.bmx_inter.specs.Inside.Sides.{Sided}
 use Rattle.bmx_inter.proofs.Sides.{put-here, put-beside, put-elsewhere, put-spare, Kept-put, merged-put, has_bunches, spare-kept}
 use Rattle.bmx_inter.proofs.side.Side.put.Goals as goal

@@ -1,4 +1,4 @@
-use Rattle.std.proofs.Common.{◌≡◌, ◌+◌, true, is_ok, insert, sym, subst, ap, ◌∙◌, rules}
+use Rattle.std.proofs.Common.{◌≡◌, true, is_ok, insert, sym, subst, ap, ◌∙◌, rules}
 use Rattle.std.proofs.lemmas.Bool.{cond-true}
 use Rattle.bmx_types.specs.declared.names.Pair.{Pair}
 use Rattle.bmx_inter.specs.Order.{IsInOrder, with_one}
