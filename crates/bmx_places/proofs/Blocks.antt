@@ -257,13 +257,10 @@ module _ (st : Setting) (w v : World) (blocks : ℕ → Option Block) (at : ℕ)
 
   pairs : (P : ℕ → Block → ℕ → Block → Type 0) → P at new at new → ((a : ℕ) (b : Block) → blocks a ≡ Some b → P at new a b × P a b at new) →
       ((a c : ℕ) (b d : Block) → blocks a ≡ Some b → blocks c ≡ Some d → P a b c d) → (a c : ℕ) (b d : Block) → more a ≡ Some b → more c ≡ Some d → P a b c d
-  pairs P same one both a c b d e f = by_which (which a b e) (which c d f)
-    where
-      by_which : ((at ≡ a) × (new ≡ b)) ⊎ (blocks a ≡ Some b) → ((at ≡ c) × (new ≡ d)) ⊎ (blocks c ≡ Some d) → P a b c d
-      by_which (inl n) (inl o) = rw (← n.0, ← n.1, ← o.0, ← o.1) same
-      by_which (inl n) (inr o) = rw (← n.0, ← n.1) ((one c d o).0)
-      by_which (inr n) (inl o) = rw (← o.0, ← o.1) ((one a b n).1)
-      by_which (inr n) (inr o) = both a c b d n o
+  pairs P same one both a c b d e f = elim (which a b e) [
+    | inl n ↦ rw (← n.0, ← n.1) (elim (which c d f) [ inl o ↦ rw (← o.0, ← o.1) same | inr o ↦ (one c d o).0 ])
+    | inr n ↦ elim (which c d f) [ inl o ↦ rw (← o.0, ← o.1) ((one a b n).1) | inr o ↦ both a c b d n o ]
+  ]
 
   overlaps_not : (i words j others : ℕ) → i + words ≤ j → (overlaps i words j others ≡ false) × (overlaps j others i words ≡ false)
   overlaps_not i words j others h = (grind (arith, nat_tests), grind (arith, nat_tests))

@@ -60,13 +60,9 @@ pub record Kept (st : Setting) (past : List Event) (nodes : ℕ → Node) : Type
 
 -- ## one more event
 
-right_grown : (blocks more : ℕ → Option Block) → Grows blocks more → (m : Msg) → IsRight blocks m → IsRight more m
-right_grown blocks more grows m r =
-    record { told = every_map (IsTold blocks) (IsTold more) (λ info h. grows info.place.address (block_of info) h) (infos m) r.told; full = r.full }
-
 issued_grown : (blocks more : ℕ → Option Block) → Grows blocks more → (past : List Event) → EachIssued blocks past → EachIssued more past
 issued_grown blocks more grows = every_map (IssuesRight blocks) (IssuesRight more) (λ e.
-    every_map (Goes blocks) (Goes more) (λ l h. record { right = right_grown blocks more grows l.letter.msg h.right; stamp = h.stamp }) e.done.letters)
+    every_map (Goes blocks) (Goes more) (λ l h. record { right = record { told = every_map (IsTold blocks) (IsTold more) (λ info. grows info.place.address (block_of info)) (infos l.letter.msg) h.right.told; full = h.right.full }; stamp = h.stamp }) e.done.letters)
 
 node_grown : (blocks more : ℕ → Option Block) → Grows blocks more → (n : Node) → IsOfBlocks blocks n → IsOfBlocks more n
 node_grown blocks more grows n of = record {
@@ -75,30 +71,22 @@ node_grown blocks more grows n of = record {
 }
 
 -- changes only add to the names made
-one_more_made : (s : NodeState) (c : Change) → s.made ≤ (after_change s c).made
-one_more_made s c = grind arith
-
 made_more : (changes : List Change) (s : NodeState) → s.made ≤ (after_changes s changes).made
 made_more [] s = omega arith
-made_more (c ∷ changes) s = omega (arith, one_more_made s c, made_more changes (after_change s c))
+made_more (c ∷ changes) s = (let one : s.made ≤ (after_change s c).made = grind arith in omega (arith, one, made_more changes (after_change s c)))
 
 -- hearing of objects writes no record, and what was known stays
-hears_entering : (from : ℕ) (more : List Info) (s : NodeState) → (after_changes s (map (Hears from) more)).entering ≡ s.entering
-hears_entering from [] s = refl
-hears_entering from (info ∷ more) s = hears_entering from more (after_change s (Hears from info))
-
-hears_stays : (from : ℕ) (more : List Info) (s : NodeState) (x : ℕ) (k : Known) → s.known x ≡ Some k → (after_changes s (map (Hears from) more)).known x ≡ Some k
-hears_stays from [] s x k e = e
-hears_stays from (info ∷ more) s x k e = hears_stays from more (after_change s (Hears from info)) x k
-    (heard_each (λ y j. s.known y ≡ Some k → j ≡ Some k) from s.known info (λ none h. none_some (sym none ∙ h)) (λ y h. h) x e)
+hears : (from : ℕ) (more : List Info) (s : NodeState) →
+    ((after_changes s (map (Hears from) more)).entering ≡ s.entering) × ((x : ℕ) (k : Known) → s.known x ≡ Some k → (after_changes s (map (Hears from) more)).known x ≡ Some k)
+hears from [] s = (refl, λ x k e. e)
+hears from (info ∷ more) s =
+    let rest = hears from more (after_change s (Hears from info)) in
+    (rest.0, λ x k e. rest.1 x k (heard_each (λ y j. s.known y ≡ Some k → j ≡ Some k) from s.known info (λ none h. none_some (sym none ∙ h)) (λ y h. h) x e))
 
 -- without stray letters those that came were taken
-taken_unless : (a : NodeAnswer) → NotStray a → is_taken a ≡ true
-taken_unless a n = grind arith
-
 all_taken : (past : List Event) → Every (λ (e : Event). NotStray e.done.answer) past → filter (λ (e : Event). is_taken e.done.answer) past ≡ past
 all_taken [] h = refl
-all_taken (e ∷ past) h = rw (taken_unless e.done.answer h.0) (ap (λ (l : List Event). e ∷ l) (all_taken past h.1))
+all_taken (e ∷ past) h = (let taken : is_taken e.done.answer ≡ true = grind (arith, h.0) in rw taken (ap (λ (l : List Event). e ∷ l) (all_taken past h.1)))
 
 module _ (st : Setting) (past : List Event) (nodes : ℕ → Node) (e : Event) (after : Node) (opening : IsOpening st.nodes st.limit st.births) (legal : IsLegal st past)
     (reached : AreAfter st past nodes) (step : IsStep st e.node (nodes e.node) e.stamp e.input e.done after) (fits : Fits st past e) (kept : Kept st past nodes) where
@@ -276,12 +264,12 @@ module _ (st : Setting) (past : List Event) (nodes : ℕ → Node) (e : Event) (
 
     known_plainly : (k : Option Known) → s.known (name_in m) ≡ k → Each (Plain t.known) (known_change (name_in m) k (copy_after m k) takeable.turn.after)
     known_plainly None e = tt
-    known_plainly (Some k) e = known_plain t.known (name_in m) k (copy_after m (Some k)) takeable.turn.after (hears_stays from (infos m) s (name_in m) k e) (copy_full m takeable.issued.right k e)
+    known_plainly (Some k) e = known_plain t.known (name_in m) k (copy_after m (Some k)) takeable.turn.after ((hears from (infos m) s).1 (name_in m) k e) (copy_full m takeable.issued.right k e)
 
     -- what is handed over is known
     handed_over : (n : Note) (k : Option Known) → s.known (name_in m) ≡ k → note_transition me from n (option_map share_of k) ≡ Some takeable.turn → n ≡ Grants Write → IsKnown t.known (name_in m)
     handed_over n None e turns is = none_some (sym (ap (λ (j : Note). note_transition me from j None) is) ∙ turns)
-    handed_over n (Some k) e turns is = (k, hears_stays from (infos m) s (name_in m) k e)
+    handed_over n (Some k) e turns is = (k, (hears from (infos m) s).1 (name_in m) k e)
 
     drafts : Every (IsDraft kept.blocks t.known) o.drafts
     drafts = silent_drafts kept.blocks t.known s step.told.lies (name_in m) takeable.turn.sends
@@ -293,7 +281,7 @@ module _ (st : Setting) (past : List Event) (nodes : ℕ → Node) (e : Event) (
         heard.2
         t _ (after_append s (map (Hears from) (infos m)) _)
         (taking_each (Plain t.known) from l.seq (name_in m) (note_in m) _ (known_plainly (s.known (name_in m)) refl) (handed_over (note_in m) (s.known (name_in m)) refl takeable.turns) tt)
-        heard.1 (hears_entering from (infos m) s) drafts (λ h. cc)
+        heard.1 (hears from (infos m) s).0 drafts (λ h. cc)
 
   by_input : (i : Input) → e.input ≡ i → Kept st (past ++ e ∷ []) (put nodes me after)
   by_input (Do c) is = by_command c is (command_comes kept.blocks me s here.places step.told.full step.told.lies (kept.each me).keeps lies_at aware owners c)
