@@ -1,7 +1,7 @@
 -- Each law applies to runs worked by hand, and tells them from the same with one outcome changed.
 use Rattle.bmx_store_laws.proofs.Words.{◌≡◌, ℕ, refl, ap, sym, subst, ◌∙◌, Bool, true, false, cond, List, [], ◌∷◌, ◌<◌, arith, drop, length, zero, suc, option_map, option_map_or, Option, Some, None, is_some, ◌==◌, ◌&&◌, nat_lt, put, Command, Mode, Read, Write}
 use Rattle.bmx_store_laws.proofs.Words.{Birth, Val, Letter, can_serve, some_same, none_some, Two, Same, Apart, two, put_apart, Play, anchor, the_anchor, told_of_the_object, written_by_its_taker, in_flight, waits_with, taken, Known, first_known}
-use Rattle.bmx_store_laws.proofs.Words.{birth_of, is_anchor, owned_birth, heard_birth, CanServe, is_ready, first_node, world_of, IsCurrent, laws_apply, put_each}
+use Rattle.bmx_store_laws.proofs.Words.{birth_of, is_anchor, owned_birth, heard_birth, CanServe, is_ready, first_node, world_of, IsCurrent, laws_apply, put_each, either}
 use Rattle.bmx_store_laws.proofs.Words.command
 use Rattle.bmx_store_laws.proofs.Words.val
 use Rattle.bmx_store_laws.proofs.Words.msg_field
@@ -54,13 +54,7 @@ idle_else : (n : ℕ) (known : ℕ → Option Known) (k : Option Known) → ((x 
 idle_else n known k else x h = ap (serves n) (put_apart known 1 x k h) ∙ else x h
 
 idle_first : (x : ℕ) → (serves 0 (first_known store 0 x) ≡ false) × (serves 1 (first_known store 1 x) ≡ false)
-idle_first x = (owned (birth_of store x), heard (is_anchor store x) (birth_of store x))
-  where
-    owned : (b : Option Birth) → serves 0 (option_map owned_birth b) ≡ false
-    owned b = grind arith
-
-    heard : (t : Bool) (b : Option Birth) → serves 1 (cond t (option_map heard_birth b) None) ≡ false
-    heard t b = grind arith
+idle_first x = (grind arith, grind arith)
 
 idle_in : (p : Play) → ((x : ℕ) → serves 0 ((p.nodes 0).state.known x) ≡ false) → ((x : ℕ) → serves 1 ((p.nodes 1).state.known x) ≡ false) →
     (n x : ℕ) → n < 2 → CanServe n (p.nodes n).state x → ⊥
@@ -92,12 +86,8 @@ no_holder : StuckNamesHolders store (world_of waiting.nodes never_asked) never_a
 no_holder named = unheld (named (record { no_letter = none; no_serve = idle; not_ready = unready }) 1 Write 1 (omega arith)
     (record { command = command.Write anchor; operand = anchor; waits = refl; takes = refl; means = refl }))
   where
-    empty : (b : Bool) → cond {A = List Letter} b [] [] ≡ []
-    empty true = refl
-    empty false = refl
-
     none : (n m : ℕ) → in_flight n m never_asked ≡ []
-    none n m = ap (drop (length (taken n m never_asked))) (empty (1 == n)) ∙ drop_none (length (taken n m never_asked))
+    none n m = ap (drop (length (taken n m never_asked))) (either {A = List Letter} (λ l. l ≡ []) (1 == n) [] [] (λ _. refl) (λ _. refl)) ∙ drop_none (length (taken n m never_asked))
 
     idle : (n x : ℕ) → n < 2 → CanServe n (waiting.nodes n).state x → ⊥
     idle = idle_in waiting (λ x. (idle_first x).0) (idle_put _ _ _ refl (λ x _. (idle_first x).1))

@@ -291,9 +291,7 @@ module _ (st : Setting) (opening : IsOpening st.nodes st.limit st.births) (past 
 
       -- an entry stays
       still : (x : ℕ) → is_some (s.known x) ≡ true → is_some (own_state.known x) ≡ true
-      still x knows = knows_it (own_state.known x) (λ at. (let none : s.known x ≡ None =
-          unknown (s.known x) (all_spared x o.changes (seen_known (s.known x)) (sym (shares_changed x o.changes s) ∙ ap seen_known at)).0 in
-          let both : false ≡ true = ap (λ (k : Option Known). is_some k) (sym none) ∙ knows in cc))
+      still x knows = knows_it (own_state.known x) (λ at. absurd (grind (arith, unknown (s.known x) (all_spared x o.changes (seen_known (s.known x)) (sym (shares_changed x o.changes s) ∙ ap seen_known at)).0)))
 
       counted : (count : ℕ) (f : Effect) → NamesIt me s own_state f → own_state.made ≡ (changed g me f).made me → 1 ≤ count → count ≤ own_state.made → is_some (own_state.known (name_word me count)) ≡ true
       counted count (MakesOne register bunch size) names made one most =
