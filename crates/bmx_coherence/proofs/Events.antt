@@ -1,6 +1,6 @@
 -- A moment of a legal history, what the laws of one object say of it, and what stands after one more event: nodes are parts
 -- of the graph, grants in flight bring its fields, wants are waited for, and the commands so far are a run.
-use Rattle.bmx_store_laws.proofs.Words.{◌≡◌, ℕ, refl, ap, sym, subst, ◌∙◌, true, false, cond, List, [], ◌∷◌, map, ◌<◌, arith, zero, suc, ◌⊎◌, inl, inr, ◌+◌, ◌≤◌, ◌++◌, ◌≢◌, ◌^◌, append-nil, map-append, filter_map-append, Contains-append_cases, cons_option}
+use Rattle.bmx_store_laws.proofs.Words.{◌≡◌, ℕ, refl, ap, sym, subst, ◌∙◌, true, false, cond, List, [], ◌∷◌, map, ◌<◌, arith, zero, suc, ◌⊎◌, inl, inr, ◌+◌, ◌≤◌, ◌++◌, ◌^◌, append-nil, map-append, filter_map-append, Contains-append_cases, cons_option}
 use Rattle.bmx_store_laws.proofs.Words.{option_map, option_and_then, Option, Some, None, is_some, ◌==◌, ◌&&◌, ◌||◌, nat_le, Contains, IsSome, count_by, IsOpening, put, name_word, Info, Command, Operand, Register, Anchor, Mode, Read, Write, Val, Field, Letter}
 use Rattle.bmx_store_laws.proofs.Words.{Msg, ReadGrant, WriteGrant, is_excluded-none, is_excluded, excludes, State, opening_state, reference, target_of, changed, state_after, state_after_all, Act, IsRun, Answer, Effect, Nothing, MakesOne, Stores, Transition}
 use Rattle.bmx_store_laws.proofs.Words.{note_transition, Role, Owner, Parent, IsShared, shared_run, IsSound, IsSoundIf, IsNowhere, eqb_same, put_same, some_same, none_some, Same, Apart, two, put_apart, eqb_is, eqb_not, eqb_of, eqb_apart, after_changes}
@@ -8,15 +8,13 @@ use Rattle.bmx_store_laws.proofs.Words.{IsOperandOf, in_flight, waits_with, lett
 use Rattle.bmx_store_laws.proofs.Words.{only, name_in, note_in, took, take_rule, Node, command_in, rule, too_large, is_no_node, is_bad_msg, is_bad_letter, world_of, HasOwned, Event, Input, Do, Serve, Take, NodeAnswer, Sending, nodes_of, tested, either}
 use Rattle.bmx_store_laws.proofs.Words.{put_each, every_map, every_there, first_there, flight_more, IsOneMore, step_letters, step_answer, step_leaves, numbered_each, issued_to, GrantsNothing, note_grants, each_name, Came, came_after, first_letter, good_letter}
 use Rattle.bmx_store_laws.proofs.Words.{new_nowhere, write_excludes, one_seat, readers_are_listed_always, split_at, moving_counted, IsLeft, shares_changed, all_spared, seen_known, seen, seen_message, seen_note, first_world, IsSeated, HasReader, handovers_of}
-use Rattle.bmx_store_laws.proofs.Words.{IsFree, IsUnborn}
+use Rattle.bmx_store_laws.proofs.Words.{IsFree, IsUnborn, IfSome, not, at_each_number}
 use Rattle.bmx_store_laws.proofs.Words.val
-use Rattle.bmx_store_laws.proofs.Words.graph_step
 use Rattle.bmx_store_laws.proofs.Words.answer
 use Rattle.bmx_store_laws.proofs.Words.seated
-use Rattle.std.proofs.Common.{not}
+use Rattle.bmx_store_laws.specs.Laws.{EachReaderIsListed}
 use Rattle.bmx_coherence.specs.Graphs.{graph_answer, act_of, acts_of, graph_after}
 use Rattle.bmx_protocol.specs.Worlds.{At}
-use Rattle.std.specs.Prelude.{IfSome}
 use Rattle.bmx_coherence.proofs.Answers.{IsShown, Ungranting, NamesIt, command_shown, IsSteady, waiting_after, notes_ungranting}
 use Rattle.bmx_coherence.proofs.Parts.{IsPart, EachBrings, took_part, waiting_else, held_of, IsOwnStore, object_kept, wants, FitsAt, IsBeside, IsWaiting, part_else, known_of, served_part, BringsFields}
 
@@ -28,7 +26,7 @@ pub record IsMoment (st : Setting) (past : List Event) (nodes : ℕ → Node) : 
 
 -- nothing of an object is anywhere but at one node: no copy, no grant in flight
 pub record IsAlone (past : List Event) (nodes : ℕ → Node) (me x : ℕ) : Type 0 where
-  pub copies : (n : ℕ) → n ≢ me → (fields : List Val) → fields_known ((nodes n).state.known x) ≡ Some fields → ⊥
+  pub copies : (n : ℕ) → (me == n) ≡ false → (fields : List Val) → fields_known ((nodes n).state.known x) ≡ Some fields → ⊥
   pub grants : (n m : ℕ) (l : Letter) (info : Info) (fields : List Field) → Contains (in_flight n m past) l → grant_in l.msg ≡ Some (info, fields) → info.name ≡ x → ⊥
 
 -- what isn't unknown is known, and what is seen as unknown is
@@ -125,44 +123,31 @@ module _ (st : Setting) (past : List Event) (nodes : ℕ → Node) (now : IsMome
 
     pub writer_alone : IsAlone past nodes me x
     writer_alone = record {
-      copies = λ n apart fields has. (let j = known_copy ((nodes n).state.known x) fields has in by_role n apart j.0 j.1 j.2 j.0.part.role refl);
-      grants = λ n m l info fields there brought named. by_message n m l info fields there named l.msg refl brought;
+      copies = λ n apart fields has. (let j = known_copy ((nodes n).state.known x) fields has in eqb_not me n apart (sym (sole.0 n j.0 (record {
+        known = j.1;
+        owns =
+            only_owner j.0.part.role (λ parent asks. no_reader parent n (listed.copies n x parent j.0 (record { known = j.1; asks = asks }) j.2));
+      }))));
+      grants = λ n m l info fields there brought named. by_message n m l there l.msg refl (granted_name l.msg info fields brought ∙ named) (grind (arith, brought));
     }
       where
-        by_role : (n : ℕ) → n ≢ me → (j : Known) → (nodes n).state.known x ≡ Some j → IsSome j.copy → (r : Role) → j.part.role ≡ r → ⊥
-        by_role n apart j at copy Owner e = apart (sole.0 n j (record { known = at; owns = e }))
-        by_role n apart j at copy (Parent parent) e =
-            no_reader parent n ((readers_are_listed_always st past nodes now.opening now.legal now.after).copies n x parent j (record { known = at; asks = e }) copy)
+        listed : EachReaderIsListed (world_of nodes past)
+        listed = readers_are_listed_always st past nodes now.opening now.legal now.after
 
-        by_message : (n m : ℕ) (l : Letter) (info : Info) (fields : List Field) → Contains (in_flight n m past) l → info.name ≡ x → (g : Msg) → l.msg ≡ g → grant_in g ≡ Some (info, fields) → ⊥
-        by_message n m l info fields there named (ReadGrant i f) e some = no_reader n m (subst (λ (z : ℕ). HasReader (world_of nodes past) z n m) (granted_name (ReadGrant i f) info fields some ∙ named)
-            ((readers_are_listed_always st past nodes now.opening now.legal now.after).grants n m l i f there e))
-        by_message n m l info fields there named (WriteGrant i f) e some = omega (
-          arith,
-          sole.1 n m,
-          moving_counted (world_of nodes past) x n m l i f (record { there = there; grants = e; named = granted_name (WriteGrant i f) info fields some ∙ named }),
-        )
-        by_message n m l info fields there named _ e some = none_some some
+        by_message : (n m : ℕ) (l : Letter) → Contains (in_flight n m past) l → (g : Msg) → l.msg ≡ g → name_in g ≡ x → is_some (grant_in g) ≡ true → ⊥
+        by_message n m l there (ReadGrant i f) e named some = no_reader n m (subst (λ (z : ℕ). HasReader (world_of nodes past) z n m) named (listed.grants n m l i f there e))
+        by_message n m l there (WriteGrant i f) e named some = omega (arith, sole.1 n m, moving_counted (world_of nodes past) x n m l i f (record { there = there; grants = e; named = named }))
+        by_message n m l there _ e named some = absurd cc
 
   -- ## objects that effects leave
 
-  -- each object that an effect changes is nowhere else
-  abbrev pub IsAlonePer : ℕ → State → Effect → Type 0
-  IsAlonePer me g (MakesOne register bunch size) = IsAlone past nodes me (graph_step.next_name g me)
-  IsAlonePer me g (Stores name index v) = IsAlone past nodes me name
-  IsAlonePer me g _ = Unit {0}
-
-  pub alone_per : (me : ℕ) (g : State) (v : ℕ → Option Mode) (e : Effect) → IsEarly me past → IsPart me (nodes me).state g v → IsOwnStore me g e → IsAlonePer me g e
-  alone_per me g v (MakesOne register bunch size) few part own = subst (IsAlone past nodes me) (ap (λ (n : ℕ). name_word me (n + 1)) part.made) (new_alone me few)
-  alone_per me g v (Stores name index value) few part own =
-      (let k = known_of (λ j. j.part.held) ((nodes me).state.known name) Write ((part.known name).held ∙ own) in writer_alone me name k.0 k.1 k.2)
-  alone_per me g v _ few part own = tt
-
-  -- it leaves what isn't alone
-  pub beside : (me : ℕ) (g : State) (e : Effect) → IsAlonePer me g e → (x : ℕ) → (IsAlone past nodes me x → ⊥) → IsBeside g me x e
-  beside me g (MakesOne register bunch size) alone x other = λ same. other (subst (IsAlone past nodes me) same alone)
-  beside me g (Stores name index v) alone x other = λ same. other (subst (IsAlone past nodes me) same alone)
-  beside me g _ alone x other = tt
+  -- an effect changes no object that isn't alone at its node
+  pub beside : (me : ℕ) (g : State) (v : ℕ → Option Mode) (e : Effect) → IsEarly me past → IsPart me (nodes me).state g v → IsOwnStore me g e →
+      (x : ℕ) → (IsAlone past nodes me x → ⊥) → IsBeside g me x e
+  beside me g v (MakesOne register bunch size) few part own x other = λ same. other (subst (IsAlone past nodes me) (ap (λ (n : ℕ). name_word me (n + 1)) part.made ∙ same) (new_alone me few))
+  beside me g v (Stores name index value) few part own x other = λ same.
+      (let k = known_of (λ j. j.part.held) ((nodes me).state.known name) Write ((part.known name).held ∙ own) in other (subst (IsAlone past nodes me) same (writer_alone me name k.0 k.1 k.2)))
+  beside me g v _ few part own x other = tt
 
 -- ## what stands
 
@@ -246,11 +231,8 @@ module _ (st : Setting) (opening : IsOpening st.nodes st.limit st.births) (past 
       abbrev h : State
       h = changed g me seen.effect_is
 
-      alone : IsAlonePer st past nodes stands.now me g seen.effect_is
-      alone = alone_per st past nodes stands.now me g (wants g me waiting) seen.effect_is ev.fits.few (stands.parts me) seen.own
-
       beside_it : (x : ℕ) → (IsAlone past nodes me x → ⊥) → IsBeside g me x seen.effect_is
-      beside_it = beside st past nodes stands.now me g seen.effect_is alone
+      beside_it = beside st past nodes stands.now me g (wants g me waiting) seen.effect_is ev.fits.few (stands.parts me) seen.own
 
       -- each node's part, and what it waits for, with the graph and the history as they are then
       abbrev Parts : ℕ → Node → Option Command → Type 0
@@ -267,15 +249,12 @@ module _ (st : Setting) (opening : IsOpening st.nodes st.limit st.births) (past 
       )
 
       part_of : (n : ℕ) → Parts n (nodes_after n) (waits_with n None (past ++ e ∷ []))
-      part_of n = rw (waits_more n None past e) (elim (two me n) [
-        | Same q ↦ subst (λ (k : ℕ). Parts k (nodes_after k) (cond (me == k) (waits_after (waits_with k None past) e.input e.done.answer) (waits_with k None past))) q
-            (rw (eqb_same me) part_after)
-        | Apart q d ↦ rw q (
-          part_else me n g seen.effect_is q (nodes n).state (waits_with n None past)
-              (λ x fields has. beside_it x (λ a. a.copies n (λ same. d (sym same)) fields has)) (stands.parts n),
-          waiting_else me n g seen.effect_is q (waits_with n None past) (stands.waits n),
-        )
-      ])
+      part_of = at_each_number (λ n. Parts n (nodes_after n) (waits_with n None (past ++ e ∷ []))) me (rw (waits_more me None past e, eqb_same me) part_after)
+          (λ n q. rw (waits_more n None past e, q) (
+            part_else me n g seen.effect_is q (nodes n).state (waits_with n None past)
+                (λ x fields has. beside_it x (λ a. a.copies n q fields has)) (stands.parts n),
+            waiting_else me n g seen.effect_is q (waits_with n None past) (stands.waits n),
+          ))
 
       grant_of : (n m : ℕ) (l : Letter) → Contains (in_flight n m past) l ⊎ ((me ≡ n) × Contains (letters_to m e.done.letters) l) → BringsFields h l.msg
       grant_of n m l (inl there) info fields grants =
