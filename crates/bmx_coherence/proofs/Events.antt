@@ -1,22 +1,21 @@
 -- A moment of a legal history, what the laws of one object say of it, and what stands after one more event: nodes are parts
 -- of the graph, grants in flight bring its fields, wants are waited for, and the commands so far are a run.
-use Rattle.bmx_store_laws.proofs.Words.{◌≡◌, ℕ, refl, ap, sym, subst, ◌∙◌, true, false, cond, List, [], ◌∷◌, map, ◌<◌, arith, zero, suc, ◌⊎◌, inl, inr, ◌+◌, ◌≤◌, ◌++◌, ◌^◌, append-nil, map-append, filter_map-append, Contains-append_cases, cons_option}
-use Rattle.bmx_store_laws.proofs.Words.{option_map, option_and_then, Option, Some, None, is_some, ◌==◌, ◌&&◌, ◌||◌, nat_le, Contains, IsSome, count_by, IsOpening, put, name_word, Info, Command, Operand, Register, Anchor, Mode, Read, Write, Val, Field, Letter}
-use Rattle.bmx_store_laws.proofs.Words.{Msg, ReadGrant, WriteGrant, is_excluded-none, is_excluded, excludes, State, opening_state, reference, target_of, changed, state_after, state_after_all, Act, IsRun, Answer, Effect, Nothing, MakesOne, Stores, Transition}
-use Rattle.bmx_store_laws.proofs.Words.{note_transition, Role, Owner, Parent, IsShared, shared_run, IsSound, IsSoundIf, IsNowhere, eqb_same, put_same, some_same, none_some, Same, Apart, two, put_apart, eqb_is, eqb_not, eqb_of, eqb_apart, after_changes}
+use Rattle.bmx_store_laws.proofs.Words.{◌≡◌, ℕ, refl, ap, sym, subst, ◌∙◌, true, false, cond, List, [], ◌∷◌, map, ◌<◌, arith, ◌⊎◌, inl, inr, ◌+◌, ◌≤◌, ◌++◌, ◌^◌, append-nil, map-append, filter_map-append, Contains-append_cases, cons_option}
+use Rattle.bmx_store_laws.proofs.Words.{option_map, Option, Some, None, is_some, ◌==◌, ◌||◌, nat_le, Contains, IsSome, count_by, IsOpening, put, name_word, Info, Command, Operand, Anchor, Mode, Write, Val, Field, Letter}
+use Rattle.bmx_store_laws.proofs.Words.{Msg, ReadGrant, WriteGrant, is_excluded-none, is_excluded, State, opening_state, target_of, changed, state_after, state_after_all, Act, IsRun, Effect, Nothing, MakesOne, Stores, Transition}
+use Rattle.bmx_store_laws.proofs.Words.{note_transition, Role, Owner, Parent, IsShared, shared_run, IsSound, IsSoundIf, IsNowhere, eqb_same, put_same, some_same, none_some, eqb_is, eqb_not, eqb_of, after_changes}
 use Rattle.bmx_store_laws.proofs.Words.{IsOperandOf, in_flight, waits_with, letters_to, IsNext, waits_after, IsAgain, IsInputOf, AreAfter, IsLegal, Setting, NodeState, Known, fields_known, share_of, Draft, Reaction, grant_in, next_name, knows}
-use Rattle.bmx_store_laws.proofs.Words.{only, name_in, note_in, took, take_rule, Node, command_in, rule, too_large, is_no_node, is_bad_msg, is_bad_letter, world_of, HasOwned, Event, Input, Do, Serve, Take, NodeAnswer, Sending, nodes_of, tested, either}
+use Rattle.bmx_store_laws.proofs.Words.{only, name_in, note_in, took, take_rule, Node, command_in, rule, too_large, is_no_node, is_bad_msg, is_bad_letter, world_of, HasOwned, Event, Input, Do, Serve, Take, Sending, nodes_of, either}
 use Rattle.bmx_store_laws.proofs.Words.{put_each, every_map, every_there, first_there, flight_more, IsOneMore, step_letters, step_answer, step_leaves, numbered_each, issued_to, GrantsNothing, note_grants, each_name, Came, came_after, first_letter, good_letter}
-use Rattle.bmx_store_laws.proofs.Words.{new_nowhere, write_excludes, one_seat, readers_are_listed_always, split_at, moving_counted, IsLeft, shares_changed, all_spared, seen_known, seen, seen_message, seen_note, first_world, IsSeated, HasReader, handovers_of}
-use Rattle.bmx_store_laws.proofs.Words.{IsFree, IsUnborn, IfSome, not, at_each_number}
-use Rattle.bmx_store_laws.proofs.Words.val
+use Rattle.bmx_store_laws.proofs.Words.{new_nowhere, write_excludes, one_seat, readers_are_listed_always, split_at, moving_counted, IsLeft, shares_changed, all_spared, seen_known, seen, seen_message, seen_note, first_world, HasReader, handovers_of}
+use Rattle.bmx_store_laws.proofs.Words.{IsFree, IsUnborn, IfSome, at_each_number, nat_tests, IsAnswer, some_is}
 use Rattle.bmx_store_laws.proofs.Words.answer
 use Rattle.bmx_store_laws.proofs.Words.seated
 use Rattle.bmx_store_laws.specs.Laws.{EachReaderIsListed}
-use Rattle.bmx_coherence.specs.Graphs.{graph_answer, act_of, acts_of, graph_after}
+use Rattle.bmx_coherence.specs.Graphs.{act_of, acts_of, graph_after}
 use Rattle.bmx_protocol.specs.Worlds.{At}
 use Rattle.bmx_coherence.proofs.Answers.{IsShown, Ungranting, NamesIt, command_shown, IsSteady, waiting_after, notes_ungranting}
-use Rattle.bmx_coherence.proofs.Parts.{IsPart, EachBrings, took_part, waiting_else, held_of, IsOwnStore, object_kept, wants, FitsAt, IsBeside, IsWaiting, part_else, known_of, served_part, BringsFields}
+use Rattle.bmx_coherence.proofs.Parts.{IsPart, EachBrings, took_part, waiting_else, held_of, IsOwnStore, object_kept, wants, IsBeside, IsWaiting, part_else, known_of, served_part, BringsFields}
 
 -- a legal history of a store, and the nodes after it
 pub record IsMoment (st : Setting) (past : List Event) (nodes : ℕ → Node) : Type 0 where
@@ -35,13 +34,6 @@ knows_it k none = grind arith
 
 pub unknown : (k : Option Known) → seen_known k ≡ None → k ≡ None
 unknown k e = grind arith
-
-known_copy : (k : Option Known) (fields : List Val) → fields_known k ≡ Some fields → (j : Known) × (k ≡ Some j) × IsSome j.copy
-known_copy None fields e = none_some e
-known_copy (Some j) fields e = (j, refl, grind arith)
-
-is_reference : (v : Val) (x : ℕ) → reference v ≡ Some x → v ≡ val.Ref x
-is_reference v x e = grind arith
 
 -- a letter that grants an object is about it
 granted_name : (m : Msg) (info : Info) (fields : List Field) → grant_in m ≡ Some (info, fields) → name_in m ≡ info.name
@@ -71,9 +63,8 @@ module _ (st : Setting) (past : List Event) (nodes : ℕ → Node) (now : IsMome
   aware me x on g below same of means = knows_it ((nodes me).state.known x) (λ none. absurd (refers on of means ((came x).aware me below (ap seen_known none))))
     where
       refers : (on : Operand) → IsOperandOf st on → target_of g me on ≡ Some x → IsFree x (nodes me).state × IsUnborn st x → ⊥
-      refers (Register r) of means aware = aware.0.registers r (same r ∙ is_reference (g.register me r) x means)
       refers (Anchor b) of means aware = aware.1 b of (sym (some_same means))
-      refers _ of means aware = none_some means
+      refers on of means aware = grind (arith, aware.0.registers, same)
 
   -- ## the next name of a node
 
@@ -100,34 +91,28 @@ module _ (st : Setting) (past : List Event) (nodes : ℕ → Node) (now : IsMome
   -- ## who writes
 
   module _ (me x : ℕ) (k : Known) (is : (nodes me).state.known x ≡ Some k) (held : k.part.held ≡ Some Write) where
-    owns : k.part.role ≡ Owner
-    owns = only_owner k.part.role (λ parent e. (sound me x k is).child_holds parent e held)
+    has : HasOwned (world_of nodes past) x me k
+    has = record { known = is; owns = only_owner k.part.role (λ parent e. (sound me x k is).child_holds parent e held) }
 
     -- no other has the owner's role, and no grant of ownership is in flight
     sole : ((n : ℕ) (j : Known) → HasOwned (world_of nodes past) x n j → n ≡ me) × ((from to : ℕ) → handovers_of x (in_flight from to past) ≡ 0)
-    sole = by_seat (one_seat st past nodes now.opening now.legal now.after x (At me k (real me x k is) is))
-      where
-        has : HasOwned (world_of nodes past) x me k
-        has = record { known = is; owns = owns }
-
-        by_seat : IsSeated st (world_of nodes past) x → ((n : ℕ) (j : Known) → HasOwned (world_of nodes past) x n j → n ≡ me) × ((from to : ℕ) → handovers_of x (in_flight from to past) ≡ 0)
-        by_seat (seated.At n j below it others none) = (λ m i o. others m i o ∙ sym (others me k has), none)
-        by_seat (seated.Moving from to a b one elsewhere nobody) = absurd (nobody me k has)
+    sole = elim (one_seat st past nodes now.opening now.legal now.after x (At me k (real me x k is) is)) [
+      | seated.At n j below it others none ↦ (λ m i o. others m i o ∙ sym (others me k has), none)
+      | seated.Moving from to a b one elsewhere nobody ↦ absurd (nobody me k has)
+    ]
 
     no_reader : (owner n : ℕ) → HasReader (world_of nodes past) x owner n → ⊥
     no_reader owner n reads =
-        let known_same : reads.known ≡ k = some_same (sym reads.owned.known ∙ ap (λ (z : ℕ). (nodes z).state.known x) (sole.0 owner reads.known reads.owned) ∙ is) in
-        let none : reads.known.part.readers ≡ [] = ap (λ (j : Known). j.part.readers) known_same ∙ (sound me x k is).owner_writes owns held in
-        let listed : Contains [] n = subst (λ (l : List ℕ). Contains l n) none reads.listed in
-        omega (arith, listed.1)
+        let none : reads.known.part.readers ≡ [] = grind (arith, sole.0 owner reads.known reads.owned, is, reads.owned.known, (sound me x k is).owner_writes has.owns held) in
+        grind (arith, none, reads.listed.1)
 
     pub writer_alone : IsAlone past nodes me x
     writer_alone = record {
-      copies = λ n apart fields has. (let j = known_copy ((nodes n).state.known x) fields has in eqb_not me n apart (sym (sole.0 n j.0 (record {
-        known = j.1;
-        owns =
-            only_owner j.0.part.role (λ parent asks. no_reader parent n (listed.copies n x parent j.0 (record { known = j.1; asks = asks }) j.2));
-      }))));
+      copies = λ n apart fields has.
+          (let j = some_is ((nodes n).state.known x) (grind (arith, has)) in
+          let owns : j.0.part.role ≡ Owner = only_owner j.0.part.role (λ parent asks.
+          no_reader parent n (listed.copies n x parent j.0 (record { known = j.1; asks = asks }) (grind (arith, has, j.1)))) in
+          eqb_not me n apart (sym (sole.0 n j.0 (record { known = j.1; owns = owns }))));
       grants = λ n m l info fields there brought named. by_message n m l there l.msg refl (granted_name l.msg info fields brought ∙ named) (grind (arith, brought));
     }
       where
@@ -164,16 +149,10 @@ pub record Stands (st : Setting) (past : List Event) (nodes : ℕ → Node) : Ty
 
 -- ## runs
 
-after_more : (s : State) (acts more : List Act) → state_after_all s (acts ++ more) ≡ state_after_all (state_after_all s acts) more
-after_more s [] more = refl
-after_more s (a ∷ acts) more = after_more (state_after s a.node a.command a.answer) acts more
-
-run_more : (s : State) (acts more : List Act) → IsRun s acts → IsRun (state_after_all s acts) more → IsRun s (acts ++ more)
-run_more s [] more run next = next
-run_more s (a ∷ acts) more run next = (run.0, run_more (state_after s a.node a.command a.answer) acts more run.1 next)
-
-acts_more : (past : List Event) (e : Event) (o : Option Act) → act_of e ≡ o → acts_of (past ++ e ∷ []) ≡ acts_of past ++ cons_option o []
-acts_more past e o is = filter_map-append act_of past (e ∷ []) ∙ ap (λ (a : Option Act). acts_of past ++ cons_option a []) is
+one_act : (s : State) (acts : List Act) (a : Act) → IsRun s acts → IsAnswer (state_after_all s acts) a.node a.command a.answer →
+    (state_after_all s (acts ++ a ∷ []) ≡ state_after (state_after_all s acts) a.node a.command a.answer) × IsRun s (acts ++ a ∷ [])
+one_act s [] a run fits = (refl, (fits, tt))
+one_act s (b ∷ acts) a run fits = (let more = one_act (state_after s b.node b.command b.answer) acts a run.1 fits in (more.0, (run.0, more.1)))
 
 waits_more : (n : ℕ) (w : Option Command) (past : List Event) (e : Event) →
     waits_with n w (past ++ e ∷ []) ≡ cond (e.node == n) (waits_after (waits_with n w past) e.input e.done.answer) (waits_with n w past)
@@ -235,21 +214,12 @@ module _ (st : Setting) (opening : IsOpening st.nodes st.limit st.births) (past 
       beside_it = beside st past nodes stands.now me g (wants g me waiting) seen.effect_is ev.fits.few (stands.parts me) seen.own
 
       -- each node's part, and what it waits for, with the graph and the history as they are then
-      abbrev Parts : ℕ → Node → Option Command → Type 0
-      Parts n z w = IsPart n z.state h (wants h n w) × IfSome w (IsWaiting h n)
-
-      part_after : Parts me after (waits_after waiting e.input e.done.answer)
-      part_after = (
-        record {
-          register = λ r. ap (λ (f : ℕ → Val). f r) left.register ∙ seen.part.register r;
-          known = λ x. subst (λ (f : ℕ → Option Known). FitsAt me h (wants h me (waits_after waiting e.input e.done.answer) x) x (f x)) (sym left.known) (seen.part.known x);
-          made = left.made ∙ seen.part.made;
-        },
-        seen.waits,
-      )
-
-      part_of : (n : ℕ) → Parts n (nodes_after n) (waits_with n None (past ++ e ∷ []))
-      part_of = at_each_number (λ n. Parts n (nodes_after n) (waits_with n None (past ++ e ∷ []))) me (rw (waits_more me None past e, eqb_same me) part_after)
+      part_of : (n : ℕ) → IsPart n (nodes_after n).state h (wants h n (waits_with n None (past ++ e ∷ []))) × IfSome (waits_with n None (past ++ e ∷ [])) (IsWaiting h n)
+      part_of = at_each_number _ me
+          (rw (waits_more me None past e, eqb_same me) (
+            record { register = λ r. rw left.register (seen.part.register r); known = λ x. rw left.known (seen.part.known x); made = rw left.made seen.part.made },
+            seen.waits,
+          ))
           (λ n q. rw (waits_more n None past e, q) (
             part_else me n g seen.effect_is q (nodes n).state (waits_with n None past)
                 (λ x fields has. beside_it x (λ a. a.copies n q fields has)) (stands.parts n),
@@ -263,23 +233,12 @@ module _ (st : Setting) (opening : IsOpening st.nodes st.limit st.births) (past 
           (numbered_each (λ (k : Letter). BringsFields h k.msg) e.stamp o.drafts s.issued (every_map _ _ (λ d brings seq. brings) o.drafts seen.brings)))
           (subst (λ (k : List Sending). Contains (letters_to m k) l) (step_letters ev.step o is) new.1) info fields grants
 
-      event_of : (f : Event) → Contains past f ⊎ Contains (e ∷ []) f → IfSome (command_in f.input) (λ c. IsSome (act_of f))
-      event_of f (inl there) = stands.each f there
-      event_of f (inr (zero, below, same)) = subst (λ (k : Event). IfSome (command_in k.input) (λ c. IsSome (act_of k))) same seen.some
-      event_of f (inr (suc k, below, same)) = absurd (omega arith)
-
       -- an entry stays
       still : (x : ℕ) → is_some (s.known x) ≡ true → is_some (own_state.known x) ≡ true
       still x knows = knows_it (own_state.known x) (λ at. absurd (grind (arith, unknown (s.known x) (all_spared x o.changes (seen_known (s.known x)) (sym (shares_changed x o.changes s) ∙ ap seen_known at)).0)))
 
       counted : (count : ℕ) (f : Effect) → NamesIt me s own_state f → own_state.made ≡ (changed g me f).made me → 1 ≤ count → count ≤ own_state.made → is_some (own_state.known (name_word me count)) ≡ true
-      counted count (MakesOne register bunch size) names made one most =
-          let now : own_state.made ≡ s.made + 1 = made ∙ put_same g.made me (g.made me + 1) ∙ ap (λ (n : ℕ). n + 1) (sym (stands.parts me).made) in
-          elim (two count (s.made + 1)) [
-            | Same same ↦ ap (λ (c : ℕ). is_some (own_state.known (name_word me c))) same ∙ names
-            | Apart f d ↦ still (name_word me count) (stands.makers me count one (omega (arith, most, now, d)))
-          ]
-      counted count _ names made one most = still (name_word me count) (stands.makers me count one (omega (arith, most, made, (stands.parts me).made)))
+      counted count f names made one most = grind (arith, nat_tests, still (name_word me count), stands.makers me count one, (stands.parts me).made)
 
       stands_more : Stands st (past ++ e ∷ []) nodes_after
       stands_more = record {
@@ -287,7 +246,10 @@ module _ (st : Setting) (opening : IsOpening st.nodes st.limit st.births) (past 
         parts = λ n. rw seen.graph ((part_of n).0);
         waits = λ n. rw seen.graph ((part_of n).1);
         grants = λ n m l there. rw seen.graph (grant_of n m l (flight_more n m past e l ((came st past nodes stands.now 0).channels.within n m) there));
-        each = λ f there. event_of f (Contains-append_cases past (e ∷ []) f there);
+        each = λ f there. elim (Contains-append_cases past (e ∷ []) f there) [
+          | inl old ↦ stands.each f old
+          | inr new ↦ every_there (λ (k : Event). IfSome (command_in k.input) (λ c. IsSome (act_of k))) (e ∷ []) f (seen.some, tt) new
+        ];
         run = seen.run;
         makers = put_each (λ n z. (count : ℕ) → 1 ≤ count → count ≤ z.state.made → is_some (z.state.known (name_word n count)) ≡ true) nodes me after
             (λ count one most. ap (λ (f : ℕ → Option Known). is_some (f (name_word me count))) left.known ∙ counted count seen.effect_is seen.names seen.part.made one (omega (arith, most, left.made)))
@@ -311,9 +273,7 @@ module _ (st : Setting) (opening : IsOpening st.nodes st.limit st.births) (past 
   }
     where
       no_act : acts_of (past ++ e ∷ []) ≡ acts_of past
-      no_act = acts_more past e None
-          (ap (λ (c : Option Command). option_and_then (λ (d : Command). option_map (λ (a : Answer). record { node = me; command = d; answer = a }) (graph_answer e.done.answer)) c) none)
-          ∙ append-nil (acts_of past)
+      no_act = filter_map-append act_of past (e ∷ []) ∙ rw none (append-nil (acts_of past))
 
   letter_seen : (from : ℕ) (l : Letter) → e.input ≡ Take from l → IsSeen st past nodes e (rule st me s ev.step.told (Take from l))
   letter_seen from l is = either (IsSeen st past nodes e) (is_bad_letter st me s from l || ev.step.told.clash) _ _ (λ _. silent_seen (only answer.Stray) (ap command_in is) (stands.parts me) tt) taken
@@ -331,11 +291,6 @@ module _ (st : Setting) (opening : IsOpening st.nodes st.limit st.births) (past 
           (took_part me s g (wants g me waiting) ev.step.told.lies (stands.parts me) from l.seq l.msg (s.known (name_in l.msg)) refl (stands.grants from me l there) _ refl)
           (by_transition (note_transition me from (note_in l.msg) (option_map share_of (s.known (name_in l.msg)))) (note_grants me from (note_in l.msg) (option_map share_of (s.known (name_in l.msg)))))
 
-  serve_seen : (name : ℕ) → e.input ≡ Serve name → IsSeen st past nodes e (rule st me s ev.step.told (Serve name))
-  serve_seen name is =
-      let served = served_part me s g (wants g me waiting) ev.step.told.lies (stands.parts me) name (s.known name) refl (λ k at owns. (sound st past nodes stands.now me name k at).owner_has owns) in
-      silent_seen (rule st me s ev.step.told (Serve name)) (ap command_in is) served.0 served.1
-
   -- ## commands
 
   steady : IsSteady st me s g waiting
@@ -349,7 +304,7 @@ module _ (st : Setting) (opening : IsOpening st.nodes st.limit st.births) (past 
 
   -- where it then holds an object, no other node keeps it from it
   free : (o : Reaction) → o ≡ rule st me s ev.step.told e.input → (m : Mode) (x : ℕ) → held_of ((after_changes s o.changes).known x) ≡ Some m → is_excluded m g me x ≡ false
-  free o is m x held = is_excluded-none m g me x (λ k below. by_node k (tested (k == me)))
+  free o is m x held = is_excluded-none m g me x (λ k below. grind (arith, nat_tests, ((stands.parts k).known x).held, both me k, both k me m, mine))
     where
       mine : held_of ((nodes_after me).state.known x) ≡ Some m
       mine = (λ i. held_of ((put_same nodes me after i).state.known x)) ∙ ap (λ (f : ℕ → Option Known). held_of (f x)) (left o is).known ∙ held
@@ -360,21 +315,7 @@ module _ (st : Setting) (opening : IsOpening st.nodes st.limit st.births) (past 
           let i = known_of (λ l. l.part.held) ((nodes_after n).state.known x) Write writes in
           let j = known_of (λ l. l.part.held) ((nodes_after k).state.known x) b holds in
           write_excludes st (past ++ e ∷ []) nodes_after opening ev.then_legal ev.then_reached n k x i.0 j.0
-          (real st (past ++ e ∷ []) nodes_after next n x i.0 i.1) (real st (past ++ e ∷ []) nodes_after next k x j.0 j.1) i.1 j.1 i.2 (subst (λ (o : Option Mode). IsSome o) (sym j.2) refl)
-
-      excluded : (k : ℕ) → (k ≡ me → ⊥) → (m : Mode) → held_of ((nodes_after me).state.known x) ≡ Some m → (hold : Option Mode) → held_of ((nodes_after k).state.known x) ≡ hold → excludes m hold ≡ false
-      excluded k d Read mine (Some Write) h = absurd (d (sym (both k me Read h mine)))
-      excluded k d Write mine (Some b) h = absurd (d (both me k b mine h))
-      excluded k d Read mine (Some Read) h = refl
-      excluded k d Read mine None h = refl
-      excluded k d Write mine None h = refl
-
-      by_node : (k : ℕ) → ((k == me) ≡ true) ⊎ ((k == me) ≡ false) → (not (k == me) && excludes m (g.held k x)) ≡ false
-      by_node k (inl q) = λ i. not (q i) && excludes m (g.held k x)
-      by_node k (inr q) =
-          let d : k ≡ me → ⊥ = eqb_not k me q in
-          (λ i. not (q i) && excludes m (g.held k x)) ∙ excluded k d m mine (g.held k x)
-          ((λ i. held_of ((put_apart nodes me k after (eqb_apart me k (λ same. d (sym same))) i).state.known x)) ∙ ((stands.parts k).known x).held)
+          (real st (past ++ e ∷ []) nodes_after next n x i.0 i.1) (real st (past ++ e ∷ []) nodes_after next k x j.0 j.1) i.1 j.1 i.2 (grind (arith, j.2))
 
   command_seen : (c : Command) → e.input ≡ Do c → IsSeen st past nodes e (rule st me s ev.step.told (Do c))
   command_seen c is =
@@ -382,19 +323,18 @@ module _ (st : Setting) (opening : IsOpening st.nodes st.limit st.births) (past 
       let ruled : o ≡ rule st me s ev.step.told e.input = ap (rule st me s ev.step.told) (sym is) in
       let answered : e.done.answer ≡ o.answer = step_answer ev.step o ruled in
       let shown : IsShown me s g c o = command_shown st me s g waiting steady ev.step.told.full ev.step.told.lies c (subst (IsInputOf st) is ev.fits.an_input) (subst (IsAgain waiting) is ev.fits.again) (free o ruled) in
-      let after_it : waiting_after c o.answer ≡ waits_after waiting e.input e.done.answer = (λ i. waiting_after c (sym answered i)) ∙ ap (λ (j : Input). waits_after waiting j e.done.answer) (sym is) in
+      let after_it : waits_after waiting e.input e.done.answer ≡ waiting_after c o.answer = grind (arith, is, answered) in
       let act : Act = record { node = me; command = c; answer = shown.answer_is } in
-      let act_is : act_of e ≡ Some act = ap (λ (d : Option Command). option_and_then (λ (f : Command). option_map (λ (a : Answer). record { node = me; command = f; answer = a }) (graph_answer e.done.answer)) d) (ap command_in is)
-      ∙ ap (λ (a : NodeAnswer). option_map (λ (b : Answer). record { node = me; command = c; answer = b }) (graph_answer a)) answered
-      ∙ ap (option_map (λ (b : Answer). record { node = me; command = c; answer = b })) shown.same in
-      let acts : acts_of (past ++ e ∷ []) ≡ acts_of past ++ act ∷ [] = acts_more past e (Some act) act_is in
+      let act_is : act_of e ≡ Some act = grind (arith, is, answered, shown.same) in
+      let acts : acts_of (past ++ e ∷ []) ≡ acts_of past ++ act ∷ [] = filter_map-append act_of past (e ∷ []) ∙ ap (λ (a : Option Act). acts_of past ++ cons_option a []) act_is in
+      let more = one_act (opening_state st.births) (acts_of past) act stands.run shown.fits in
       record {
         effect_is = shown.effect_is;
-        graph = ap (state_after_all (opening_state st.births)) acts ∙ after_more (opening_state st.births) (acts_of past) (act ∷ []) ∙ shown.leads;
-        some = subst (λ (d : Option Command). IfSome d (λ c. IsSome (act_of e))) (sym (ap command_in is)) (subst (λ (a : Option Act). IsSome a) (sym act_is) refl);
-        run = rw acts (run_more (opening_state st.births) (acts_of past) (act ∷ []) stands.run (shown.fits, tt));
-        part = subst (λ (w : Option Command). IsPart me (after_changes s o.changes) (changed g me shown.effect_is) (wants (changed g me shown.effect_is) me w)) after_it shown.part;
-        waits = subst (λ (w : Option Command). IfSome w (IsWaiting (changed g me shown.effect_is) me)) after_it shown.waits;
+        graph = ap (state_after_all (opening_state st.births)) acts ∙ more.0 ∙ shown.leads;
+        some = rw (ap command_in is) (grind (arith, act_is));
+        run = rw acts more.1;
+        part = rw after_it shown.part;
+        waits = rw after_it shown.waits;
         brings = ungranted_brings (changed g me shown.effect_is) o.drafts shown.ungranting;
         own = shown.own;
         names = shown.names;
@@ -404,7 +344,9 @@ module _ (st : Setting) (opening : IsOpening st.nodes st.limit st.births) (past 
 
   event_seen : (i : Input) → e.input ≡ i → IsSeen st past nodes e (rule st me s ev.step.told i)
   event_seen (Do c) is = command_seen c is
-  event_seen (Serve name) is = serve_seen name is
+  event_seen (Serve name) is =
+      (let served = served_part me s g (wants g me waiting) ev.step.told.lies (stands.parts me) name (s.known name) refl (λ k at owns. (sound st past nodes stands.now me name k at).owner_has owns) in
+      silent_seen (rule st me s ev.step.told (Serve name)) (ap command_in is) served.0 served.1)
   event_seen (Take from l) is = letter_seen from l is
 
   pub one_more : Stands st (past ++ e ∷ []) nodes_after

@@ -1,18 +1,18 @@
 -- A node's part of the graph: its registers, what it holds, how many names it made, and its copies, which have the fields of
 -- the graph. What changes of a node, effects of its commands on the graph, and transitions of its tokens make of it.
 use Rattle.bmx_store_laws.proofs.Words.{◌≡◌, ℕ, refl, ap, sym, ◌∙◌, Bool, true, false, cond, List, [], ◌∷◌, map, arith, zero, suc, ◌⊎◌, ◌+◌, nat_tests, map-set, option_map, option_map_or, Option, Some, None, is_some, unwrap_or, replicate, ◌==◌}
-use Rattle.bmx_store_laws.proofs.Words.{name_word, Info, Place, Command, Operand, Register, Mode, Read, Write, Val, Field, Msg, ReadGrant, WriteGrant, State, value_of, reference, target_of, changed, Effect, MakesOne}
-use Rattle.bmx_store_laws.proofs.Words.{Stores, Holds, acquire, release, Share, Note, Asks, Grants, Send, Transition, transition_of, Serves, note_transition, Acquire, Release, Part, Owner, none_some, Every, Each}
-use Rattle.bmx_store_laws.proofs.Words.{kept_by_each, each_append, Knows, after_changes, Change, Sets, Hears, after_change, NodeState, Known, fields_known, value_in, seen_graph, share_of, field_of, Draft, Reaction, message, drafts_of, info_of}
+use Rattle.bmx_store_laws.proofs.Words.{name_word, Info, Place, Command, Operand, Mode, Write, Val, Field, Msg, ReadGrant, WriteGrant, State, value_of, reference, target_of, changed, Effect, MakesOne}
+use Rattle.bmx_store_laws.proofs.Words.{Stores, Holds, acquire, release, Share, Note, Send, Transition, transition_of, Serves, note_transition, Acquire, Release, Part, Owner, none_some, Every, Each}
+use Rattle.bmx_store_laws.proofs.Words.{kept_by_each, each_append, Knows, after_changes, Change, Sets, Hears, NodeState, Known, fields_known, value_in, seen_graph, share_of, field_of, Draft, Reaction, message, drafts_of, info_of}
 use Rattle.bmx_store_laws.proofs.Words.{told_fields, grant_in, operation_answer, after_operation, operation_rule, next_name, graph_changes, name_in, note_in, copy_after, took, told_field, heard_field, infos, known_change, ViewField, some_is}
-use Rattle.bmx_store_laws.proofs.Words.{taking_each}
+use Rattle.bmx_store_laws.proofs.Words.{taking_each, IfSome, ◌≢◌}
 use Rattle.bmx_store_laws.proofs.Words.val
 use Rattle.bmx_store_laws.proofs.Words.graph_step
 use Rattle.bmx_store_laws.proofs.Words.acquire_is
 use Rattle.bmx_store_laws.proofs.Words.release_is
 use Rattle.bmx_store_laws.proofs.Words.answer
 use Rattle.bmx_store_laws.proofs.Words.field
-use Rattle.std.specs.Prelude.{◌≢◌, IfSome}
+use Rattle.std.proofs.lemmas.Simd.{map-map}
 use Rattle.bmx_protocol.specs.Changes.{Makes}
 use Rattle.bmx_coherence.specs.Waits.{taking}
 
@@ -57,20 +57,16 @@ Leaves me g v Makes = ⊥
 Leaves me g v (Knows name k) = FitsAt me g (v name) name (Some k)
 Leaves me g v _ = Unit {0}
 
-change_leaves : (me : ℕ) (g : State) (v : ℕ → Option Mode) (s : NodeState) (c : Change) → Leaves me g v c → IsPart me s g v → IsPart me (after_change s c) g v
-change_leaves me g v s c leaves p = record {
+pub parts_left : (me : ℕ) (g : State) (v : ℕ → Option Mode) (changes : List Change) → Each (Leaves me g v) changes → (s : NodeState) → IsPart me s g v → IsPart me (after_changes s changes) g v
+parts_left me g v = kept_by_each (λ s. IsPart me s g v) (Leaves me g v) (λ s c leaves p. record {
   register = λ r. grind (arith, nat_tests, p.register r);
   known = λ x. record { held = grind (arith, nat_tests, (p.known x).held); want = grind (arith, nat_tests, (p.known x).want); fields = λ l h. grind (arith, nat_tests, (p.known x).fields) };
   made = grind (arith, nat_tests, p.made);
-}
-
-pub parts_left : (me : ℕ) (g : State) (v : ℕ → Option Mode) (changes : List Change) → Each (Leaves me g v) changes → (s : NodeState) → IsPart me s g v → IsPart me (after_changes s changes) g v
-parts_left me g v = kept_by_each (λ s. IsPart me s g v) (Leaves me g v) (λ s c h p. change_leaves me g v s c h p)
+})
 
 -- a transition leaves the fields of a copy, or takes the copy away
 pub fields_kept : (copy : Option (List ViewField)) (b : Bool) (fields : List Val) → option_map (map value_in) (cond b copy None) ≡ Some fields → option_map (map value_in) copy ≡ Some fields
-fields_kept copy true fields h = h
-fields_kept copy false fields h = absurd cc
+fields_kept copy b fields h = grind arith
 
 -- ## effects at the node
 
@@ -115,8 +111,7 @@ effect_part me s g e ready p =
 
 -- what operands stand for at a node is the same where its registers are
 pub value_same : (g h : State) (n : ℕ) → ((r : ℕ) → h.register n r ≡ g.register n r) → (on : Operand) → value_of h n on ≡ value_of g n on
-value_same g h n same (Register r) = same r
-value_same g h n same _ = refl
+value_same g h n same on = grind (arith, same)
 
 -- and so it means what the node sees of it
 pub seen_value : (me : ℕ) (s : NodeState) (g : State) (v : ℕ → Option Mode) → IsPart me s g v → (on : Operand) → value_of (seen_graph me s) me on ≡ value_of g me on
@@ -231,27 +226,17 @@ BringsFields g m = (info : Info) (fields : List Field) → grant_in m ≡ Some (
 abbrev pub EachBrings : State → List Draft → Type 0
 EachBrings g drafts = Every (λ (d : Draft). BringsFields g d.msg) drafts
 
--- fields that are told have the values of those of the copy, and fields that are heard those of the letter
+-- fields that are told have the values of those of the copy
 told_values : (s : NodeState) (lies : ℕ → Place) (fields : List ViewField) → values_told (map (told_field s lies) fields) ≡ map value_in fields
 told_values s lies [] = refl
 told_values s lies (f ∷ fields) = grind (arith, told_values s lies fields)
 
-pub heard_values : (fields : List Field) → map value_in (map heard_field fields) ≡ values_told fields
-heard_values [] = refl
-heard_values (f ∷ fields) = ap (λ l. value_in (heard_field f) ∷ l) (heard_values fields)
-
 -- the messages of notes about an object of whose fields the node has a copy as the graph has them
 module _ (g : State) (s : NodeState) (lies : ℕ → Place) (name : ℕ) (k : Known) (fields : List ViewField) (is : s.known name ≡ Some k) (has : k.copy ≡ Some fields)
     (there : g.object name ≡ Some (map value_in fields)) where
-  granted : BringsFields g (ReadGrant (info_of s lies name) (told_fields s lies name))
-  granted info l e =
-      (let told : values_told (told_fields s lies name) ≡ map value_in fields = grind (arith, is, has, told_values s lies fields) in grind (arith, there, told))
-
   note_brings : (n : Note) → BringsFields g (message (info_of s lies name) (told_fields s lies name) n)
-  note_brings (Grants Read) = granted
-  note_brings (Grants Write) = granted
-  note_brings (Asks Read asker) = λ info l e. none_some e
-  note_brings _ = λ info l e. none_some e
+  note_brings n info l e =
+      (let told : values_told (told_fields s lies name) ≡ map value_in fields = grind (arith, is, has, told_values s lies fields) in grind (arith, there, told))
 
   pub notes_bring : (sends : List Send) → EachBrings g (drafts_of s lies name sends)
   notes_bring [] = tt
@@ -288,8 +273,8 @@ module _ (me : ℕ) (s : NodeState) (g : State) (v : ℕ → Option Mode) (lies 
   -- a letter: the fields that it leaves of its object are the graph's
   letter_fields : (m : Msg) (k : Known) → BringsFields g m → ((l : List Val) → option_map (map value_in) k.copy ≡ Some l → g.object (name_in m) ≡ Some l) →
       (l : List Val) → option_map (map value_in) (copy_after m (Some k)) ≡ Some l → g.object (name_in m) ≡ Some l
-  letter_fields (ReadGrant info fields) k brings copy l has = brings info fields refl ∙ ap Some (sym (heard_values fields)) ∙ has
-  letter_fields (WriteGrant info fields) k brings copy l has = brings info fields refl ∙ ap Some (sym (heard_values fields)) ∙ has
+  letter_fields (ReadGrant info fields) k brings copy l has = brings info fields refl ∙ ap Some (sym (map-map value_in heard_field fields)) ∙ has
+  letter_fields (WriteGrant info fields) k brings copy l has = brings info fields refl ∙ ap Some (sym (map-map value_in heard_field fields)) ∙ has
   letter_fields _ k brings copy l has = copy l has
 
   heard_leaves : (from : ℕ) (more : List Info) → Each (Leaves me g v) (map (Hears from) more)
