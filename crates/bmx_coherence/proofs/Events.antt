@@ -1,12 +1,12 @@
 -- A moment of a legal history, what the laws of one object say of it, and what stands after one more event: nodes are parts
 -- of the graph, grants in flight bring its fields, wants are waited for, and the commands so far are a run.
 use Rattle.bmx_store_laws.proofs.Words.{◌≡◌, ℕ, refl, ap, sym, subst, ◌∙◌, true, false, cond, List, [], ◌∷◌, map, ◌<◌, arith, ◌⊎◌, inl, inr, ◌+◌, ◌≤◌, ◌++◌, ◌^◌, append-nil, map-append, filter_map-append, Contains-append_cases, cons_option}
-use Rattle.bmx_store_laws.proofs.Words.{option_map, Option, Some, None, is_some, ◌==◌, ◌||◌, nat_le, Contains, IsSome, count_by, IsOpening, put, name_word, Info, Command, Operand, Anchor, Mode, Write, Val, Field, Letter}
+use Rattle.bmx_store_laws.proofs.Words.{option_map, Option, Some, None, is_some, ◌==◌, ◌||◌, Contains, IsSome, count_by, IsOpening, put, name_word, Command, Operand, Anchor, Mode, Write, Val, Letter}
 use Rattle.bmx_store_laws.proofs.Words.{Msg, ReadGrant, WriteGrant, is_excluded-none, is_excluded, State, opening_state, target_of, changed, state_after, state_after_all, Act, IsRun, Effect, Nothing, MakesOne, Stores, Transition}
-use Rattle.bmx_store_laws.proofs.Words.{note_transition, Role, Owner, Parent, IsShared, shared_run, IsSound, IsSoundIf, IsNowhere, eqb_same, put_same, some_same, none_some, eqb_is, eqb_not, eqb_of, after_changes}
+use Rattle.bmx_store_laws.proofs.Words.{Role, Owner, Parent, IsShared, shared_run, IsSound, IsSoundIf, IsNowhere, eqb_same, some_same, none_some, eqb_not, after_changes}
 use Rattle.bmx_store_laws.proofs.Words.{IsOperandOf, in_flight, waits_with, letters_to, IsNext, waits_after, IsAgain, IsInputOf, AreAfter, IsLegal, Setting, NodeState, Known, fields_known, share_of, Draft, Reaction, grant_in, next_name, knows}
-use Rattle.bmx_store_laws.proofs.Words.{only, name_in, note_in, took, take_rule, Node, command_in, rule, too_large, is_no_node, is_bad_msg, is_bad_letter, world_of, HasOwned, Event, Input, Do, Serve, Take, Sending, nodes_of, either}
-use Rattle.bmx_store_laws.proofs.Words.{put_each, every_map, every_there, first_there, flight_more, IsOneMore, step_letters, step_answer, step_leaves, numbered_each, issued_to, GrantsNothing, note_grants, each_name, Came, came_after, first_letter, good_letter}
+use Rattle.bmx_store_laws.proofs.Words.{only, name_in, note_in, took, take_rule, Node, command_in, rule, is_bad_letter, world_of, HasOwned, Event, Input, Do, Serve, Take, Sending, nodes_of, either}
+use Rattle.bmx_store_laws.proofs.Words.{put_each, every_map, every_there, first_there, flight_more, IsOneMore, step_letters, step_answer, step_leaves, numbered_each, issued_to, GrantsNothing, note_grants, each_name, Came, came_after, first_letter}
 use Rattle.bmx_store_laws.proofs.Words.{new_nowhere, write_excludes, one_seat, readers_are_listed_always, split_at, moving_counted, IsLeft, shares_changed, all_spared, seen_known, seen, seen_message, seen_note, first_world, HasReader, handovers_of}
 use Rattle.bmx_store_laws.proofs.Words.{IsFree, IsUnborn, IfSome, at_each_number, nat_tests, IsAnswer, some_is}
 use Rattle.bmx_store_laws.proofs.Words.answer
@@ -26,18 +26,11 @@ pub record IsMoment (st : Setting) (past : List Event) (nodes : ℕ → Node) : 
 -- nothing of an object is anywhere but at one node: no copy, no grant in flight
 pub record IsAlone (past : List Event) (nodes : ℕ → Node) (me x : ℕ) : Type 0 where
   pub copies : (n : ℕ) → (me == n) ≡ false → (fields : List Val) → fields_known ((nodes n).state.known x) ≡ Some fields → ⊥
-  pub grants : (n m : ℕ) (l : Letter) (info : Info) (fields : List Field) → Contains (in_flight n m past) l → grant_in l.msg ≡ Some (info, fields) → info.name ≡ x → ⊥
+  pub grants : (n m : ℕ) (l : Letter) → Contains (in_flight n m past) l → is_some (grant_in l.msg) ≡ true → name_in l.msg ≡ x → ⊥
 
--- what isn't unknown is known, and what is seen as unknown is
+-- what isn't unknown is known
 pub knows_it : (k : Option Known) → (k ≡ None → ⊥) → is_some k ≡ true
 knows_it k none = grind arith
-
-pub unknown : (k : Option Known) → seen_known k ≡ None → k ≡ None
-unknown k e = grind arith
-
--- a letter that grants an object is about it
-granted_name : (m : Msg) (info : Info) (fields : List Field) → grant_in m ≡ Some (info, fields) → name_in m ≡ info.name
-granted_name m info fields e = grind arith
 
 pub only_owner : (r : Role) → ((parent : ℕ) → r ≡ Parent parent → ⊥) → r ≡ Owner
 only_owner r none = grind arith
@@ -76,16 +69,15 @@ module _ (st : Setting) (past : List Event) (nodes : ℕ → Node) (now : IsMome
       new_nowhere st x me nodes past (came x).named (omega (arith, some, few)) refl
 
   pub new_unknown : (me : ℕ) → IsEarly me past → (n : ℕ) → (nodes n).state.known (next_name me (nodes me).state) ≡ None
-  new_unknown me few n = unknown ((nodes n).state.known (next_name me (nodes me).state)) ((new_name me few).unknown n)
+  new_unknown me few n = grind (arith, (new_name me few).unknown n)
 
   pub new_alone : (me : ℕ) → IsEarly me past → IsAlone past nodes me (next_name me (nodes me).state)
   new_alone me few = record {
-    copies = λ n apart fields has. none_some (sym (ap fields_known (new_unknown me few n)) ∙ has);
-    grants = λ n m l info fields there grants named.
+    copies = λ n apart fields has. grind (arith, new_unknown me few n, has);
+    grants = λ n m l there grants named.
         (let x : ℕ = next_name me (nodes me).state in let s = split_at (in_flight n m past) l there in
         let silent : seen_note x l.msg ≡ None = ((new_name me few).untold n m (seen_message x l) (map (seen_message x) s.0) (map (seen_message x) s.1)
-        (ap (map (seen_message x)) s.2 ∙ map-append (seen_message x) s.0 (l ∷ s.1))).note in
-        none_some (sym silent ∙ (λ i. cond (eqb_of (granted_name l.msg info fields grants ∙ named) i) (Some (note_in l.msg)) None)));
+        (ap (map (seen_message x)) s.2 ∙ map-append (seen_message x) s.0 (l ∷ s.1))).note in grind (arith, nat_tests, silent, named));
   }
 
   -- ## who writes
@@ -113,16 +105,16 @@ module _ (st : Setting) (past : List Event) (nodes : ℕ → Node) (now : IsMome
           let owns : j.0.part.role ≡ Owner = only_owner j.0.part.role (λ parent asks.
           no_reader parent n (listed.copies n x parent j.0 (record { known = j.1; asks = asks }) (grind (arith, has, j.1)))) in
           eqb_not me n apart (sym (sole.0 n j.0 (record { known = j.1; owns = owns }))));
-      grants = λ n m l info fields there brought named. by_message n m l there l.msg refl (granted_name l.msg info fields brought ∙ named) (grind (arith, brought));
+      grants = λ n m l there brought named. by_message n m l there l.msg refl brought named;
     }
       where
         listed : EachReaderIsListed (world_of nodes past)
         listed = readers_are_listed_always st past nodes now.opening now.legal now.after
 
-        by_message : (n m : ℕ) (l : Letter) → Contains (in_flight n m past) l → (g : Msg) → l.msg ≡ g → name_in g ≡ x → is_some (grant_in g) ≡ true → ⊥
-        by_message n m l there (ReadGrant i f) e named some = no_reader n m (subst (λ (z : ℕ). HasReader (world_of nodes past) z n m) named (listed.grants n m l i f there e))
-        by_message n m l there (WriteGrant i f) e named some = omega (arith, sole.1 n m, moving_counted (world_of nodes past) x n m l i f (record { there = there; grants = e; named = named }))
-        by_message n m l there _ e named some = absurd cc
+        by_message : (n m : ℕ) (l : Letter) → Contains (in_flight n m past) l → (g : Msg) → l.msg ≡ g → is_some (grant_in g) ≡ true → name_in g ≡ x → ⊥
+        by_message n m l there (ReadGrant i f) e some named = no_reader n m (subst (λ (z : ℕ). HasReader (world_of nodes past) z n m) named (listed.grants n m l i f there e))
+        by_message n m l there (WriteGrant i f) e some named = omega (arith, sole.1 n m, moving_counted (world_of nodes past) x n m l i f (record { there = there; grants = e; named = named }))
+        by_message n m l there _ e some named = absurd cc
 
   -- ## objects that effects leave
 
@@ -228,14 +220,14 @@ module _ (st : Setting) (opening : IsOpening st.nodes st.limit st.births) (past 
 
       grant_of : (n m : ℕ) (l : Letter) → Contains (in_flight n m past) l ⊎ ((me ≡ n) × Contains (letters_to m e.done.letters) l) → BringsFields h l.msg
       grant_of n m l (inl there) info fields grants =
-          object_kept g me info.name seen.effect_is (beside_it info.name (λ a. a.grants n m l info fields there grants refl)) ∙ stands.grants n m l there info fields grants
+          object_kept g me info.name seen.effect_is (beside_it info.name (λ a. a.grants n m l there (grind (arith, grants)) (grind (arith, grants)))) ∙ stands.grants n m l there info fields grants
       grant_of n m l (inr new) info fields grants = every_there (λ (k : Letter). BringsFields h k.msg) _ l (issued_to (λ (k : Letter). BringsFields h k.msg) m _
           (numbered_each (λ (k : Letter). BringsFields h k.msg) e.stamp o.drafts s.issued (every_map _ _ (λ d brings seq. brings) o.drafts seen.brings)))
           (subst (λ (k : List Sending). Contains (letters_to m k) l) (step_letters ev.step o is) new.1) info fields grants
 
       -- an entry stays
       still : (x : ℕ) → is_some (s.known x) ≡ true → is_some (own_state.known x) ≡ true
-      still x knows = knows_it (own_state.known x) (λ at. absurd (grind (arith, unknown (s.known x) (all_spared x o.changes (seen_known (s.known x)) (sym (shares_changed x o.changes s) ∙ ap seen_known at)).0)))
+      still x knows = grind (arith, all_spared x o.changes (seen_known (s.known x)), shares_changed x o.changes s)
 
       counted : (count : ℕ) (f : Effect) → NamesIt me s own_state f → own_state.made ≡ (changed g me f).made me → 1 ≤ count → count ≤ own_state.made → is_some (own_state.known (name_word me count)) ≡ true
       counted count f names made one most = grind (arith, nat_tests, still (name_word me count), stands.makers me count one, (stands.parts me).made)
@@ -276,20 +268,17 @@ module _ (st : Setting) (opening : IsOpening st.nodes st.limit st.births) (past 
       no_act = filter_map-append act_of past (e ∷ []) ∙ rw none (append-nil (acts_of past))
 
   letter_seen : (from : ℕ) (l : Letter) → e.input ≡ Take from l → IsSeen st past nodes e (rule st me s ev.step.told (Take from l))
-  letter_seen from l is = either (IsSeen st past nodes e) (is_bad_letter st me s from l || ev.step.told.clash) _ _ (λ _. silent_seen (only answer.Stray) (ap command_in is) (stands.parts me) tt) taken
+  letter_seen from l is = either (IsSeen st past nodes e) (is_bad_letter st me s from l || ev.step.told.clash) _ _ (λ _. silent_seen (only answer.Stray) (ap command_in is) (stands.parts me) tt)
+      (λ fine. silent_seen (take_rule me s ev.step.told.lies from l.seq l.msg) (ap command_in is)
+      (took_part me s g (wants g me waiting) ev.step.told.lies (stands.parts me) from l.seq l.msg (s.known (name_in l.msg)) refl (stands.grants from me l (there fine)) _ refl)
+      (by_transition _ (note_grants me from (note_in l.msg) (option_map share_of (s.known (name_in l.msg))))))
     where
+      there : (is_bad_letter st me s from l || ev.step.told.clash) ≡ false → Contains (in_flight from me past) l
+      there fine = first_there _ l _ (first_letter past nodes me from l (came st past nodes stands.now 0).channels (subst (IsNext past me) is ev.fits.next) (grind (arith, nat_tests, fine)))
+
       by_transition : (t : Option Transition) → GrantsNothing t → EachBrings g (took s ev.step.told.lies from l.seq l.msg (s.known (name_in l.msg)) t).drafts
       by_transition None none = tt
       by_transition (Some t) none = ungranted_brings g _ (notes_ungranting s ev.step.told.lies (name_in l.msg) t.sends none)
-
-      taken : (is_bad_letter st me s from l || ev.step.told.clash) ≡ false → IsSeen st past nodes e (take_rule me s ev.step.told.lies from l.seq l.msg)
-      taken fine =
-          let number : (l.seq == s.taken from + 1) ≡ true = (good_letter (from == me) (is_no_node st from) (l.seq == s.taken from + 1) (nat_le too_large l.stamp) (is_bad_msg st me s l.msg) ev.step.told.clash fine).1 in
-          let there : Contains (in_flight from me past) l = first_there _ l _ (first_letter past nodes me from l (came st past nodes stands.now 0).channels (subst (IsNext past me) is ev.fits.next)
-          (eqb_is l.seq (s.taken from + 1) number)) in
-          silent_seen (take_rule me s ev.step.told.lies from l.seq l.msg) (ap command_in is)
-          (took_part me s g (wants g me waiting) ev.step.told.lies (stands.parts me) from l.seq l.msg (s.known (name_in l.msg)) refl (stands.grants from me l there) _ refl)
-          (by_transition (note_transition me from (note_in l.msg) (option_map share_of (s.known (name_in l.msg)))) (note_grants me from (note_in l.msg) (option_map share_of (s.known (name_in l.msg)))))
 
   -- ## commands
 
@@ -304,11 +293,8 @@ module _ (st : Setting) (opening : IsOpening st.nodes st.limit st.births) (past 
 
   -- where it then holds an object, no other node keeps it from it
   free : (o : Reaction) → o ≡ rule st me s ev.step.told e.input → (m : Mode) (x : ℕ) → held_of ((after_changes s o.changes).known x) ≡ Some m → is_excluded m g me x ≡ false
-  free o is m x held = is_excluded-none m g me x (λ k below. grind (arith, nat_tests, ((stands.parts k).known x).held, both me k, both k me m, mine))
+  free o is m x held = is_excluded-none m g me x (λ k below. grind (arith, nat_tests, ((stands.parts k).known x).held, both me k, both k me m, ap (λ (f : ℕ → Option Known). held_of (f x)) (left o is).known, held))
     where
-      mine : held_of ((nodes_after me).state.known x) ≡ Some m
-      mine = (λ i. held_of ((put_same nodes me after i).state.known x)) ∙ ap (λ (f : ℕ → Option Known). held_of (f x)) (left o is).known ∙ held
-
       -- two nodes hold it, and one of them for writing
       both : (n k : ℕ) (b : Mode) → held_of ((nodes_after n).state.known x) ≡ Some Write → held_of ((nodes_after k).state.known x) ≡ Some b → k ≡ n
       both n k b writes holds =

@@ -1,11 +1,11 @@
 -- A node's part of the graph: its registers, what it holds, how many names it made, and its copies, which have the fields of
 -- the graph. What changes of a node, effects of its commands on the graph, and transitions of its tokens make of it.
 use Rattle.bmx_store_laws.proofs.Words.{◌≡◌, ℕ, refl, ap, sym, ◌∙◌, Bool, true, false, cond, List, [], ◌∷◌, map, arith, zero, suc, ◌⊎◌, ◌+◌, nat_tests, map-set, option_map, option_map_or, Option, Some, None, is_some, unwrap_or, replicate, ◌==◌}
-use Rattle.bmx_store_laws.proofs.Words.{name_word, Info, Place, Command, Operand, Mode, Write, Val, Field, Msg, ReadGrant, WriteGrant, State, value_of, reference, target_of, changed, Effect, MakesOne}
+use Rattle.bmx_store_laws.proofs.Words.{name_word, Info, Place, Command, Operand, Mode, Write, Val, Field, Msg, State, value_of, reference, target_of, changed, Effect, MakesOne}
 use Rattle.bmx_store_laws.proofs.Words.{Stores, Holds, acquire, release, Share, Note, Send, Transition, transition_of, Serves, note_transition, Acquire, Release, Part, Owner, none_some, Every, Each}
 use Rattle.bmx_store_laws.proofs.Words.{kept_by_each, each_append, Knows, after_changes, Change, Sets, Hears, NodeState, Known, fields_known, value_in, seen_graph, share_of, field_of, Draft, Reaction, message, drafts_of, info_of}
-use Rattle.bmx_store_laws.proofs.Words.{told_fields, grant_in, operation_answer, after_operation, operation_rule, next_name, graph_changes, name_in, note_in, copy_after, took, told_field, heard_field, infos, known_change, ViewField, some_is}
-use Rattle.bmx_store_laws.proofs.Words.{taking_each, IfSome, ◌≢◌}
+use Rattle.bmx_store_laws.proofs.Words.{told_fields, grant_in, operation_rule, next_name, graph_changes, name_in, note_in, copy_after, took, told_field, heard_field, infos, known_change, ViewField, some_is}
+use Rattle.bmx_store_laws.proofs.Words.{taking_each, IfSome, ◌≢◌, some_or_none, inl, inr, option_and_then}
 use Rattle.bmx_store_laws.proofs.Words.val
 use Rattle.bmx_store_laws.proofs.Words.graph_step
 use Rattle.bmx_store_laws.proofs.Words.acquire_is
@@ -109,11 +109,7 @@ effect_part me s g e ready p =
 
 -- ## what is waited for
 
--- what operands stand for at a node is the same where its registers are
-pub value_same : (g h : State) (n : ℕ) → ((r : ℕ) → h.register n r ≡ g.register n r) → (on : Operand) → value_of h n on ≡ value_of g n on
-value_same g h n same on = grind (arith, same)
-
--- and so it means what the node sees of it
+-- what an operand stands for at a node it is for what the node sees, and so it means the same
 pub seen_value : (me : ℕ) (s : NodeState) (g : State) (v : ℕ → Option Mode) → IsPart me s g v → (on : Operand) → value_of (seen_graph me s) me on ≡ value_of g me on
 seen_value me s g v p on = grind (arith, p.register)
 
@@ -122,17 +118,14 @@ seen_target me s g v p on = ap reference (seen_value me s g v p on)
 
 -- the token of what an operand means at a node, that which a command takes, and that of the command with which the node waits
 abbrev pub taken_at : State → ℕ → Option (Mode × Operand) → Option (Mode × ℕ)
-taken_at g me None = None
-taken_at g me (Some t) = option_map (λ x. (t.0, x)) (target_of g me t.1)
+taken_at g me t = option_and_then (λ p. option_map (λ x. (p.0, x)) (target_of g me p.1)) t
 
 abbrev pub waited : State → ℕ → Option Command → Option (Mode × ℕ)
-waited g me None = None
-waited g me (Some c) = taken_at g me (taking c)
+waited g me w = option_and_then (λ c. taken_at g me (taking c)) w
 
 -- the mode in which a name is wanted where that token is
 abbrev pub wanted_at : Option (Mode × ℕ) → ℕ → Option Mode
-wanted_at None y = None
-wanted_at (Some t) y = cond (t.1 == y) (Some t.0) None
+wanted_at t y = option_and_then (λ p. cond (p.1 == y) (Some p.0) None) t
 
 abbrev pub wants : State → ℕ → Option Command → ℕ → Option Mode
 wants g me w = wanted_at (waited g me w)
@@ -163,11 +156,11 @@ object_kept g me x e beside = grind (arith, nat_tests)
 
 -- another node's part stays, and what it waits for
 module _ (me n : ℕ) (g : State) (e : Effect) (apart : (me == n) ≡ false) where
-  registers : (r : ℕ) → (changed g me e).register n r ≡ g.register n r
-  registers r = grind arith
+  values_else : (on : Operand) → value_of (changed g me e) n on ≡ value_of g n on
+  values_else on = grind arith
 
   waited_same : (w : Option Command) → waited (changed g me e) n w ≡ waited g n w
-  waited_same w = grind (arith, value_same g (changed g me e) n registers)
+  waited_same w = grind (arith, values_else)
 
   pub part_else : (s : NodeState) (w : Option Command) → ((x : ℕ) (fields : List Val) → fields_known (s.known x) ≡ Some fields → IsBeside g me x e) →
       IsPart n s g (wants g n w) → IsPart n s (changed g me e) (wants (changed g me e) n w)
@@ -179,7 +172,7 @@ module _ (me n : ℕ) (g : State) (e : Effect) (apart : (me == n) ≡ false) whe
 
   pub waiting_else : (w : Option Command) → IfSome w (IsWaiting g n) → IfSome w (IsWaiting (changed g me e) n)
   waiting_else None i = tt
-  waiting_else (Some c) i = record { mode = i.mode; name = i.name; operand = i.operand; takes = i.takes; means = ap reference (value_same g (changed g me e) n registers i.operand) ∙ i.means; unheld = grind (arith, i.unheld) }
+  waiting_else (Some c) i = record { mode = i.mode; name = i.name; operand = i.operand; takes = i.takes; means = ap reference (values_else i.operand) ∙ i.means; unheld = grind (arith, i.unheld) }
 
 -- ## taking a token, and giving it back
 
@@ -251,31 +244,19 @@ module _ (me : ℕ) (s : NodeState) (g : State) (v : ℕ → Option Mode) (lies 
   left_fits name k fields t is keeps there =
       grind (arith, nat_tests, is, keeps, p.known name, fields_kept)
 
-  copy_there : (name : ℕ) (k : Known) → s.known name ≡ Some k → (l : List Val) → option_map (map value_in) k.copy ≡ Some l → g.object name ≡ Some l
-  copy_there name k is l has = (p.known name).fields l (ap fields_known is ∙ has)
-
   -- a serve: only an owner serves, and it has a copy
   pub served_part : (name : ℕ) (k : Option Known) → s.known name ≡ k → ((j : Known) → k ≡ Some j → j.part.role ≡ Owner → is_some j.copy ≡ true) →
       let o : Reaction = operation_rule me s lies Serves answer.Idle name k in IsPart me (after_changes s o.changes) g v × EachBrings g o.drafts
   served_part name None is owners = (p, tt)
-  served_part name (Some k) is owners = by_transition (transition_of me Serves (share_of k)) refl
-    where
-      by_transition : (t : Option Transition) → transition_of me Serves (share_of k) ≡ t →
-          let o : Reaction = after_operation s lies name k (operation_answer me Serves (share_of k)) t in IsPart me (after_changes s o.changes) g v × EachBrings g o.drafts
-      by_transition None does = (p, tt)
-      by_transition (Some t) does =
-          let keeps = serving_keeps me (share_of k) t does in
-          let c = some_is k.copy (owners k refl keeps.1) in (
-            parts_left me g v _ (left_fits name k k.copy t is keeps.0 (copy_there name k is)) s p,
-            notes_bring g s lies name k c.0 is c.1 (copy_there name k is (map value_in c.0) (ap (option_map (map value_in)) c.1)) t.sends,
-          )
-
-  -- a letter: the fields that it leaves of its object are the graph's
-  letter_fields : (m : Msg) (k : Known) → BringsFields g m → ((l : List Val) → option_map (map value_in) k.copy ≡ Some l → g.object (name_in m) ≡ Some l) →
-      (l : List Val) → option_map (map value_in) (copy_after m (Some k)) ≡ Some l → g.object (name_in m) ≡ Some l
-  letter_fields (ReadGrant info fields) k brings copy l has = brings info fields refl ∙ ap Some (sym (map-map value_in heard_field fields)) ∙ has
-  letter_fields (WriteGrant info fields) k brings copy l has = brings info fields refl ∙ ap Some (sym (map-map value_in heard_field fields)) ∙ has
-  letter_fields _ k brings copy l has = copy l has
+  served_part name (Some k) is owners = elim (some_or_none (transition_of me Serves (share_of k))) [
+    | inl none ↦ rw none (p, tt)
+    | inr t ↦ rw t.1 (
+        let keeps = serving_keeps me (share_of k) t.0 t.1 in
+        let c = some_is k.copy (owners k refl keeps.1) in (
+          parts_left me g v _ (left_fits name k k.copy t.0 is keeps.0 (λ l has. grind (arith, is, has, (p.known name).fields))) s p,
+          notes_bring g s lies name k c.0 is c.1 (grind (arith, is, c.1, (p.known name).fields)) t.0.sends,
+        ))
+  ]
 
   heard_leaves : (from : ℕ) (more : List Info) → Each (Leaves me g v) (map (Hears from) more)
   heard_leaves from [] = tt
@@ -290,4 +271,7 @@ module _ (me : ℕ) (s : NodeState) (g : State) (v : ℕ → Option Mode) (lies 
       by_known : (k : Option Known) → s.known (name_in m) ≡ k → note_transition me from (note_in m) (option_map share_of k) ≡ Some t → Each (Leaves me g v) (known_change (name_in m) k (copy_after m k) t.after)
       by_known None is does = tt
       by_known (Some j) is does = left_fits (name_in m) j (copy_after m (Some j)) t is (note_keeps me from (note_in m) (share_of j) t does)
-          (letter_fields m j brings (copy_there (name_in m) j is))
+          (λ l has. elim (some_or_none (grant_in m)) [
+            | inl none ↦ grind (arith, none, has, is, (p.known (name_in m)).fields)
+            | inr p ↦ grind (arith, brings p.0.0 p.0.1 p.1, p.1, has, map-map value_in heard_field)
+          ])
