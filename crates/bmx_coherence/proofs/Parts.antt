@@ -1,11 +1,11 @@
 -- A node's part of the graph: its registers, what it holds, how many names it made, and its copies, which have the fields of
 -- the graph. What changes of a node, effects of its commands on the graph, and transitions of its tokens make of it.
-use Rattle.bmx_store_laws.proofs.Words.{◌≡◌, ℕ, refl, ap, sym, ◌∙◌, Bool, true, false, cond, List, [], ◌∷◌, map, arith, zero, suc, ◌⊎◌, ◌+◌, nat_tests, map-set, option_map, option_map_or, Option, Some, None, is_some, unwrap_or, replicate, ◌==◌}
-use Rattle.bmx_store_laws.proofs.Words.{name_word, Info, Place, Command, Operand, Mode, Write, Val, Field, Msg, State, value_of, reference, target_of, changed, Effect, MakesOne}
+use Rattle.bmx_store_laws.proofs.Words.{◌≡◌, ℕ, refl, ap, ◌∙◌, Bool, true, false, cond, List, [], ◌∷◌, map, arith, zero, suc, ◌⊎◌, nat_tests, map-set, option_map, option_map_or, Option, Some, None, is_some, unwrap_or, replicate, ◌==◌}
+use Rattle.bmx_store_laws.proofs.Words.{Info, Place, Command, Operand, Mode, Write, Val, Field, Msg, State, value_of, reference, target_of, changed, Effect, MakesOne}
 use Rattle.bmx_store_laws.proofs.Words.{Stores, Holds, acquire, release, Share, Note, Send, Transition, transition_of, Serves, note_transition, Acquire, Release, Part, Owner, none_some, Every, Each}
-use Rattle.bmx_store_laws.proofs.Words.{kept_by_each, each_append, Knows, after_changes, Change, Sets, Hears, NodeState, Known, fields_known, value_in, seen_graph, share_of, field_of, Draft, Reaction, message, drafts_of, info_of}
+use Rattle.bmx_store_laws.proofs.Words.{kept_by_each, each_append, Knows, after_changes, Change, Sets, Hears, NodeState, Known, fields_known, value_in, seen_graph, share_of, field_of, Draft, Reaction, drafts_of}
 use Rattle.bmx_store_laws.proofs.Words.{told_fields, grant_in, operation_rule, next_name, graph_changes, name_in, note_in, copy_after, took, told_field, heard_field, infos, known_change, ViewField, some_is}
-use Rattle.bmx_store_laws.proofs.Words.{taking_each, IfSome, ◌≢◌, some_or_none, inl, inr, option_and_then}
+use Rattle.bmx_store_laws.proofs.Words.{taking_each, IfSome, ◌≢◌, some_or_none, inl, inr, option_and_then, some_same}
 use Rattle.bmx_store_laws.proofs.Words.val
 use Rattle.bmx_store_laws.proofs.Words.graph_step
 use Rattle.bmx_store_laws.proofs.Words.acquire_is
@@ -95,17 +95,15 @@ IsOwnStore me g _ = Unit {0}
 
 -- what an effect of a command that is about no token changes at the node is what it changes in the graph
 pub effect_part : (me : ℕ) (s : NodeState) (g : State) (e : Effect) → IsReadyFor me s e → IsPart me s g nothing → IsPart me (after_changes s (graph_changes me s e)) (changed g me e) nothing
-effect_part me s g e ready p =
-    let named : next_name me s ≡ graph_step.next_name g me = ap (λ (n : ℕ). name_word me (n + 1)) p.made in
-    record {
-      register = λ r. grind (arith, nat_tests, p.register r, named);
-      known = λ x. record {
-        held = grind (arith, nat_tests, (p.known x).held);
-        want = grind (arith, nat_tests, (p.known x).want);
-        fields = λ l h. grind (arith, nat_tests, (p.known x).fields, nulls, map-set, values_same);
-      };
-      made = grind (arith, nat_tests, p.made);
-    }
+effect_part me s g e ready p = record {
+  register = λ r. grind (arith, nat_tests, p.register r, p.made);
+  known = λ x. record {
+    held = grind (arith, nat_tests, (p.known x).held);
+    want = grind (arith, nat_tests, (p.known x).want);
+    fields = λ l h. grind (arith, nat_tests, (p.known x).fields, p.made, nulls, map-set, values_same);
+  };
+  made = grind (arith, nat_tests, p.made);
+}
 
 -- ## what is waited for
 
@@ -159,14 +157,11 @@ module _ (me n : ℕ) (g : State) (e : Effect) (apart : (me == n) ≡ false) whe
   values_else : (on : Operand) → value_of (changed g me e) n on ≡ value_of g n on
   values_else on = grind arith
 
-  waited_same : (w : Option Command) → waited (changed g me e) n w ≡ waited g n w
-  waited_same w = grind (arith, values_else)
-
   pub part_else : (s : NodeState) (w : Option Command) → ((x : ℕ) (fields : List Val) → fields_known (s.known x) ≡ Some fields → IsBeside g me x e) →
       IsPart n s g (wants g n w) → IsPart n s (changed g me e) (wants (changed g me e) n w)
   part_else s w beside p = record {
     register = λ r. grind (arith, p.register r);
-    known = λ x. fits_else (p.known x) (grind arith) (ap (λ (t : Option (Mode × ℕ)). wanted_at t x) (sym (waited_same w))) (λ l has. object_kept g me x e (beside x l has));
+    known = λ x. fits_else (p.known x) (grind arith) (grind (arith, values_else)) (λ l has. object_kept g me x e (beside x l has));
     made = grind (arith, p.made);
   }
 
@@ -199,9 +194,8 @@ releasing p = grind arith
 abbrev pub Keeps : Share → Transition → Type 0
 Keeps b t = (h : Share) × (t.after ≡ Some h) × (h.part.held ≡ b.part.held) × (h.part.want ≡ b.part.want)
 
--- and only an owner serves
-serving_keeps : (me : ℕ) (b : Share) (t : Transition) → transition_of me Serves b ≡ Some t → Keeps b t × (b.part.role ≡ Owner)
-serving_keeps me b t does = ((unwrap_or t.after b, grind arith, grind arith, grind arith), grind arith)
+serving_keeps : (me : ℕ) (b : Share) (t : Transition) → transition_of me Serves b ≡ Some t → Keeps b t
+serving_keeps me b t does = (unwrap_or t.after b, grind arith, grind arith, grind arith)
 
 note_keeps : (me from : ℕ) (n : Note) (b : Share) (t : Transition) → note_transition me from n (Some b) ≡ Some t → Keeps b t
 note_keeps me from n b t does = (unwrap_or t.after b, grind arith, grind arith, grind arith)
@@ -227,22 +221,20 @@ told_values s lies (f ∷ fields) = grind (arith, told_values s lies fields)
 -- the messages of notes about an object of whose fields the node has a copy as the graph has them
 module _ (g : State) (s : NodeState) (lies : ℕ → Place) (name : ℕ) (k : Known) (fields : List ViewField) (is : s.known name ≡ Some k) (has : k.copy ≡ Some fields)
     (there : g.object name ≡ Some (map value_in fields)) where
-  note_brings : (n : Note) → BringsFields g (message (info_of s lies name) (told_fields s lies name) n)
-  note_brings n info l e =
-      (let told : values_told (told_fields s lies name) ≡ map value_in fields = grind (arith, is, has, told_values s lies fields) in grind (arith, there, told))
-
   pub notes_bring : (sends : List Send) → EachBrings g (drafts_of s lies name sends)
   notes_bring [] = tt
-  notes_bring (n ∷ sends) = (note_brings n.note, notes_bring sends)
+  notes_bring (n ∷ sends) = (
+    λ info l e. (let told : values_told (told_fields s lies name) ≡ map value_in fields = grind (arith, is, has, told_values s lies fields) in grind (arith, there, told)),
+    notes_bring sends,
+  )
 
 -- ## what a serve and a letter leave
 
 module _ (me : ℕ) (s : NodeState) (g : State) (v : ℕ → Option Mode) (lies : ℕ → Place) (p : IsPart me s g v) where
   -- what a transition leaves of a name fits the graph, if its fields do
-  left_fits : (name : ℕ) (k : Known) (fields : Option (List ViewField)) (t : Transition) → s.known name ≡ Some k → Keeps (share_of k) t →
-      ((l : List Val) → option_map (map value_in) fields ≡ Some l → g.object name ≡ Some l) → Each (Leaves me g v) (known_change name (Some k) fields t.after)
-  left_fits name k fields t is keeps there =
-      grind (arith, nat_tests, is, keeps, p.known name, fields_kept)
+  left_fits : (name : ℕ) (k : Option Known) (fields : Option (List ViewField)) (t : Transition) → s.known name ≡ k → ((j : Known) → k ≡ Some j → Keeps (share_of j) t) →
+      ((l : List Val) → option_map (map value_in) fields ≡ Some l → g.object name ≡ Some l) → Each (Leaves me g v) (known_change name k fields t.after)
+  left_fits name k fields t is keeps there = grind (arith, nat_tests, is, keeps, p.known name, fields_kept)
 
   -- a serve: only an owner serves, and it has a copy
   pub served_part : (name : ℕ) (k : Option Known) → s.known name ≡ k → ((j : Known) → k ≡ Some j → j.part.role ≡ Owner → is_some j.copy ≡ true) →
@@ -251,9 +243,8 @@ module _ (me : ℕ) (s : NodeState) (g : State) (v : ℕ → Option Mode) (lies 
   served_part name (Some k) is owners = elim (some_or_none (transition_of me Serves (share_of k))) [
     | inl none ↦ rw none (p, tt)
     | inr t ↦ rw t.1 (
-        let keeps = serving_keeps me (share_of k) t.0 t.1 in
-        let c = some_is k.copy (owners k refl keeps.1) in (
-          parts_left me g v _ (left_fits name k k.copy t.0 is keeps.0 (λ l has. grind (arith, is, has, (p.known name).fields))) s p,
+        let c = some_is k.copy (owners k refl (grind (arith, t.1))) in (
+          parts_left me g v _ (left_fits name (Some k) k.copy t.0 is (λ j at. serving_keeps me (share_of j) t.0 (rw (some_same at) at t.1)) (λ l has. grind (arith, is, has, (p.known name).fields))) s p,
           notes_bring g s lies name k c.0 is c.1 (grind (arith, is, c.1, (p.known name).fields)) t.0.sends,
         ))
   ]
@@ -266,12 +257,8 @@ module _ (me : ℕ) (s : NodeState) (g : State) (v : ℕ → Option Mode) (lies 
       IsPart me (after_changes s (took s lies from seq m k t).changes) g v
   took_part from seq m k is brings None does = p
   took_part from seq m k is brings (Some t) does = parts_left me g v _ (each_append (Leaves me g v) (map (Hears from) (infos m)) _ (heard_leaves from (infos m))
-      (taking_each (Leaves me g v) from seq (name_in m) (note_in m) _ (by_known k is does) (λ _. tt) tt)) s p
-    where
-      by_known : (k : Option Known) → s.known (name_in m) ≡ k → note_transition me from (note_in m) (option_map share_of k) ≡ Some t → Each (Leaves me g v) (known_change (name_in m) k (copy_after m k) t.after)
-      by_known None is does = tt
-      by_known (Some j) is does = left_fits (name_in m) j (copy_after m (Some j)) t is (note_keeps me from (note_in m) (share_of j) t does)
-          (λ l has. elim (some_or_none (grant_in m)) [
-            | inl none ↦ grind (arith, none, has, is, (p.known (name_in m)).fields)
-            | inr p ↦ grind (arith, brings p.0.0 p.0.1 p.1, p.1, has, map-map value_in heard_field)
-          ])
+      (taking_each (Leaves me g v) from seq (name_in m) (note_in m) _
+      (left_fits (name_in m) k (copy_after m k) t is (λ j at. note_keeps me from (note_in m) (share_of j) t (rw at at does)) (λ l has. elim (some_or_none (grant_in m)) [
+        | inl none ↦ grind (arith, none, has, is, (p.known (name_in m)).fields)
+        | inr q ↦ grind (arith, brings q.0.0 q.0.1 q.1, q.1, has, map-map value_in heard_field)
+      ])) (λ _. tt) tt)) s p
