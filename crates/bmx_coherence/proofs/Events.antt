@@ -1,14 +1,13 @@
 -- A moment of a legal history, what the laws of one object say of it, and what stands after one more event: nodes are parts
 -- of the graph, grants in flight bring its fields, wants are waited for, and the commands so far are a run.
 use Rattle.bmx_store_laws.proofs.Words.{◌≡◌, ℕ, refl, ap, sym, subst, ◌∙◌, true, false, cond, List, [], ◌∷◌, map, ◌<◌, arith, ◌⊎◌, inl, inr, ◌+◌, ◌≤◌, ◌++◌, ◌^◌, append-nil, map-append, filter_map-append, Contains-append_cases, cons_option}
-use Rattle.bmx_store_laws.proofs.Words.{option_map, Option, Some, None, is_some, ◌==◌, ◌||◌, Contains, IsSome, count_by, IsOpening, put, name_word, Command, Operand, Anchor, Mode, Write, Val, Letter}
-use Rattle.bmx_store_laws.proofs.Words.{Msg, ReadGrant, WriteGrant, is_excluded-none, is_excluded, State, opening_state, target_of, changed, state_after, state_after_all, Act, IsRun, Effect, Nothing, MakesOne, Stores, Transition}
-use Rattle.bmx_store_laws.proofs.Words.{Role, Owner, Parent, IsShared, shared_run, IsSound, IsSoundIf, IsNowhere, eqb_same, some_same, none_some, eqb_not, after_changes}
-use Rattle.bmx_store_laws.proofs.Words.{IsOperandOf, in_flight, waits_with, letters_to, IsNext, waits_after, IsAgain, IsInputOf, AreAfter, IsLegal, Setting, NodeState, Known, fields_known, share_of, Draft, Reaction, grant_in, next_name, knows}
-use Rattle.bmx_store_laws.proofs.Words.{only, name_in, note_in, took, take_rule, Node, command_in, rule, is_bad_letter, world_of, HasOwned, Event, Input, Do, Serve, Take, Sending, nodes_of, either}
-use Rattle.bmx_store_laws.proofs.Words.{put_each, every_map, every_there, first_there, flight_more, IsOneMore, step_letters, step_answer, step_leaves, numbered_each, issued_to, GrantsNothing, note_grants, each_name, Came, came_after, first_letter}
-use Rattle.bmx_store_laws.proofs.Words.{new_nowhere, write_excludes, one_seat, readers_are_listed_always, split_at, moving_counted, IsLeft, shares_changed, all_spared, seen_known, seen, seen_message, seen_note, first_world, HasReader, handovers_of}
-use Rattle.bmx_store_laws.proofs.Words.{IsFree, IsUnborn, IfSome, at_each_number, nat_tests, IsAnswer, some_is}
+use Rattle.bmx_store_laws.proofs.Words.{option_map, Option, Some, None, is_some, ◌==◌, ◌||◌, Contains, IsSome, count_by, IsOpening, put, name_word, Command, Operand, Anchor, Mode, Write, Val, Letter, Msg, ReadGrant, WriteGrant, is_excluded-none}
+use Rattle.bmx_store_laws.proofs.Words.{is_excluded, State, opening_state, target_of, changed, state_after, state_after_all, Act, IsRun, Effect, Nothing, MakesOne, Stores, Transition, Role, Owner, Parent, IsShared, shared_run, IsSound, IsSoundIf}
+use Rattle.bmx_store_laws.proofs.Words.{IsNowhere, eqb_same, some_same, none_some, eqb_not, after_changes, IsOperandOf, in_flight, waits_with, letters_to, IsNext, waits_after, IsAgain, IsInputOf, AreAfter, IsLegal, Setting, NodeState, Known}
+use Rattle.bmx_store_laws.proofs.Words.{fields_known, share_of, Draft, Reaction, grant_in, next_name, only, name_in, note_in, took, take_rule, Node, command_in, rule, is_bad_letter, world_of, HasOwned, Event, Input, Do, Serve, Take, Sending}
+use Rattle.bmx_store_laws.proofs.Words.{nodes_of, either, put_each, every_map, every_there, first_there, flight_more, IsOneMore, step_letters, step_answer, step_leaves, numbered_each, issued_to, GrantsNothing, note_grants, each_name, Came}
+use Rattle.bmx_store_laws.proofs.Words.{came_after, first_letter, new_nowhere, write_excludes, one_seat, readers_are_listed_always, split_at, moving_counted, IsLeft, shares_changed, all_spared, seen_known, seen, seen_message, seen_note, first_world}
+use Rattle.bmx_store_laws.proofs.Words.{HasReader, handovers_of, IsFree, IsUnborn, IfSome, at_each_number, nat_tests, IsAnswer, some_is}
 use Rattle.bmx_store_laws.proofs.Words.answer
 use Rattle.bmx_store_laws.proofs.Words.seated
 use Rattle.bmx_store_laws.specs.Laws.{EachReaderIsListed}
@@ -59,14 +58,20 @@ module _ (st : Setting) (past : List Event) (nodes : ℕ → Node) (now : IsMome
       refers (Anchor b) of means aware = aware.1 b of (sym (some_same means))
       refers on of means aware = grind (arith, aware.0.registers, same)
 
+  -- two nodes hold it, and one of them for writing
+  held_once : (x n k : ℕ) (b : Mode) → held_of ((nodes n).state.known x) ≡ Some Write → held_of ((nodes k).state.known x) ≡ Some b → k ≡ n
+  held_once x n k b writes holds =
+      (let i = known_of (λ l. l.part.held) ((nodes n).state.known x) Write writes in
+      let j = known_of (λ l. l.part.held) ((nodes k).state.known x) b holds in
+      write_excludes st past nodes now.opening now.legal now.after n k x i.0 j.0 (real n x i.0 i.1) (real k x j.0 j.1) i.1 j.1 i.2 (grind (arith, j.2)))
+
   -- ## the next name of a node
 
   -- it is that of no letter and no entry
   new_name : (me : ℕ) → IsEarly me past → IsNowhere (seen (next_name me (nodes me).state) (world_of nodes past))
   new_name me few =
       let x : ℕ = next_name me (nodes me).state in
-      let some : (nodes me).state.made ≤ 320000 + count_by (λ (f : Event). f.node == me) past = (came x).few me in
-      new_nowhere st x me nodes past (came x).named (omega (arith, some, few)) refl
+      new_nowhere st x me nodes past (came x).named (omega (arith, (came x).few me, few)) refl
 
   pub new_unknown : (me : ℕ) → IsEarly me past → (n : ℕ) → (nodes n).state.known (next_name me (nodes me).state) ≡ None
   new_unknown me few n = grind (arith, (new_name me few).unknown n)
@@ -94,9 +99,7 @@ module _ (st : Setting) (past : List Event) (nodes : ℕ → Node) (now : IsMome
     ]
 
     no_reader : (owner n : ℕ) → HasReader (world_of nodes past) x owner n → ⊥
-    no_reader owner n reads =
-        let none : reads.known.part.readers ≡ [] = grind (arith, sole.0 owner reads.known reads.owned, is, reads.owned.known, (sound me x k is).owner_writes has.owns held) in
-        grind (arith, none, reads.listed.1)
+    no_reader owner n reads = grind (arith, sole.0 owner reads.known reads.owned, is, reads.owned.known, (sound me x k is).owner_writes has.owns held, reads.listed.1)
 
     pub writer_alone : IsAlone past nodes me x
     writer_alone = record {
@@ -225,13 +228,6 @@ module _ (st : Setting) (opening : IsOpening st.nodes st.limit st.births) (past 
           (numbered_each (λ (k : Letter). BringsFields h k.msg) e.stamp o.drafts s.issued (every_map _ _ (λ d brings seq. brings) o.drafts seen.brings)))
           (subst (λ (k : List Sending). Contains (letters_to m k) l) (step_letters ev.step o is) new.1) info fields grants
 
-      -- an entry stays
-      still : (x : ℕ) → is_some (s.known x) ≡ true → is_some (own_state.known x) ≡ true
-      still x knows = grind (arith, all_spared x o.changes (seen_known (s.known x)), shares_changed x o.changes s)
-
-      counted : (count : ℕ) (f : Effect) → NamesIt me s own_state f → own_state.made ≡ (changed g me f).made me → 1 ≤ count → count ≤ own_state.made → is_some (own_state.known (name_word me count)) ≡ true
-      counted count f names made one most = grind (arith, nat_tests, still (name_word me count), stands.makers me count one, (stands.parts me).made)
-
       stands_more : Stands st (past ++ e ∷ []) nodes_after
       stands_more = record {
         now = next;
@@ -244,7 +240,18 @@ module _ (st : Setting) (opening : IsOpening st.nodes st.limit st.births) (past 
         ];
         run = seen.run;
         makers = put_each (λ n z. (count : ℕ) → 1 ≤ count → count ≤ z.state.made → is_some (z.state.known (name_word n count)) ≡ true) nodes me after
-            (λ count one most. ap (λ (f : ℕ → Option Known). is_some (f (name_word me count))) left.known ∙ counted count seen.effect_is seen.names seen.part.made one (omega (arith, most, left.made)))
+            (λ count one most. (let x : ℕ = name_word me count in grind (
+              arith,
+              nat_tests,
+              all_spared x o.changes (seen_known (s.known x)),
+              shares_changed x o.changes s,
+              ap (λ (f : ℕ → Option Known). f x) left.known,
+              left.made,
+              seen.names,
+              seen.part.made,
+              stands.makers me count one,
+              (stands.parts me).made,
+            )))
             (λ n _. stands.makers n);
       }
 
@@ -293,15 +300,9 @@ module _ (st : Setting) (opening : IsOpening st.nodes st.limit st.births) (past 
 
   -- where it then holds an object, no other node keeps it from it
   free : (o : Reaction) → o ≡ rule st me s ev.step.told e.input → (m : Mode) (x : ℕ) → held_of ((after_changes s o.changes).known x) ≡ Some m → is_excluded m g me x ≡ false
-  free o is m x held = is_excluded-none m g me x (λ k below. grind (arith, nat_tests, ((stands.parts k).known x).held, both me k, both k me m, ap (λ (f : ℕ → Option Known). held_of (f x)) (left o is).known, held))
-    where
-      -- two nodes hold it, and one of them for writing
-      both : (n k : ℕ) (b : Mode) → held_of ((nodes_after n).state.known x) ≡ Some Write → held_of ((nodes_after k).state.known x) ≡ Some b → k ≡ n
-      both n k b writes holds =
-          let i = known_of (λ l. l.part.held) ((nodes_after n).state.known x) Write writes in
-          let j = known_of (λ l. l.part.held) ((nodes_after k).state.known x) b holds in
-          write_excludes st (past ++ e ∷ []) nodes_after opening ev.then_legal ev.then_reached n k x i.0 j.0
-          (real st (past ++ e ∷ []) nodes_after next n x i.0 i.1) (real st (past ++ e ∷ []) nodes_after next k x j.0 j.1) i.1 j.1 i.2 (grind (arith, j.2))
+  free o is m x held =
+      (let both = held_once st (past ++ e ∷ []) nodes_after next x in is_excluded-none m g me x (λ k below.
+      grind (arith, nat_tests, ((stands.parts k).known x).held, both me k, both k me m, ap (λ (f : ℕ → Option Known). held_of (f x)) (left o is).known, held)))
 
   command_seen : (c : Command) → e.input ≡ Do c → IsSeen st past nodes e (rule st me s ev.step.told (Do c))
   command_seen c is =

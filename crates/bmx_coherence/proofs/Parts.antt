@@ -1,10 +1,9 @@
 -- A node's part of the graph: its registers, what it holds, how many names it made, and its copies, which have the fields of
 -- the graph. What changes of a node, effects of its commands on the graph, and transitions of its tokens make of it.
-use Rattle.bmx_store_laws.proofs.Words.{◌≡◌, ℕ, refl, ap, ◌∙◌, Bool, true, false, cond, List, [], ◌∷◌, map, arith, zero, suc, ◌⊎◌, nat_tests, map-set, option_map, option_map_or, Option, Some, None, is_some, unwrap_or, replicate, ◌==◌}
-use Rattle.bmx_store_laws.proofs.Words.{Info, Place, Command, Operand, Mode, Write, Val, Field, Msg, State, value_of, reference, target_of, changed, Effect, MakesOne}
-use Rattle.bmx_store_laws.proofs.Words.{Stores, Holds, acquire, release, Share, Note, Send, Transition, transition_of, Serves, note_transition, Acquire, Release, Part, Owner, none_some, Every, Each}
-use Rattle.bmx_store_laws.proofs.Words.{kept_by_each, each_append, Knows, after_changes, Change, Sets, Hears, NodeState, Known, fields_known, value_in, seen_graph, share_of, field_of, Draft, Reaction, drafts_of}
-use Rattle.bmx_store_laws.proofs.Words.{told_fields, grant_in, operation_rule, next_name, graph_changes, name_in, note_in, copy_after, took, told_field, heard_field, infos, known_change, ViewField, some_is}
+use Rattle.bmx_store_laws.proofs.Words.{◌≡◌, ℕ, refl, ap, ◌∙◌, Bool, true, false, cond, List, [], ◌∷◌, map, arith, zero, suc, ◌⊎◌, nat_tests, map-set, option_map, option_map_or, Option, Some, None, is_some, unwrap_or, replicate, ◌==◌, Info, Place}
+use Rattle.bmx_store_laws.proofs.Words.{Command, Operand, Mode, Write, Val, Field, Msg, State, value_of, reference, target_of, changed, Effect, MakesOne, Stores, Holds, acquire, release, Share, Note, Send, Transition, transition_of, Serves}
+use Rattle.bmx_store_laws.proofs.Words.{note_transition, Acquire, Release, Part, Owner, none_some, Every, Each, kept_by_each, each_append, Knows, after_changes, Change, Sets, Hears, NodeState, Known, fields_known, value_in, seen_graph, share_of}
+use Rattle.bmx_store_laws.proofs.Words.{field_of, Draft, Reaction, drafts_of, told_fields, grant_in, operation_rule, next_name, graph_changes, name_in, note_in, copy_after, took, told_field, heard_field, infos, known_change, ViewField, some_is}
 use Rattle.bmx_store_laws.proofs.Words.{taking_each, IfSome, ◌≢◌, some_or_none, inl, inr, option_and_then, some_same}
 use Rattle.bmx_store_laws.proofs.Words.val
 use Rattle.bmx_store_laws.proofs.Words.graph_step
