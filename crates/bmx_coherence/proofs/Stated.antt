@@ -7,7 +7,7 @@ use Rattle.bmx_store_laws.proofs.Words.refusal
 use Rattle.bmx_store_laws.proofs.Words.answer
 use Rattle.bmx_coherence.specs.Laws.{EveryHistoryIsAGraphRun, FullIsAtTheLimit, NodesHaveTheGraph, CopiesAreCurrent, TargetsStand, EachWaitsForItsWant, StuckNodesNameHolders}
 use Rattle.bmx_coherence.proofs.Events.{Stands, one_more}
-use Rattle.bmx_coherence.proofs.Following.{given_known, stuck_names_holders, target_refers, made_current, reached_current, wants_waited_for}
+use Rattle.bmx_coherence.proofs.Following.{stuck_names_holders, targets_are_known, are_current, wants_waited_for}
 use Rattle.bmx_coherence.proofs.Parts.{want_of, values_again, IsPart, nothing, held_of}
 
 -- ## the opening
@@ -82,12 +82,10 @@ nodes_have_the_graph st history nodes opening legal after =
     }
 
 pub copies_are_current : CopiesAreCurrent
-copies_are_current st history nodes opening legal after =
-    (let stands : Stands st history nodes = stands_after st history nodes opening legal after in record { made = made_current st history nodes stands; reached = reached_current st history nodes stands })
+copies_are_current st history nodes opening legal after = are_current st history nodes (stands_after st history nodes opening legal after)
 
 pub targets_stand : TargetsStand
-targets_stand st history nodes opening legal after =
-    (let stands : Stands st history nodes = stands_after st history nodes opening legal after in record { copies = target_refers st history nodes stands; letters = given_known st history nodes stands })
+targets_stand st history nodes opening legal after = targets_are_known st history nodes (stands_after st history nodes opening legal after)
 
 pub each_waits_for_its_want : EachWaitsForItsWant
 each_waits_for_its_want st history nodes opening legal after = wants_waited_for st history nodes (stands_after st history nodes opening legal after)
