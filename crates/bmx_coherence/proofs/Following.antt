@@ -5,7 +5,7 @@ use Rattle.bmx_store_laws.proofs.Words.{◌≡◌, ℕ, refl, ap, sym, subst, �
 use Rattle.bmx_store_laws.proofs.Words.{◌||◌, Contains, IsSome, count_by, name_word, anchor_of, Command, Operand, Mode, Val, targets, given, Field, Letter, Msg, Record, State, target_of, Note, can_serve, is_request_of, is_grant_of, Ask}
 use Rattle.bmx_store_laws.proofs.Words.{IsAsking, IsRequested, requested_run, gifts_are_recorded, each_owes_one_answer, RecordsAreKept, owes, waits_for, AnswersAreOwed}
 use Rattle.bmx_store_laws.proofs.Words.{Numbers, Object, IsFirst, Run, eqb_same, some_same, none_some, eqb_of, in_flight, waits_with, Setting, NodeState, Known, fields_known, value_in, seen_graph, share_of, grant_in, knows, is_ready, Node, world_of}
-use Rattle.bmx_store_laws.proofs.Words.{IsCurrent, World, Sent, names_in, IsSomewhere, IsReached, fields_of, Share, Event, ViewField, some_or_none, some_is, contains_map, each_name, one_seat, wants_stand_once, HandsAmong, among, HasNo, notes_give, seen_known}
+use Rattle.bmx_store_laws.proofs.Words.{IsCurrent, World, Sent, names_in, IsSomewhere, IsReached, fields_of, Share, Event, ViewField, some_or_none, some_is, contains_map, each_name, one_seat, wants_stand_once, Every, ◌≢◌, every_there, HandsAmong, among, HasNo, notes_give, seen_known}
 use Rattle.bmx_store_laws.proofs.Words.{has_name, seen, seen_record, seen_message, Spot, Asked, Queued, Granted, letters_about, times_at, StandsOnce, IsFree, IsUnborn}
 use Rattle.bmx_store_laws.proofs.Words.val
 use Rattle.bmx_store_laws.proofs.Words.msg_field
@@ -23,23 +23,18 @@ use Rattle.bmx_coherence.proofs.Parts.{want_of, IsWaiting, wanted_at, held_of, v
 
 -- ## lists
 
--- a reference among values is one among fields
-is_ref : (f : ViewField) (y : ℕ) → value_in f ≡ val.Ref y → f ≡ field.Ref y
-is_ref f y e = grind arith
+-- what no field refers to is among no values
+refers_in : (y : ℕ) (fields : List ViewField) → HasNo y fields → Every (λ (v : Val). v ≢ val.Ref y) (map value_in fields)
+refers_in y [] none = tt
+refers_in y (f ∷ fields) none = (λ e. none.0 (grind (arith, e)), refers_in y fields none.1)
 
-refers_in : (fields : List ViewField) (y : ℕ) → HasNo y fields → Contains (map value_in fields) (val.Ref y) → ⊥
-refers_in [] y none c = omega (arith, c.1)
-refers_in (f ∷ fields) y none (zero, below, here) = none.0 (is_ref f y here)
-refers_in (f ∷ fields) y none (suc k, below, there) = refers_in fields y none.1 (k, omega arith, there)
-
--- and among the fields of a letter it is one of their targets, and so of the names of the letter
-told_in : (name : ℕ) (fields : List Field) (y : ℕ) → Contains (values_told fields) (val.Ref y) → Contains (name ∷ targets fields) y
-told_in name [] y c = absurd (omega (arith, c.1))
-told_in name (msg_field.Ref info ∷ fields) y (zero, below, e) = (let same : info.name ≡ y = cc in (1, omega arith, same))
-told_in name (msg_field.Ref info ∷ fields) y (suc k, below, e) =
-    (let c : Contains (info.name ∷ targets fields) y = told_in info.name fields y (k, omega arith, e) in (suc c.0, omega (arith, c.1), c.2))
-told_in name (f ∷ fields) y (zero, below, e) = absurd cc
-told_in name (f ∷ fields) y (suc k, below, e) = told_in name fields y (k, omega arith, e)
+-- what the fields of a letter refer to is among names that have their targets
+told_in : (fields : List Field) (names : List ℕ) → ((y : ℕ) → Contains (targets fields) y → Contains names y) →
+    Every (λ (v : Val). (y : ℕ) → v ≡ val.Ref y → Contains names y) (values_told fields)
+told_in [] names among = tt
+told_in (msg_field.Ref info ∷ fields) names among =
+    (λ y e. among y (0, omega arith, (let same : info.name ≡ y = cc in same)), told_in fields names (λ y c. among y (suc c.0, omega (arith, c.1), c.2)))
+told_in (f ∷ fields) names among = (λ y e. absurd cc, told_in fields names among)
 
 has_it : (y : ℕ) (names : List ℕ) → Contains names y → has_name y names ≡ true
 has_it y [] c = absurd (omega (arith, c.1))
@@ -100,7 +95,8 @@ module _ (st : Setting) (past : List Event) (nodes : ℕ → Node) (stands : Sta
 
   -- what a copy refers to is known
   target_known : (n x y : ℕ) (k : Known) → n < st.nodes → known_at n x ≡ Some k → Contains (copied k) (val.Ref y) → is_some (known_at n y) ≡ true
-  target_known n x y k below is refers = unreferred n y below (λ aware. refers_in (unwrap_or k.copy []) y (aware.0.fields x k is) refers)
+  target_known n x y k below is refers = unreferred n y below (λ aware.
+      every_there _ (copied k) (val.Ref y) (refers_in y (unwrap_or k.copy []) (aware.0.fields x k is)) refers refl)
 
   -- what stands somewhere is current, and the targets of its fields stand
   whole : (x : ℕ) → IsSomewhere st w x → IsCurrent w g x × ((y : ℕ) → Contains (fields_of g x) (val.Ref y) → IsSomewhere st w y)
@@ -118,7 +114,8 @@ module _ (st : Setting) (past : List Event) (nodes : ℕ → Node) (stands : Sta
         ap g.object (sym h.named) ∙ stands.grants from to h.letter h.there h.info h.fields (ap grant_in h.grants) in (
           record { fields = values_told h.fields; in_graph = there; at_owner = Sent from to h.letter h.info h.fields moves refl },
           rw there (λ y refers. Between from to h.letter below above h.there
-              (subst (λ (m : Msg). Contains (names_in m) y) (sym h.grants) (told_in h.info.name h.fields y refers))),
+              (every_there (λ (v : Val). (z : ℕ) → v ≡ val.Ref z → Contains (names_in h.letter.msg) z) _ (val.Ref y) (told_in h.fields (names_in h.letter.msg)
+              (λ z c. subst (λ (m : Msg). Contains (names_in m) z) (sym h.grants) (suc c.0, omega (arith, c.1), c.2))) refers y refl)),
         )
   ]
 
