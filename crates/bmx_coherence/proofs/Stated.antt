@@ -1,13 +1,13 @@
 -- What stands after every legal history, by induction over its events from the opening, and the laws as they are stated.
-use Rattle.bmx_store_laws.proofs.Words.{◌≡◌, ℕ, refl, ap, sym, subst, ◌∙◌, Bool, true, false, cond, List, [], ◌∷◌, arith, length, inl, inr, ◌≤◌, ◌++◌, ◌-◌, slice_get_cases, option_map, option_map_or, ◌↔◌, Option, Some, None, is_some, ◌==◌, ◌&&◌, nat_lt}
-use Rattle.bmx_store_laws.proofs.Words.{IsOpening, put, name_word, Command, Birth, Val, opening_state, eqb_is, empty_is_legal, replay_is_determined, AreAfter, IsLegal, Replays, Setting, Known, fields_known, first_known, birth_of, is_anchor, owned_birth}
+use Rattle.bmx_store_laws.proofs.Words.{◌≡◌, ℕ, refl, ap, sym, subst, ◌∙◌, Bool, true, false, cond, List, [], ◌∷◌, arith, length, inl, inr, ◌≤◌, ◌++◌, ◌-◌, slice_get_cases, option_map, option_map_or, ◌↔◌, Option, Some, None, is_some, ◌==◌, ◌&&◌, nat_lt, nat_tests}
+use Rattle.bmx_store_laws.proofs.Words.{IsOpening, put, name_word, Command, Birth, Val, opening_state, empty_is_legal, replay_is_determined, AreAfter, IsLegal, Replays, Setting, Known, fields_known, first_known, birth_of, is_anchor, owned_birth}
 use Rattle.bmx_store_laws.proofs.Words.{heard_birth, is_full, Reaction, refused, graph_rule, first_node, Node, command_in, rule, IsStep, finds_full, Event, Input, Do, along_history, step_answer, finds_birth}
 use Rattle.bmx_store_laws.proofs.Words.command
 use Rattle.bmx_store_laws.proofs.Words.refusal
 use Rattle.bmx_store_laws.proofs.Words.answer
 use Rattle.bmx_coherence.specs.Laws.{EveryHistoryIsAGraphRun, FullIsAtTheLimit, NodesHaveTheGraph, CopiesAreCurrent, TargetsStand, EachWaitsForItsWant, StuckNodesNameHolders}
 use Rattle.bmx_coherence.proofs.Events.{Stands, one_more}
-use Rattle.bmx_coherence.proofs.Following.{given_known, stuck_names_holders, target_refers, made_current, reached_current, wants_waited_for}
+use Rattle.bmx_coherence.proofs.Following.{stuck_names_holders, targets_are_known, are_current, wants_waited_for}
 use Rattle.bmx_coherence.proofs.Parts.{want_of, values_again, IsPart, nothing, held_of}
 
 -- ## the opening
@@ -26,28 +26,21 @@ copy_first b z t fields h = grind arith
 part_first : (st : Setting) (n : ℕ) → IsPart n (first_node st n).state (opening_state st.births) nothing
 part_first st n = record {
   register = λ r. refl;
-  known = λ x. (let first = free_first (birth_of st x) (n == 0) (nat_lt n st.nodes && is_anchor st x) in
-      record { held = first.0; want = first.1; fields = copy_first (birth_of st x) (n == 0) (nat_lt n st.nodes && is_anchor st x) });
+  known = λ x. record { held = grind arith; want = grind arith; fields = copy_first (birth_of st x) (n == 0) (nat_lt n st.nodes && is_anchor st x) };
   made = refl;
 }
 
+-- node 0 has counted as many names as there are births
+born : (st : Setting) → IsOpening st.nodes st.limit st.births → (count : ℕ) → 1 ≤ count → count ≤ length st.births →
+    is_some (birth_of st (name_word 0 count)) ≡ true
+born st opening count one most = elim (slice_get_cases st.births (count - 1)).1 [
+  | inl at ↦ finds_birth st.births (name_word 0 count) (count - 1) at.0 at.2 (omega (arith, opening.born.named (count - 1) at.0 at.2, one))
+  | inr past ↦ absurd (omega (arith, past.0, one, most))
+]
+
 maker_first : (st : Setting) → IsOpening st.nodes st.limit st.births → (n count : ℕ) → 1 ≤ count → count ≤ cond (n == 0) (length st.births) 0 →
     is_some (first_known st n (name_word n count)) ≡ true
-maker_first st opening n count one most = by_node (n == 0) (eqb_is n 0) most
-  where
-    born : count ≤ length st.births → is_some (birth_of st (name_word 0 count)) ≡ true
-    born most = elim (slice_get_cases st.births (count - 1)).1 [
-      | inl at ↦ finds_birth st.births (name_word 0 count) (count - 1) at.0 at.2 (omega (arith, opening.born.named (count - 1) at.0 at.2, one))
-      | inr past ↦ absurd (omega (arith, past.0, one, most))
-    ]
-
-    by_node : (b : Bool) → (b ≡ true → n ≡ 0) → count ≤ cond b (length st.births) 0 →
-        is_some (cond b (option_map owned_birth (birth_of st (name_word n count))) (cond (nat_lt n st.nodes && is_anchor st (name_word n count)) (option_map heard_birth (birth_of st (name_word n count))) None)) ≡ true
-    by_node true q most = owned (birth_of st (name_word n count)) (ap (λ (k : ℕ). is_some (birth_of st (name_word k count))) (q refl) ∙ born most)
-      where
-        owned : (b : Option Birth) → is_some b ≡ true → is_some (option_map owned_birth b) ≡ true
-        owned b e = grind arith
-    by_node false q most = absurd (omega (arith, one, most))
+maker_first st opening n count one most = grind (arith, nat_tests, one, most, born st opening count)
 
 first_stands : (st : Setting) → IsOpening st.nodes st.limit st.births → Stands st [] (first_node st)
 first_stands st opening = record {
@@ -82,12 +75,10 @@ nodes_have_the_graph st history nodes opening legal after =
     }
 
 pub copies_are_current : CopiesAreCurrent
-copies_are_current st history nodes opening legal after =
-    (let stands : Stands st history nodes = stands_after st history nodes opening legal after in record { made = made_current st history nodes stands; reached = reached_current st history nodes stands })
+copies_are_current st history nodes opening legal after = are_current st history nodes (stands_after st history nodes opening legal after)
 
 pub targets_stand : TargetsStand
-targets_stand st history nodes opening legal after =
-    (let stands : Stands st history nodes = stands_after st history nodes opening legal after in record { copies = target_refers st history nodes stands; letters = given_known st history nodes stands })
+targets_stand st history nodes opening legal after = targets_are_known st history nodes (stands_after st history nodes opening legal after)
 
 pub each_waits_for_its_want : EachWaitsForItsWant
 each_waits_for_its_want st history nodes opening legal after = wants_waited_for st history nodes (stands_after st history nodes opening legal after)
