@@ -81,25 +81,19 @@ done_effect st me s g full lies c = effect_after g me c (answered_as (command_ru
 may_answer : (st : Setting) (me : ℕ) (s : NodeState) (full : Bool) (lies : ℕ → Place) (c : Command) → tokenless c ≡ true → IsCommandOf st c →
     ((on : Operand) → IsOperandOf st on → knows s (target_of (seen_graph me s) me on) ≡ is_some (target_of (seen_graph me s) me on)) →
     MayAnswer c (answer_of (seen_graph me s) me c) (answered_as (command_rule me s full lies c (about c)).answer)
-may_answer st me s full lies (command.New register bunch size) plain of means = either (λ (o : Reaction). MayAnswer (command.New register bunch size) graph.Nil (answered_as o.answer)) full _ _ (λ _. tt) (λ _. refl)
-may_answer st me s full lies (command.Read on) plain of means = absurd cc
-may_answer st me s full lies (command.Write on) plain of means = absurd cc
+may_answer st me s full lies (command.New register bunch size) plain of means =
+    either (λ (o : Reaction). MayAnswer (command.New register bunch size) graph.Nil (answered_as o.answer)) full _ _ (λ _. tt) (λ _. refl)
 may_answer st me s full lies c plain of means = grind arith
 
 -- a node whose values, holds and fields of what it holds are the graph's does what the graph does
-module _ (st : Setting) (me : ℕ) (s : NodeState) (g : State) (full : Bool) (lies : ℕ → Place) (c : Command) (plain : tokenless c ≡ true) where
-  done_alone : (graph_answer (command_rule me s full lies c (about c)).answer ≡ Some (answered_as (command_rule me s full lies c (about c)).answer))
-      × ((command_rule me s full lies c (about c)).drafts ≡ []) × (waiting_after c (command_rule me s full lies c (about c)).answer ≡ None)
-  done_alone = (grind arith, grind arith, grind arith)
-
-  module _ (values : (on : Operand) → value_of (seen_graph me s) me on ≡ value_of g me on) (holds : (x : ℕ) → (seen_graph me s).held me x ≡ g.held me x)
-      (fields : (x : ℕ) → is_some (g.held me x) ≡ true → fields_of (seen_graph me s) x ≡ fields_of g x) where
-    done_alike : (answer_of (seen_graph me s) me c ≡ answer_of g me c) × ((command_rule me s full lies c (about c)).changes ≡ graph_changes me s (done_effect st me s g full lies c))
-        × IsOwnStore me g (done_effect st me s g full lies c)
-    done_alike = (grind arith, grind arith, grind arith)
-
-    done_ready : ((x : ℕ) → is_some (g.held me x) ≡ true → is_some (s.known x) ≡ true) → s.known (next_name me s) ≡ None → IsReadyFor me s (done_effect st me s g full lies c)
-    done_ready known new = grind arith
+done_alike : (st : Setting) (me : ℕ) (s : NodeState) (g : State) (full : Bool) (lies : ℕ → Place) (c : Command) → tokenless c ≡ true →
+    ((on : Operand) → value_of (seen_graph me s) me on ≡ value_of g me on) → ((x : ℕ) → (seen_graph me s).held me x ≡ g.held me x) →
+    ((x : ℕ) → is_some (g.held me x) ≡ true → fields_of (seen_graph me s) x ≡ fields_of g x) →
+    let o : Reaction = command_rule me s full lies c (about c) in let e : Effect = done_effect st me s g full lies c in
+    (graph_answer o.answer ≡ Some (answered_as o.answer)) × (o.drafts ≡ []) × (waiting_after c o.answer ≡ None) × (o.changes ≡ graph_changes me s e) ×
+    (answer_of (seen_graph me s) me c ≡ answer_of g me c) × IsOwnStore me g e ×
+    (((x : ℕ) → is_some (g.held me x) ≡ true → is_some (s.known x) ≡ true) → s.known (next_name me s) ≡ None → IsReadyFor me s e)
+done_alike st me s g full lies c plain values holds fields = (grind arith, grind arith, grind arith, grind arith, grind arith, grind arith, λ known new. grind arith)
 
 -- ## commands on tokens
 
@@ -161,20 +155,19 @@ module _ (st : Setting) (me : ℕ) (s : NodeState) (g : State) (w : Option Comma
   graph_shown : (full : Bool) (lies : ℕ → Place) (c : Command) → IsCommandOf st c → tokenless c ≡ true → IsPart me s g nothing → IsShown me s g c (command_rule me s full lies c (about c))
   graph_shown full lies c of plain p =
       let values : (on : Operand) → value_of h me on ≡ value_of g me on = seen_value me s g (wants g me w) steady.part in
-      let alone = done_alone st me s g full lies c plain in
       let alike = done_alike st me s g full lies c plain values held_same fields_same in
       record {
         effect_is = done_effect st me s g full lies c;
         answer_is = answered_as (command_rule me s full lies c (about c)).answer;
-        same = alone.0;
-        fits = subst (λ (b : Answer). MayAnswer c b (answered_as (command_rule me s full lies c (about c)).answer)) alike.0
+        same = alike.0;
+        fits = subst (λ (b : Answer). MayAnswer c b (answered_as (command_rule me s full lies c (about c)).answer)) alike.4
             (may_answer st me s full lies c plain of known_same);
         leads = refl;
-        part = rw (alone.2, alike.1) (effect_part me s g (done_effect st me s g full lies c) (done_ready st me s g full lies c plain values held_same fields_same held_known steady.new) p);
-        waits = rw alone.2 tt;
-        ungranting = rw alone.1 tt;
-        own = alike.2;
-        names = rw alike.1 (effect_names me s (done_effect st me s g full lies c));
+        part = rw (alike.2, alike.3) (effect_part me s g (done_effect st me s g full lies c) (alike.6 held_known steady.new) p);
+        waits = rw alike.2 tt;
+        ungranting = rw alike.1 tt;
+        own = alike.5;
+        names = rw alike.3 (effect_names me s (done_effect st me s g full lies c));
       }
 
   -- ## commands on tokens
